@@ -1,0 +1,13 @@
+-- The words of table entries.
+use Rattle.std.specs.Prelude.{ℕ, ◌+◌, ◌*◌, ◌<◌, ◌^◌, if◌then◌else◌}
+use Rattle.mako_words.specs.declared.entry_word.EntryWord.{EntryWord}
+
+-- the address from bit 0 on, the epoch from bit 23 on, the generation from bit 43 on, and bit 63 where it is taken
+abbrev pub entry_word : EntryWord → ℕ
+entry_word e = e.address + e.epoch * 2 ^ 23 + e.generation * 2 ^ 43 + (if e.taken then 2 ^ 63 else 0)
+
+-- each number fits its bits
+pub record FitsEntry (e : EntryWord) : Type 0 where
+  pub address : e.address < 2 ^ 23
+  pub epoch : e.epoch < 2 ^ 20
+  pub generation : e.generation < 2 ^ 20
