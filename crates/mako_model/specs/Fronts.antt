@@ -1,0 +1,35 @@
+-- Histories and fronts.
+use Rattle.std.specs.Prelude.{ℕ, ◌≡◌, ◌==◌, List, [], ◌∷◌, ◌++◌, map, slice_get, Some, if◌then◌else◌}
+use Rattle.mako_words.specs.declared.name.Name.{Name}
+use Rattle.mako_model.specs.declared.call.Call.{Call}
+use Rattle.mako_model.specs.declared.reply.Reply.{Reply}
+use Rattle.mako_model.specs.declared.point.Point.{Point}
+use Rattle.mako_model.specs.declared.point.Point.TheVariants.{Did, Snap}
+
+-- a history, and the names freed in each finished cycle
+pub record Seen : Type 0 where
+  pub history : List Point
+  pub cycles : List (List Name)
+
+-- the calls of a mutator that a history holds, each with its reply, in order
+abbrev pub answered_by : ℕ → List Point → List (Call × Reply)
+answered_by m [] = []
+answered_by m (Did n call reply ∷ points) = if n == m then (call, reply) ∷ answered_by m points else answered_by m points
+answered_by m (Snap cycle ∷ points) = answered_by m points
+
+-- its calls alone
+abbrev pub calls_by : ℕ → List Point → List Call
+calls_by m points = map (λ p. p.0) (answered_by m points)
+
+-- its replies alone
+abbrev pub replies_to : ℕ → List Point → List Reply
+replies_to m points = map (λ p. p.1) (answered_by m points)
+
+-- the second list is the front of the first
+abbrev pub StartsWith : {A : Type 0} → List A → List A → Type 0
+StartsWith {A} whole front = (rest : List A) × (whole ≡ front ++ rest)
+
+-- the calls of each mutator in a history are the front of its program
+abbrev pub FollowsPrograms : List (List Call) → List Point → Type 0
+FollowsPrograms programs history =
+    (m : ℕ) (program : List Call) → slice_get programs m ≡ Some program → StartsWith program (calls_by m history)

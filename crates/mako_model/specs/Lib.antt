@@ -1,0 +1,4 @@
+pub mod Freed
+pub mod Fronts
+pub mod Journals
+pub mod Outcomes

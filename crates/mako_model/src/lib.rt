@@ -1,0 +1,22 @@
+//! The plain heap, in which nothing moves or is freed: its calls, their replies and their histories.
+#![tactic(auto)]
+
+mod attempt;
+mod call;
+mod cycles;
+mod event;
+mod front;
+mod journal;
+mod outcome;
+mod point;
+mod reply;
+
+pub use attempt::{Attempt, Pause};
+pub use call::Call;
+pub use cycles::Cycles;
+pub use event::Event;
+pub use front::Front;
+pub use journal::Journal;
+pub use outcome::Outcome;
+pub use point::Point;
+pub use reply::Reply;
