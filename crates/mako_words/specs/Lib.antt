@@ -1,2 +1,9 @@
 pub mod Entries
+pub mod Flags
+pub mod Gates
+pub mod Lives
+pub mod Names
+pub mod Notices
+pub mod Phases
 pub mod Values
+pub mod Words

@@ -1,7 +1,7 @@
 //! The words of table entries.
 
 ghost use Rattle.std.specs.Prelude.{◌≡◌, IsSomeAnd};
-ghost use Rattle.mako_words.specs.Entries.{entry_word, FitsEntry};
+ghost use Rattle.mako_words.specs.Entries.{entry_word, FitsEntry, entry_at};
 
 /// A table entry: whether it is taken, its generation (20 bits), the epoch in which its object was
 /// made or marked (20 bits), and the index of the record's header among all words (23 bits).
@@ -31,15 +31,13 @@ impl EntryWord {
 
     /// The entry of this word. Each word is the word of one entry.
     pub fn unpack(word: u64) -> Option<EntryWord>
-        ensures { IsSomeAnd result (λ e. FitsEntry e × (entry_word e ≡ word)) }
+        ensures { IsSomeAnd result (λ e. FitsEntry e × (entry_word e ≡ word) × (e ≡ entry_at word)) }
     {
-        let taken = word >= 0x8000_0000_0000_0000;
-        let low = word % 0x8000_0000_0000_0000;
         Some(EntryWord {
-            taken,
-            generation: (low / 0x800_0000_0000) as u32,
-            epoch: (low / 0x80_0000 % 0x10_0000) as u32,
-            address: (low % 0x80_0000) as u32,
+            taken: word >= 0x8000_0000_0000_0000,
+            generation: (word / 0x800_0000_0000 % 0x10_0000) as u32,
+            epoch: (word / 0x80_0000 % 0x10_0000) as u32,
+            address: (word % 0x80_0000) as u32,
         })
     }
 }

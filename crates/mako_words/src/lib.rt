@@ -2,11 +2,21 @@
 #![tactic(auto)]
 
 mod entry_word;
+mod flag_word;
+mod gate_word;
+mod live_word;
 mod memory;
 mod name;
+mod notice_word;
+mod phase_word;
 mod value;
 
 pub use entry_word::EntryWord;
+pub use flag_word::FlagWord;
+pub use gate_word::GateWord;
+pub use live_word::LiveWord;
 pub use memory::Memory;
 pub use name::Name;
+pub use notice_word::NoticeWord;
+pub use phase_word::PhaseWord;
 pub use value::Value;

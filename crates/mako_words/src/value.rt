@@ -1,10 +1,11 @@
 //! What a root or a field holds.
 
-ghost use Rattle.std.specs.Prelude.{◌≡◌, ◌≢◌, MatchOption};
-ghost use Rattle.mako_words.specs.Values.{value_word, FitsValue};
-ghost use Rattle.mako_words.specs.declared.value.Value.{Value};
+ghost use Rattle.std.specs.Prelude.{◌≡◌, Some};
+ghost use Rattle.mako_words.specs.Values.{value_word, FitsValue, value_at, value_text};
+ghost use Rattle.mako_words.specs.Words.{Unpacks};
 
 use crate::name::Name;
+use std::fmt;
 
 /// What a root or a field holds.
 #[derive(Clone, Copy, Debug, PartialEq, Eq)]
@@ -31,7 +32,7 @@ impl Value {
 
     /// The value of this word, or `None` where it is the word of no value.
     pub fn unpack(word: u64) -> Option<Value>
-        ensures { MatchOption result ((v : Value) → FitsValue v → value_word v ≢ word) (λ v. FitsValue v × (value_word v ≡ word)) }
+        ensures { Unpacks FitsValue value_word value_at word result }
     {
         if word == 0 {
             return Some(Value::Null);
@@ -53,5 +54,18 @@ impl Value {
             entry: (rest % 0x10_0000) as u32,
             generation: (rest / 0x10_0000) as u32,
         }))
+    }
+}
+
+/// Writes `null`, the number in decimal, or the name.
+impl fmt::Display for Value {
+    ghost output = { λ v. Some (value_text v) };
+
+    fn fmt<W: fmt::Write>(&self, f: &mut fmt::Formatter<W>) -> fmt::Result {
+        match self {
+            Value::Null => write!(f, "null"),
+            Value::Num(number) => write!(f, "{number}"),
+            Value::Ref(name) => write!(f, "{name}"),
+        }
     }
 }

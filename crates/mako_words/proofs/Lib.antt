@@ -1,0 +1,9 @@
+pub mod EntryWords
+pub mod FlagWords
+pub mod GateWords
+pub mod LiveWords
+pub mod NamesInOrder
+pub mod NoticeWords
+pub mod PhaseWords
+pub mod Unpacking
+pub mod ValueWords
