@@ -1,0 +1,122 @@
+-- The places of words, the areas in which they lie, and the index of each place.
+use Rattle.std.specs.Prelude.{ℕ, ◌+◌, ◌*◌, ◌<◌, List, [], ◌∷◌, sum, take}
+use Rattle.mako_shape.specs.declared.numbers.Numbers.{Numbers}
+
+-- what a word of the heap is
+pub data Place : Type 0 where
+  phase : Place
+  demand : Place
+  finished : Place
+  mutator_gate : ℕ → Place
+  root : ℕ → ℕ → Place
+  barrier : ℕ → ℕ → Place
+  flags : ℕ → Place
+  work : ℕ → ℕ → Place
+  ghost : ℕ → ℕ → ℕ → Place
+  notice : ℕ → ℕ → Place
+  tablet_gate : ℕ → Place
+  turn : ℕ → Place
+  home : ℕ → Place
+  top : ℕ → Place
+  leaving : ℕ → Place
+  live : ℕ → Place
+  entry : ℕ → Place
+  region_word : ℕ → ℕ → Place
+
+-- the words of each area, in the order in which the areas follow each other
+abbrev pub sizes : Numbers → List ℕ
+sizes n =
+    1
+    ∷ 1
+    ∷ 1
+    ∷ n.mutators
+    ∷ n.mutators * n.roots
+    ∷ n.mutators * n.ring
+    ∷ n.servers
+    ∷ n.servers * n.ring
+    ∷ n.servers * n.servers * n.ring
+    ∷ n.servers * n.ring
+    ∷ n.servers * n.tablets
+    ∷ n.servers * n.tablets
+    ∷ n.servers * n.tablets
+    ∷ n.servers * n.tablets
+    ∷ n.servers * n.tablets
+    ∷ n.servers * n.tablets
+    ∷ n.servers * n.tablets * n.entries
+    ∷ n.servers * (n.tablets + n.spare) * n.words
+    ∷ []
+
+-- the number of words of all areas together
+unfoldable pub total : Numbers → ℕ
+total n = sum (sizes n)
+
+-- the area of a place, by its number in the order of areas
+abbrev pub rank : Place → ℕ
+rank phase = 0
+rank demand = 1
+rank finished = 2
+rank (mutator_gate m) = 3
+rank (root m q) = 4
+rank (barrier m slot) = 5
+rank (flags s) = 6
+rank (work s slot) = 7
+rank (ghost sender receiver slot) = 8
+rank (notice s slot) = 9
+rank (tablet_gate t) = 10
+rank (turn t) = 11
+rank (home t) = 12
+rank (top t) = 13
+rank (leaving t) = 14
+rank (live t) = 15
+rank (entry x) = 16
+rank (region_word r word) = 17
+
+-- the index of a place within its area
+abbrev pub offset : Numbers → Place → ℕ
+offset n phase = 0
+offset n demand = 0
+offset n finished = 0
+offset n (mutator_gate m) = m
+offset n (root m q) = m * n.roots + q
+offset n (barrier m slot) = m * n.ring + slot
+offset n (flags s) = s
+offset n (work s slot) = s * n.ring + slot
+offset n (ghost sender receiver slot) = (sender * n.servers + receiver) * n.ring + slot
+offset n (notice s slot) = s * n.ring + slot
+offset n (tablet_gate t) = t
+offset n (turn t) = t
+offset n (home t) = t
+offset n (top t) = t
+offset n (leaving t) = t
+offset n (live t) = t
+offset n (entry x) = x
+offset n (region_word r word) = r * n.words + word
+
+-- where an area starts, by its number in the order of areas
+abbrev pub start : Numbers → ℕ → ℕ
+start n area = sum (take area (sizes n))
+
+-- the index of a place among all words
+unfoldable pub index : Numbers → Place → ℕ
+index n p = start n (rank p) + offset n p
+
+-- each number of the place is in its range
+abbrev pub Within : Numbers → Place → Type 0
+Within n phase = Unit {0}
+Within n demand = Unit {0}
+Within n finished = Unit {0}
+Within n (mutator_gate m) = m < n.mutators
+Within n (root m q) = (m < n.mutators) × (q < n.roots)
+Within n (barrier m slot) = (m < n.mutators) × (slot < n.ring)
+Within n (flags s) = s < n.servers
+Within n (work s slot) = (s < n.servers) × (slot < n.ring)
+Within n (ghost sender receiver slot) = (sender < n.servers) × (receiver < n.servers) × (slot < n.ring)
+Within n (notice s slot) = (s < n.servers) × (slot < n.ring)
+Within n (tablet_gate t) = t < n.servers * n.tablets
+Within n (turn t) = t < n.servers * n.tablets
+Within n (home t) = t < n.servers * n.tablets
+Within n (top t) = t < n.servers * n.tablets
+Within n (leaving t) = t < n.servers * n.tablets
+Within n (live t) = t < n.servers * n.tablets
+Within n (entry x) = x < n.servers * n.tablets * n.entries
+Within n (region_word r word) = (r < n.servers * (n.tablets + n.spare)) × (word < n.words)

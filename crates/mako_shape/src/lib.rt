@@ -1,0 +1,12 @@
+//! The geometry of the heap: its numbers, and the index of each word.
+#![tactic(auto)]
+
+mod areas;
+mod fault;
+mod indexes;
+mod numbers;
+mod shape;
+
+pub use fault::ShapeFault;
+pub use numbers::Numbers;
+pub use shape::Shape;
