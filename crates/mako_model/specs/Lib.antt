@@ -1,4 +1,13 @@
+pub mod Answering
+pub mod Dead
 pub mod Freed
 pub mod Fronts
+pub mod Heaps
 pub mod Journals
+pub mod Lawful
+pub mod LawfulFronts
+pub mod Legal
+pub mod Names
 pub mod Outcomes
+pub mod Reachable
+pub mod Starved

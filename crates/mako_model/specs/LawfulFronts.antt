@@ -1,0 +1,48 @@
+-- Lawful fronts.
+use Rattle.std.specs.Prelude.{ℕ, ◌≡◌, ◌+◌, ◌*◌, ◌<◌, ◌≤◌, ◌==◌, List, [], ◌∷◌, ◌++◌, length, slice_get, Some, if◌then◌else◌}
+use Rattle.std.specs.List.{fold, Contains}
+use Rattle.mako_words.specs.declared.name.Name.{Name}
+use Rattle.mako_model.specs.declared.call.Call.{Call}
+use Rattle.mako_model.specs.declared.reply.Reply.TheVariants.{Made, Cycle}
+use Rattle.mako_model.specs.declared.point.Point.{Point}
+use Rattle.mako_model.specs.declared.point.Point.TheVariants.{Did, Snap}
+use Rattle.mako_model.specs.Fronts.{Seen}
+use Rattle.mako_model.specs.Legal.{Workload, state_of, IsLegal}
+use Rattle.mako_model.specs.Dead.{names_made, IsDead, AreFreed}
+
+-- the points since the last one of the mutator, with one more
+abbrev pub since_next : ℕ → List Point → Point → List Point
+since_next mutator points (Did m call reply) = if m == mutator then [] else points ++ Did m call reply ∷ []
+since_next mutator points (Snap cycle) = points ++ Snap cycle ∷ []
+
+-- the points since the last one of the mutator
+abbrev pub since : ℕ → List Point → List Point
+since mutator history = fold (since_next mutator) [] history
+
+-- the cycle that a mutator waited for is finished, and its snapshot came after the mutator's point before
+abbrev pub WaitsAreAnswered : Seen → Type 0
+WaitsAreAnswered front = (before after : List Point) (mutator : ℕ) (call : Call) (cycle : ℕ) →
+    front.history ≡ before ++ Did mutator call (Cycle cycle) ∷ after →
+    (cycle ≤ length front.cycles) × Contains (since mutator before) (Snap cycle)
+
+-- the entry and the generation of a name are in their ranges
+pub record IsInRange (w : Workload) (name : Name) : Type 0 where
+  pub entry : name.entry < w.tablets * w.entries
+  pub generation : name.generation < w.generations
+
+-- An entry is used again only with the next generation, after its name before was dead at a snapshot:
+-- where a name is made after some snapshots, that one is dead at the last of them.
+abbrev pub ReusesAreOfDead : Workload → List Point → Type 0
+ReusesAreOfDead w history = (before after : List Point) (mutator : ℕ) (call : Call) (entry generation : ℕ) →
+    history ≡ before ++ Did mutator call (Made (record { entry = entry; generation = generation + 1 })) ∷ after →
+    Contains (names_made before) (record { entry = entry; generation = generation })
+    × IsDead w history (state_of w before).snaps (record { entry = entry; generation = generation })
+
+pub record IsLawfulFront (w : Workload) (front : Seen) : Type 0 where
+  pub legal : IsLegal w front.history
+  pub finished : length front.cycles ≤ (state_of w front.history).snaps
+  pub unfinished : (state_of w front.history).snaps ≤ length front.cycles + 1
+  pub freed : (i : ℕ) (names : List Name) → slice_get front.cycles i ≡ Some names → AreFreed w front.history (i + 1) names
+  pub waits : WaitsAreAnswered front
+  pub names : (name : Name) → Contains (names_made front.history) name → IsInRange w name
+  pub reuses : ReusesAreOfDead w front.history
