@@ -1,5 +1,5 @@
 -- The places of words, the areas in which they lie, and the index of each place.
-use Rattle.std.specs.Prelude.{ℕ, ◌+◌, ◌*◌, ◌<◌, List, [], ◌∷◌, sum, take}
+use Rattle.std.specs.Prelude.{◌≡◌, ◌≢◌, ℕ, ◌+◌, ◌*◌, ◌<◌, List, [], ◌∷◌, sum, take, length, slice_index, slice_set}
 use Rattle.mako_shape.specs.declared.numbers.Numbers.{Numbers}
 
 -- what a word of the heap is
@@ -120,3 +120,29 @@ Within n (leaving t) = t < n.servers * n.tablets
 Within n (live t) = t < n.servers * n.tablets
 Within n (entry x) = x < n.servers * n.tablets * n.entries
 Within n (region_word r word) = (r < n.servers * (n.tablets + n.spare)) × (word < n.words)
+
+-- the word at a place, in a list of all words
+abbrev pub word_at : Numbers → List ℕ → Place → ℕ
+word_at n words p = slice_index words (index n p)
+
+-- each place in range has an index below the number of words
+abbrev pub IndexesAreBelow : Type 0
+IndexesAreBelow = (n : Numbers) (p : Place) → Within n p → index n p < total n
+
+-- the areas are disjoint: places in range that have one index are one place
+abbrev pub AreasAreDisjoint : Type 0
+AreasAreDisjoint = (n : Numbers) (p r : Place) → Within n p → Within n r → index n p ≡ index n r → p ≡ r
+
+-- the areas cover all words: each index below the number of words is that of a place in range
+abbrev pub AreasCover : Type 0
+AreasCover = (n : Numbers) (w : ℕ) → w < total n → (p : Place) × (Within n p × (index n p ≡ w))
+
+-- a word that is written at a place is read there
+abbrev pub WriteIsRead : Type 0
+WriteIsRead = (n : Numbers) (words : List ℕ) (p : Place) (x : ℕ) → length words ≡ total n → Within n p →
+    word_at n (slice_set words (index n p) x) p ≡ x
+
+-- a write at a place leaves the words at all other places in range
+abbrev pub WriteLeavesOthers : Type 0
+WriteLeavesOthers = (n : Numbers) (words : List ℕ) (p r : Place) (x : ℕ) → Within n p → Within n r → r ≢ p →
+    word_at n (slice_set words (index n p) x) r ≡ word_at n words r
