@@ -4,3 +4,4 @@ pub mod Cells
 pub mod Rows
 pub mod Decode
 pub mod PlaceLaws
+pub mod BelongingLaws

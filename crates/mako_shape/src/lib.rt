@@ -4,6 +4,7 @@
 mod areas;
 mod fault;
 mod indexes;
+pub mod laws;
 mod numbers;
 mod shape;
 
