@@ -8,18 +8,20 @@ use Rattle.mako_shape.proofs.Rows.{row-below, width, div-below, mod-below, row-a
 
 pub belongings_in_range : BelongingsAreInRange
 belongings_in_range = record {
-    entry = λ n x h. div-below x n.entries (n.servers * n.tablets) h;
-    tablet = λ n t h. div-below t n.tablets n.servers h;
-    region = λ n r h. div-below r (n.tablets + n.spare) n.servers h }
+  entry = λ n x h. div-below x n.entries (n.servers * n.tablets) h;
+  tablet = λ n t h. div-below t n.tablets n.servers h;
+  region = λ n r h. div-below r (n.tablets + n.spare) n.servers h;
+}
 
 pub parts_belong : PartsBelong
 parts_belong = record {
-    entry = λ n t i h. div-mul-add t n.entries i h;
-    tablet = λ n s i h. div-mul-add s n.tablets i h;
-    region = λ n s i h. div-mul-add s (n.tablets + n.spare) i h;
-    entry_in_range = λ n t i h k. row-below t n.entries i (n.servers * n.tablets) h k;
-    tablet_in_range = λ n s i h k. row-below s n.tablets i n.servers h k;
-    region_in_range = λ n s i h k. row-below s (n.tablets + n.spare) i n.servers h k }
+  entry = λ n t i h. div-mul-add t n.entries i h;
+  tablet = λ n s i h. div-mul-add s n.tablets i h;
+  region = λ n s i h. div-mul-add s (n.tablets + n.spare) i h;
+  entry_in_range = λ n t i h k. row-below t n.entries i (n.servers * n.tablets) h k;
+  tablet_in_range = λ n s i h k. row-below s n.tablets i n.servers h k;
+  region_in_range = λ n s i h k. row-below s (n.tablets + n.spare) i n.servers h k;
+}
 
 -- the index of a word of a region, from the first word of all regions on
 pub region_word-index : (n : Numbers) (r w : ℕ) → index n (region_word r w) ≡ index n (region_word 0 0) + (r * n.words + w)
@@ -67,12 +69,13 @@ region_words n r a h k =
 
 pub addresses_belong : AddressesBelong
 addresses_belong = record {
-    in_range = address_in_range;
-    word_in_range = address_word;
-    place = address_place;
-    in_region = address_in_region;
-    region_words = region_words;
-    word_after = word_after }
+  in_range = address_in_range;
+  word_in_range = address_word;
+  place = address_place;
+  in_region = address_in_region;
+  region_words = region_words;
+  word_after = word_after;
+}
 
 -- the place of a tablet among its server's tablets is one of a region too
 column-below : (n : Numbers) (t : ℕ) → t < n.servers * n.tablets → t % n.tablets < n.tablets + n.spare
@@ -87,7 +90,7 @@ home_server n t h = div-mul-add (t / n.tablets) (n.tablets + n.spare) (t % n.tab
 pub one_home : (n : Numbers) (t u : ℕ) → t < n.servers * n.tablets → u < n.servers * n.tablets → opening_home n t ≡ opening_home n u → t ≡ u
 one_home n t u h k e =
     let same : (t / n.tablets ≡ u / n.tablets) × (t % n.tablets ≡ u % n.tablets) =
-      same_from_place (t / n.tablets) (t % n.tablets) (u / n.tablets) (u % n.tablets) (n.tablets + n.spare) (column-below n t h) (column-below n u k) e in
+    same_from_place (t / n.tablets) (t % n.tablets) (u / n.tablets) (u % n.tablets) (n.tablets + n.spare) (column-below n t h) (column-below n u k) e in
     sym (row-and-column t n.tablets) ∙ (λ i. same.0 i * n.tablets + same.1 i) ∙ row-and-column u n.tablets
 
 pub opening_homes_are_good : OpeningHomesAreGood

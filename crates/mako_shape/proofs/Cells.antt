@@ -31,6 +31,9 @@ one_cell (s ∷ sizes) (suc i) (suc j) a b h k e =
 pub cell-of : (sizes : List ℕ) (w : ℕ) → w < sum sizes →
     (area : ℕ) × ((a : ℕ) × ((a < get_or sizes area 0) × (sum (take area sizes) + a ≡ w)))
 cell-of [] w h = absurd (omega arith)
-cell-of (s ∷ sizes) w h = elim (cases_lt w s) [ inl below ↦ (0, (w, (below, omega arith))) | inr above ↦
-  let rest : (area : ℕ) × ((a : ℕ) × ((a < get_or sizes area 0) × (sum (take area sizes) + a ≡ w - s))) = cell-of sizes (w - s) (omega (arith, sum-cons s sizes)) in
-  (suc rest.0, (rest.1.0, (rest.1.1.0, omega (arith, sum-cons s (take rest.0 sizes), rest.1.1.1)))) ]
+cell-of (s ∷ sizes) w h = elim (cases_lt w s) [
+  | inl below ↦ (0, (w, (below, omega arith)))
+  | inr above ↦
+      let rest : (area : ℕ) × ((a : ℕ) × ((a < get_or sizes area 0) × (sum (take area sizes) + a ≡ w - s))) = cell-of sizes (w - s) (omega (arith, sum-cons s sizes)) in
+      (suc rest.0, (rest.1.0, (rest.1.1.0, omega (arith, sum-cons s (take rest.0 sizes), rest.1.1.1))))
+]

@@ -9,24 +9,24 @@ use Rattle.mako_shape.specs.Places.{Place, phase, demand, finished, mutator_gate
 abbrev pub decoders : Numbers → List (ℕ → Place)
 decoders n =
     (λ a. phase)
-  ∷ (λ a. demand)
-  ∷ (λ a. finished)
-  ∷ mutator_gate
-  ∷ (λ a. root (a / n.roots) (a % n.roots))
-  ∷ (λ a. barrier (a / n.ring) (a % n.ring))
-  ∷ flags
-  ∷ (λ a. work (a / n.ring) (a % n.ring))
-  ∷ (λ a. ghost (a / n.ring / n.servers) (a / n.ring % n.servers) (a % n.ring))
-  ∷ (λ a. notice (a / n.ring) (a % n.ring))
-  ∷ tablet_gate
-  ∷ turn
-  ∷ home
-  ∷ top
-  ∷ leaving
-  ∷ live
-  ∷ entry
-  ∷ (λ a. region_word (a / n.words) (a % n.words))
-  ∷ []
+    ∷ (λ a. demand)
+    ∷ (λ a. finished)
+    ∷ mutator_gate
+    ∷ (λ a. root (a / n.roots) (a % n.roots))
+    ∷ (λ a. barrier (a / n.ring) (a % n.ring))
+    ∷ flags
+    ∷ (λ a. work (a / n.ring) (a % n.ring))
+    ∷ (λ a. ghost (a / n.ring / n.servers) (a / n.ring % n.servers) (a % n.ring))
+    ∷ (λ a. notice (a / n.ring) (a % n.ring))
+    ∷ tablet_gate
+    ∷ turn
+    ∷ home
+    ∷ top
+    ∷ leaving
+    ∷ live
+    ∷ entry
+    ∷ (λ a. region_word (a / n.words) (a % n.words))
+    ∷ []
 
 -- the place in an area at an offset
 abbrev pub place_of : Numbers → ℕ → ℕ → Place
@@ -48,7 +48,7 @@ place_of-offset n (flags s) h = refl
 place_of-offset n (work s slot) h = pair-of work s n.ring slot h.1
 place_of-offset n (ghost a b slot) h =
     pair-of (λ row slot. ghost (row / n.servers) (row % n.servers) slot) (a * n.servers + b) n.ring slot h.2
-  ∙ pair-of (λ a b. ghost a b slot) a n.servers b h.1
+    ∙ pair-of (λ a b. ghost a b slot) a n.servers b h.1
 place_of-offset n (notice s slot) h = pair-of notice s n.ring slot h.1
 place_of-offset n (tablet_gate t) h = refl
 place_of-offset n (turn t) h = refl
@@ -106,33 +106,69 @@ covers-at n from (d ∷ ds) (s ∷ ss) c (suc i) a h =
 ghosts-cover : (n : Numbers) → Covers n 8 (λ a. ghost (a / n.ring / n.servers) (a / n.ring % n.servers) (a % n.ring)) (n.servers * n.servers * n.ring)
 ghosts-cover n a h =
     let row : a / n.ring < n.servers * n.servers = div-below a n.ring (n.servers * n.servers) h in
-    let column : a % n.ring < n.ring = mod-below a n.ring (n.servers * n.servers) h in
-    ((div-below (a / n.ring) n.servers n.servers row, mod-below (a / n.ring) n.servers n.servers row, column),
-     refl,
-     rw (row-and-column (a / n.ring) n.servers) (row-and-column a n.ring))
+    let column : a % n.ring < n.ring = mod-below a n.ring (n.servers * n.servers) h in (
+      (div-below (a / n.ring) n.servers n.servers row, mod-below (a / n.ring) n.servers n.servers row, column),
+      refl,
+      rw (row-and-column (a / n.ring) n.servers) (row-and-column a n.ring),
+    )
 
 -- each area, in order
 covers-all : (n : Numbers) → CoverFrom n 0 (decoders n) (sizes n)
-covers-all n =
-    (λ a h. (tt, refl, omega arith),
-    (λ a h. (tt, refl, omega arith),
-    (λ a h. (tt, refl, omega arith),
-    (λ a h. (h, refl, refl),
-    (λ a h. ((div-below a n.roots n.mutators h, mod-below a n.roots n.mutators h), refl, row-and-column a n.roots),
-    (λ a h. ((div-below a n.ring n.mutators h, mod-below a n.ring n.mutators h), refl, row-and-column a n.ring),
-    (λ a h. (h, refl, refl),
-    (λ a h. ((div-below a n.ring n.servers h, mod-below a n.ring n.servers h), refl, row-and-column a n.ring),
-    (ghosts-cover n,
-    (λ a h. ((div-below a n.ring n.servers h, mod-below a n.ring n.servers h), refl, row-and-column a n.ring),
-    (λ a h. (h, refl, refl),
-    (λ a h. (h, refl, refl),
-    (λ a h. (h, refl, refl),
-    (λ a h. (h, refl, refl),
-    (λ a h. (h, refl, refl),
-    (λ a h. (h, refl, refl),
-    (λ a h. (h, refl, refl),
-    (λ a h. ((div-below a n.words (n.servers * (n.tablets + n.spare)) h, mod-below a n.words (n.servers * (n.tablets + n.spare)) h), refl, row-and-column a n.words),
-    tt))))))))))))))))))
+covers-all n = (
+  λ a h. (tt, refl, omega arith),
+  (
+    λ a h. (tt, refl, omega arith),
+    (
+      λ a h. (tt, refl, omega arith),
+      (
+        λ a h. (h, refl, refl),
+        (
+          λ a h. ((div-below a n.roots n.mutators h, mod-below a n.roots n.mutators h), refl, row-and-column a n.roots),
+          (
+            λ a h. ((div-below a n.ring n.mutators h, mod-below a n.ring n.mutators h), refl, row-and-column a n.ring),
+            (
+              λ a h. (h, refl, refl),
+              (
+                λ a h. ((div-below a n.ring n.servers h, mod-below a n.ring n.servers h), refl, row-and-column a n.ring),
+                (
+                  ghosts-cover n,
+                  (
+                    λ a h. ((div-below a n.ring n.servers h, mod-below a n.ring n.servers h), refl, row-and-column a n.ring),
+                    (
+                      λ a h. (h, refl, refl),
+                      (
+                        λ a h. (h, refl, refl),
+                        (
+                          λ a h. (h, refl, refl),
+                          (
+                            λ a h. (h, refl, refl),
+                            (
+                              λ a h. (h, refl, refl),
+                              (
+                                λ a h. (h, refl, refl),
+                                (
+                                  λ a h. (h, refl, refl),
+                                  (
+                                    λ a h. ((div-below a n.words (n.servers * (n.tablets + n.spare)) h, mod-below a n.words (n.servers * (n.tablets + n.spare)) h), refl, row-and-column a n.words),
+                                    tt,
+                                  ),
+                                ),
+                              ),
+                            ),
+                          ),
+                        ),
+                      ),
+                    ),
+                  ),
+                ),
+              ),
+            ),
+          ),
+        ),
+      ),
+    ),
+  ),
+)
 
 -- an offset below the size of an area gives a place in range of that area at that offset
 pub place_of-covers : (n : Numbers) (area a : ℕ) → a < get_or (sizes n) area 0 →

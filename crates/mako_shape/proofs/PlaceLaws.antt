@@ -17,7 +17,7 @@ pub one_place : (n : Numbers) (p r : Place) → Within n p → Within n r → in
 unfolding index
 one_place n p r h k e =
     let same : (rank p ≡ rank r) × (offset n p ≡ offset n r) =
-      one_cell (sizes n) (rank p) (rank r) (offset n p) (offset n r) (offset-below n p h) (offset-below n r k) e in
+    one_cell (sizes n) (rank p) (rank r) (offset n p) (offset n r) (offset-below n p h) (offset-below n r k) e in
     sym (place_of-offset n p h) ∙ (λ i. place_of n (same.0 i) (same.1 i)) ∙ place_of-offset n r k
 
 -- each index below the number of words is that of a place in range

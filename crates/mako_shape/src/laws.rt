@@ -8,15 +8,13 @@ pub fn areas()
     ensures below { IndexesAreBelow }
     ensures disjoint { AreasAreDisjoint }
     ensures cover { AreasCover }
-{
-}
+{}
 
 /// A write at a place changes the word there, and no word at another place.
 pub fn writes()
     ensures read { WriteIsRead }
     ensures others { WriteLeavesOthers }
-{
-}
+{}
 
 /// What belongs to what, and that this stays in range.
 pub fn belongings()
@@ -24,5 +22,4 @@ pub fn belongings()
     ensures parts { PartsBelong }
     ensures addresses { AddressesBelong }
     ensures homes { OpeningHomesAreGood }
-{
-}
+{}

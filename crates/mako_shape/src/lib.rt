@@ -11,3 +11,6 @@ mod shape;
 pub use fault::ShapeFault;
 pub use numbers::Numbers;
 pub use shape::Shape;
+
+#[cfg(test)]
+mod tests;
