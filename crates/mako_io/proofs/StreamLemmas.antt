@@ -1,12 +1,11 @@
 -- Lemmas on counts of faults, and on what sources and sinks tell, that callers of the crate can cite.
-use Rattle.std.proofs.Common.{◌≡◌, ℕ, ◌+◌, ◌<◌, ◌≤◌, List, ◌++◌, length, take, drop, arith, sym, ◌∙◌, ap, subst, length-take, length-append}
-use Rattle.std.proofs.Math.Seq.{take-add}
-use Rattle.std.proofs.lemmas.List.{drop-drop, take-append-drop, take_at, length-take-le}
+use Rattle.std.proofs.Common.{◌≡◌, ℕ, ◌+◌, ◌<◌, ◌≤◌, List, ◌++◌, length, take, drop, None, Some, refl, arith, sym, ◌∙◌, ap, subst, length-append}
+use Rattle.std.proofs.Math.Seq.{take-add, drop-append_seam}
 use Rattle.std.specs.declared.option.Option.{Option}
 use Rattle.std.specs.Io.KnownBytes.{Appends, Consumes}
-use Rattle.std.proofs.KnownBytes.{Appends-trans, Consumes-trans}
+use Rattle.std.proofs.KnownBytes.{Appends-trans}
 use Rattle.mako_io.specs.Causes.{Rose}
-use Rattle.mako_io.specs.Streams.{TakesAtMost, TakesMore}
+use Rattle.mako_io.specs.Streams.{TakesMore}
 
 -- a count that has not fallen and then rose has risen
 pub Rose-after : (before mid now : ℕ) → before ≤ mid → Rose mid now → Rose before now
@@ -22,27 +21,14 @@ pub Appends-front : (a b c : Option (List ℕ)) (piece : List ℕ) (m n : ℕ)
 Appends-front a b c piece m n first second =
     subst (Appends a c) (sym (take-add m n piece)) (Appends-trans a b c (take m piece) (take n (drop m piece)) first second)
 
--- bytes that moved to the front of a buffer, and those behind them, are the bytes there were
-pub moved_first : (all buf moved : List ℕ) (given n : ℕ) → n ≤ length (drop given all) → moved ≡ take n (drop given all)
-    → drop given all ≡ take n (moved ++ drop n buf) ++ drop (given + n) all
-moved_first all buf moved given n within same =
-    let size : length moved ≡ n = ap length same ∙ length-take-le n (drop given all) within in
-    let front : take n (moved ++ drop n buf) ≡ take n (drop given all) = take_at moved (drop n buf) n size ∙ same in
-    sym (take-append-drop n (drop given all)) ∙ ap (λ xs. take n (drop given all) ++ xs) (drop-drop n given all) ∙ ap (λ xs. xs ++ drop (given + n) all) (sym front)
+-- where a source that told its bytes gave more than the limit, it had more than the limit
+pub TakesMore-length : (limit : ℕ) (all : List ℕ) (after : Option (List ℕ)) → TakesMore limit (Some all) after → limit < length all
+TakesMore-length limit all None (bytes, past, gone) = absurd gone
+TakesMore-length limit all (Some rest) (bytes, past, gone) = omega (arith, ap length gone, length-append bytes rest)
 
-module _ (a b c : Option (List ℕ)) (bytes part : List ℕ) (limit count : ℕ) (within : count ≤ length part) where
-  -- a read that goes past the limit
-  pub TakesMore-part : limit < length bytes + count → Consumes a b bytes → Consumes b c (take count part) → TakesMore limit a c
-  TakesMore-part past first second = (
-    bytes ++ take count part,
-    (simp (length-append, length-take) (omega arith)),
-    Consumes-trans a b c bytes (take count part) first second,
-  )
-
-  -- a read that stays below it
-  pub TakesAtMost-part : length bytes + count ≤ limit → Consumes a b bytes → Consumes b c (take count part) → TakesAtMost limit a c
-  TakesAtMost-part below first second = (
-    bytes ++ take count part,
-    (simp (length-append, length-take) (omega arith)),
-    Consumes-trans a b c bytes (take count part) first second,
-  )
+-- and what is left are its bytes without so many at the front
+pub TakesMore-rest : (limit : ℕ) (all : List ℕ) (after : Option (List ℕ)) → TakesMore limit (Some all) after
+    → (gave : ℕ) × (limit < gave) × (after ≡ Some (drop gave all))
+TakesMore-rest limit all None (bytes, past, gone) = absurd gone
+TakesMore-rest limit all (Some rest) (bytes, past, gone) =
+    (length bytes, past, ap Some (sym (ap (drop (length bytes)) gone ∙ drop-append_seam bytes rest)))

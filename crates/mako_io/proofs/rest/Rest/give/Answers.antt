@@ -1,6 +1,6 @@
 use Rattle.std.proofs.Common.{arith}
 use Rattle.std.proofs.lemmas.Grind.{common_steps}
-use Rattle.mako_io.proofs.StreamLemmas.{moved_first}
+use Rattle.mako_io.proofs.Parts.{moved_first}
 use Rattle.mako_io.proofs.rest.Rest.give.Goals as goal
 
 pub returns-clause-given : goal.returns-clause-given
