@@ -2,7 +2,8 @@
 use Rattle.std.proofs.Common.{◌≡◌, ℕ, ◌+◌, ◌-◌, ◌*◌, ◌/◌, ◌%◌, ◌^◌, ◌<◌, ◌≤◌, Bool, true, false, cond, leb, Option, Some, ap, refl, ◌∙◌, arith}
 use Rattle.std.proofs.lemmas.Bool.Decides.{nat_tests}
 use Rattle.mako_words.specs.declared.entry_word.EntryWord.{EntryWord}
-use Rattle.mako_words.specs.Entries.{entry_word, FitsEntry, entry_at}
+use Rattle.mako_words.specs.Entries.{entry_word, FitsEntry, entry_at, IsPackedEntry}
+use Rattle.mako_words.specs.Words.{IsPacking}
 use Rattle.mako_words.proofs.Unpacking as unpacking
 
 -- the four fields of a word, each by its bits
@@ -31,13 +32,17 @@ entry_at-entry_word e fits =
     let a = address_of e.taken e.address e.epoch e.generation fits.address in
     λ i. record { taken = t i; generation = g i; epoch = p i; address = a i }
 
-pub entry_words_differ : (a b : EntryWord) → FitsEntry a → FitsEntry b → entry_word a ≡ entry_word b → a ≡ b
-entry_words_differ = unpacking.differ FitsEntry entry_word entry_at entry_at-entry_word
-
--- an entry's word fits a word
-pub entry_word-lt : (e : EntryWord) → FitsEntry e → entry_word e < 2 ^ 64
+entry_word-lt : (e : EntryWord) → FitsEntry e → entry_word e < 2 ^ 64
 entry_word-lt e fits = within e.taken e.address e.epoch e.generation fits.address fits.epoch fits.generation
   where
     within : (t : Bool) (a p g : ℕ) → a < 2 ^ 23 → p < 2 ^ 20 → g < 2 ^ 20 → a + p * 2 ^ 23 + g * 2 ^ 43 + cond t (2 ^ 63) 0 < 2 ^ 64
     within true a p g low small first = omega arith
     within false a p g low small first = omega arith
+
+-- packing entries loses nothing
+pub entry_words : IsPacking FitsEntry entry_word entry_at
+entry_words = unpacking.packing FitsEntry entry_word entry_at entry_at-entry_word entry_word-lt
+
+-- each word is that of an entry
+pub entry_forms : (w : ℕ) → w < 2 ^ 64 → IsPackedEntry w
+entry_forms w within = record { fits = record { address = omega arith; epoch = omega arith; generation = omega arith }; same = grind (arith, nat_tests) }

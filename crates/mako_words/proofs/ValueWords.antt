@@ -6,8 +6,8 @@ use Rattle.mako_words.specs.declared.name.Name.{Name}
 use Rattle.mako_words.specs.declared.value.Value.{Value}
 use Rattle.mako_words.specs.declared.value.Value.TheVariants.{Null, Num, Ref}
 use Rattle.mako_words.specs.Names.{name_word, FitsName, name_at}
-use Rattle.mako_words.specs.Values.{value_word, FitsValue, value_at, IsPacked}
-use Rattle.mako_words.specs.Words.{Unpacks}
+use Rattle.mako_words.specs.Values.{value_word, FitsValue, value_at}
+use Rattle.mako_words.specs.Words.{IsPacking}
 use Rattle.mako_words.proofs.Unpacking as unpacking
 
 -- the word of a name gives the name back
@@ -21,12 +21,13 @@ name_at-name_word n fits = fields n.entry n.generation fits.0
         let b = ap (λ (y : ℕ). y / 2 ^ 20) n ∙ shr_high g 20 e small in
         λ i. record { entry = a i; generation = b i }
 
-pub name_words_differ : (a b : Name) → FitsName a → FitsName b → name_word a ≡ name_word b → a ≡ b
-name_words_differ = unpacking.differ FitsName name_word name_at name_at-name_word
-
 -- a name's word has bit 63, and fits a word
 pub name_word_within : (n : Name) → FitsName n → (2 ^ 63 ≤ name_word n) × (name_word n < 2 ^ 64)
 name_word_within n fits = (omega arith, omega (arith, fits.0, fits.1))
+
+-- packing names loses nothing
+pub name_words : IsPacking FitsName name_word name_at
+name_words = unpacking.packing FitsName name_word name_at name_at-name_word (λ n fits. (name_word_within n fits).1)
 
 -- the word of a value gives the value back
 pub value_at-value_word : (v : Value) → FitsValue v → value_at (value_word v) ≡ v
@@ -36,19 +37,11 @@ value_at-value_word (Num x) fits =
 value_at-value_word (Ref n) fits =
     rw (ne_eqb (name_word n) 0 (λ e. omega arith), le-ltb (name_word n) (2 ^ 63) (omega arith)) (ap (λ (m : Name). Ref m) (name_at-name_word n fits))
 
-pub value_words_differ : (a b : Value) → FitsValue a → FitsValue b → value_word a ≡ value_word b → a ≡ b
-value_words_differ = unpacking.differ FitsValue value_word value_at value_at-value_word
-
--- the word of a value is a packed form
-pub packed_value : (v : Value) → FitsValue v → IsPacked (value_word v)
-packed_value = unpacking.packed FitsValue value_word value_at value_at-value_word
-
--- from the word of a value that value is read
-pub value_read_back : (w : ℕ) (answer : Option Value) → Unpacks FitsValue value_word value_at w answer → (v : Value) → FitsValue v → value_word v ≡ w → answer ≡ Some v
-value_read_back = unpacking.read_back FitsValue value_word value_at value_at-value_word
-
--- a value's word fits a word
-pub value_word-lt : (v : Value) → FitsValue v → value_word v < 2 ^ 64
+value_word-lt : (v : Value) → FitsValue v → value_word v < 2 ^ 64
 value_word-lt Null fits = omega arith
 value_word-lt (Num x) fits = omega arith
 value_word-lt (Ref n) fits = (name_word_within n fits).1
+
+-- packing values loses nothing
+pub value_words : IsPacking FitsValue value_word value_at
+value_words = unpacking.packing FitsValue value_word value_at value_at-value_word value_word-lt

@@ -1,5 +1,6 @@
 -- The words of table entries.
 use Rattle.std.specs.Prelude.{ℕ, ◌+◌, ◌*◌, ◌/◌, ◌%◌, ◌<◌, ◌^◌, nat_le, if◌then◌else◌}
+use Rattle.mako_words.specs.Words.{IsPackedBy}
 use Rattle.mako_words.specs.declared.entry_word.EntryWord.{EntryWord}
 
 -- the address from bit 0 on, the epoch from bit 23 on, the generation from bit 43 on, and bit 63 where it is taken
@@ -20,3 +21,7 @@ entry_at w = record {
   epoch = w / 2 ^ 23 % 2 ^ 20;
   address = w % 2 ^ 23;
 }
+
+-- the word is that of an entry
+abbrev pub IsPackedEntry : ℕ → Type 0
+IsPackedEntry w = IsPackedBy FitsEntry entry_word entry_at w

@@ -1,5 +1,5 @@
 -- The words of servers' flags.
-use Rattle.std.specs.Prelude.{ℕ, ◌+◌, ◌/◌, ◌%◌, ◌==◌, if◌then◌else◌}
+use Rattle.std.specs.Prelude.{ℕ, ◌≡◌, ◌<◌, ◌+◌, ◌/◌, ◌%◌, ◌==◌, if◌then◌else◌}
 use Rattle.mako_words.specs.Words.{IsPackedBy}
 use Rattle.mako_words.specs.declared.flag_word.FlagWord.{FlagWord}
 
@@ -18,3 +18,7 @@ flag_at w = record { busy = w % 2 == 1; ghost_ = w / 2 % 2 == 1; changed = w / 4
 -- the word is that of flags
 abbrev pub IsPackedFlags : ℕ → Type 0
 IsPackedFlags w = IsPackedBy FitsFlags flag_word flag_at w
+
+-- the word is that of these flags
+abbrev pub IsFlagWord : ℕ → FlagWord → Type 0
+IsFlagWord w f = (w < 8) × (flag_at w ≡ f)

@@ -1,5 +1,5 @@
 -- The words of gates.
-use Rattle.std.specs.Prelude.{ℕ, Bool, ◌+◌, ◌%◌, ◌<◌, ◌^◌, nat_le, if◌then◌else◌}
+use Rattle.std.specs.Prelude.{ℕ, Bool, ◌≡◌, ◌+◌, ◌%◌, ◌<◌, ◌^◌, nat_le, if◌then◌else◌}
 use Rattle.mako_words.specs.Words.{IsPackedBy}
 use Rattle.mako_words.specs.declared.gate_word.GateWord.{GateWord}
 
@@ -26,3 +26,7 @@ gate_at w = record { count = count_of w; shut = is_shut w }
 -- the word is that of a gate
 abbrev pub IsPackedGate : ℕ → Type 0
 IsPackedGate w = IsPackedBy FitsGate gate_word gate_at w
+
+-- the word is that of this gate
+abbrev pub IsGateWord : ℕ → GateWord → Type 0
+IsGateWord w g = (w < 2 ^ 17) × (gate_at w ≡ g)

@@ -29,15 +29,16 @@ impl NoticeWord {
     }
 
     /// The notice of this word, or `None` where it is neither 1 nor the word of a name.
+    #[tactic(auto, using(crate::proofs::NoticeWords::no_notice))]
     pub fn unpack(word: u64) -> Option<NoticeWord>
         ensures { Unpacks FitsNotice notice_word notice_at word result }
     {
         if word == 1 {
             return Some(NoticeWord::Done);
         }
-        match Value::unpack(word) {
-            Some(Value::Ref(name)) => Some(NoticeWord::Freed(name)),
-            _ => None,
+        match Value::unpack(word)? {
+            Value::Ref(name) => Some(NoticeWord::Freed(name)),
+            Value::Null | Value::Num(_) => None,
         }
     }
 }
