@@ -1,6 +1,6 @@
 -- What follows for every type of word where `at` undoes `word_of`.
 use Rattle.std.proofs.Common.{◌≡◌, ℕ, ◌<◌, ◌^◌, Option, Some, None, ap, sym, subst, ◌∙◌, refl}
-use Rattle.mako_words.specs.Words.{Unpacks, IsPackedBy, IsPacking}
+use Rattle.mako_words.specs.Words.{Unpacks, IsPacking}
 
 module _ {T : Type 0} (Fits : T → Type 0) (word_of : T → ℕ) (at : ℕ → T) (inverse : (v : T) → Fits v → at (word_of v) ≡ v) where
   read_back : (v : T) (answer : Option T) → Fits v → Unpacks Fits word_of at (word_of v) answer → answer ≡ Some v

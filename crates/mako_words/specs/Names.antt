@@ -4,6 +4,7 @@ use Rattle.std.specs.declared.cmp.Ordering.{Ordering}
 use Rattle.std.specs.Ordering.{nat_cmp, ordering_then}
 use Rattle.std.specs.Fmt.{decimal}
 use Rattle.std.specs.Coded.{Coded, code_by, coded×, coded_ℕ}
+use Rattle.mako_words.specs.Words.{IsPackedBy}
 use Rattle.mako_words.specs.declared.name.Name.{Name}
 
 -- the entry from bit 0 on, the generation from bit 20 on, and bit 63
@@ -17,6 +18,10 @@ FitsName n = (n.entry < 2 ^ 20) × (n.generation < 2 ^ 20)
 -- the name whose word this is
 abbrev pub name_at : ℕ → Name
 name_at w = record { entry = (w - 2 ^ 63) % 2 ^ 20; generation = (w - 2 ^ 63) / 2 ^ 20 }
+
+-- the word is that of a name
+abbrev pub IsPackedName : ℕ → Type 0
+IsPackedName w = IsPackedBy FitsName name_word name_at w
 
 -- the entry in decimal, a number sign, and the generation in decimal
 abbrev pub name_text : Name → List ℕ

@@ -14,13 +14,20 @@ pub struct FlagWord {
 }
 
 impl FlagWord {
+    /// The bit of a busy server.
+    pub const BUSY: u64 = 1;
+    /// The bit of a server with a name on its way.
+    pub const GHOST: u64 = 2;
+    /// The bit of a change.
+    pub const CHANGED: u64 = 4;
+
     /// The word of these flags.
     pub fn pack(self) -> u64
         ensures { result ≡ flag_word self }
     {
-        let busy = if self.busy { 1 } else { 0 };
-        let ghost_ = if self.ghost_ { 2 } else { 0 };
-        let changed = if self.changed { 4 } else { 0 };
+        let busy = if self.busy { Self::BUSY } else { 0 };
+        let ghost_ = if self.ghost_ { Self::GHOST } else { 0 };
+        let changed = if self.changed { Self::CHANGED } else { 0 };
         busy + ghost_ + changed
     }
 

@@ -12,12 +12,15 @@ pub struct GateWord {
 }
 
 impl GateWord {
+    /// The bit of a shut gate.
+    pub const SHUT: u64 = 0x1_0000;
+
     /// The word of this gate.
     pub fn pack(self) -> u64
         ensures { result ≡ gate_word self }
     {
         if self.shut {
-            self.count as u64 + 0x1_0000
+            self.count as u64 + Self::SHUT
         } else {
             self.count as u64
         }
@@ -27,12 +30,12 @@ impl GateWord {
     pub fn unpack(word: u64) -> Option<GateWord>
         ensures { Unpacks FitsGate gate_word gate_at word result }
     {
-        if word >= 0x2_0000 {
+        if word >= 2 * Self::SHUT {
             return None;
         }
         Some(GateWord {
-            count: (word % 0x1_0000) as u16,
-            shut: word >= 0x1_0000,
+            count: (word % Self::SHUT) as u16,
+            shut: word >= Self::SHUT,
         })
     }
 }

@@ -4,11 +4,14 @@
 mod entry_word;
 mod flag_word;
 mod gate_word;
+pub mod laws;
 mod live_word;
 mod memory;
 mod name;
 mod notice_word;
 mod phase_word;
+#[cfg(test)]
+mod tests;
 mod value;
 
 pub use entry_word::EntryWord;
