@@ -1,6 +1,6 @@
 //! The index of each word of a geometry.
 
-ghost use Rattle.std.specs.Prelude.{◌≡◌};
+ghost use Rattle.std.specs.Prelude.{◌≡◌, ◌<◌};
 ghost use Rattle.mako_shape.specs.Places as places;
 ghost use Rattle.mako_shape.specs.Places.{Within, index, total};
 
@@ -17,21 +17,24 @@ impl Shape {
 
     /// The index of the phase word.
     pub fn phase(&self) -> u32
-        ensures { result ≡ index self.now places.phase }
+        ensures index { result ≡ index self.now places.phase }
+        ensures below { result < total self.now }
     {
         0
     }
 
     /// The index of the demand word: the greatest cycle that a mutator asked for.
     pub fn demand(&self) -> u32
-        ensures { result ≡ index self.now places.demand }
+        ensures index { result ≡ index self.now places.demand }
+        ensures below { result < total self.now }
     {
         1
     }
 
     /// The index of the finished word: how many mutators are at their end.
     pub fn finished(&self) -> u32
-        ensures { result ≡ index self.now places.finished }
+        ensures index { result ≡ index self.now places.finished }
+        ensures below { result < total self.now }
     {
         2
     }
@@ -39,7 +42,8 @@ impl Shape {
     /// The index of a mutator's gate.
     pub fn mutator_gate(&self, mutator: u32) -> u32
         requires { Within self.now (places.mutator_gate mutator) }
-        ensures { result ≡ index self.now (places.mutator_gate mutator) }
+        ensures index { result ≡ index self.now (places.mutator_gate mutator) }
+        ensures below { result < total self.now }
     {
         self.numbers().mutator_gates_start() + mutator
     }
@@ -47,7 +51,8 @@ impl Shape {
     /// The index of a root of a mutator.
     pub fn root(&self, mutator: u32, number: u32) -> u32
         requires { Within self.now (places.root mutator number) }
-        ensures { result ≡ index self.now (places.root mutator number) }
+        ensures index { result ≡ index self.now (places.root mutator number) }
+        ensures below { result < total self.now }
     {
         let n = self.numbers();
         n.roots_start() + mutator * n.roots + number
@@ -56,7 +61,8 @@ impl Shape {
     /// The index of a slot of a mutator's barrier ring.
     pub fn barrier(&self, mutator: u32, slot: u32) -> u32
         requires { Within self.now (places.barrier mutator slot) }
-        ensures { result ≡ index self.now (places.barrier mutator slot) }
+        ensures index { result ≡ index self.now (places.barrier mutator slot) }
+        ensures below { result < total self.now }
     {
         let n = self.numbers();
         n.barriers_start() + mutator * n.ring + slot
@@ -65,7 +71,8 @@ impl Shape {
     /// The index of a server's flags.
     pub fn flags(&self, server: u32) -> u32
         requires { Within self.now (places.flags server) }
-        ensures { result ≡ index self.now (places.flags server) }
+        ensures index { result ≡ index self.now (places.flags server) }
+        ensures below { result < total self.now }
     {
         self.numbers().flags_start() + server
     }
@@ -73,7 +80,8 @@ impl Shape {
     /// The index of a slot of a server's work ring.
     pub fn work(&self, server: u32, slot: u32) -> u32
         requires { Within self.now (places.work server slot) }
-        ensures { result ≡ index self.now (places.work server slot) }
+        ensures index { result ≡ index self.now (places.work server slot) }
+        ensures below { result < total self.now }
     {
         let n = self.numbers();
         n.works_start() + server * n.ring + slot
@@ -82,7 +90,8 @@ impl Shape {
     /// The index of a slot of the ghost ring from one server to another.
     pub fn ghost_(&self, sender: u32, receiver: u32, slot: u32) -> u32
         requires { Within self.now (places.ghost sender receiver slot) }
-        ensures { result ≡ index self.now (places.ghost sender receiver slot) }
+        ensures index { result ≡ index self.now (places.ghost sender receiver slot) }
+        ensures below { result < total self.now }
     {
         let n = self.numbers();
         n.ghosts_start() + (sender * n.servers + receiver) * n.ring + slot
@@ -91,7 +100,8 @@ impl Shape {
     /// The index of a slot of a server's notice ring.
     pub fn notice(&self, server: u32, slot: u32) -> u32
         requires { Within self.now (places.notice server slot) }
-        ensures { result ≡ index self.now (places.notice server slot) }
+        ensures index { result ≡ index self.now (places.notice server slot) }
+        ensures below { result < total self.now }
     {
         let n = self.numbers();
         n.notices_start() + server * n.ring + slot
@@ -100,7 +110,8 @@ impl Shape {
     /// The index of a tablet's gate.
     pub fn tablet_gate(&self, tablet: u32) -> u32
         requires { Within self.now (places.tablet_gate tablet) }
-        ensures { result ≡ index self.now (places.tablet_gate tablet) }
+        ensures index { result ≡ index self.now (places.tablet_gate tablet) }
+        ensures below { result < total self.now }
     {
         self.numbers().tablet_gates_start() + tablet
     }
@@ -108,7 +119,8 @@ impl Shape {
     /// The index of a tablet's turn word.
     pub fn turn(&self, tablet: u32) -> u32
         requires { Within self.now (places.turn tablet) }
-        ensures { result ≡ index self.now (places.turn tablet) }
+        ensures index { result ≡ index self.now (places.turn tablet) }
+        ensures below { result < total self.now }
     {
         self.numbers().turns_start() + tablet
     }
@@ -116,7 +128,8 @@ impl Shape {
     /// The index of the word that holds a tablet's home region.
     pub fn home(&self, tablet: u32) -> u32
         requires { Within self.now (places.home tablet) }
-        ensures { result ≡ index self.now (places.home tablet) }
+        ensures index { result ≡ index self.now (places.home tablet) }
+        ensures below { result < total self.now }
     {
         self.numbers().homes_start() + tablet
     }
@@ -124,7 +137,8 @@ impl Shape {
     /// The index of the word that holds how many words of its home a tablet uses.
     pub fn top(&self, tablet: u32) -> u32
         requires { Within self.now (places.top tablet) }
-        ensures { result ≡ index self.now (places.top tablet) }
+        ensures index { result ≡ index self.now (places.top tablet) }
+        ensures below { result < total self.now }
     {
         self.numbers().tops_start() + tablet
     }
@@ -132,7 +146,8 @@ impl Shape {
     /// The index of the word that holds the region that a tablet leaves.
     pub fn leaving(&self, tablet: u32) -> u32
         requires { Within self.now (places.leaving tablet) }
-        ensures { result ≡ index self.now (places.leaving tablet) }
+        ensures index { result ≡ index self.now (places.leaving tablet) }
+        ensures below { result < total self.now }
     {
         self.numbers().leavings_start() + tablet
     }
@@ -140,7 +155,8 @@ impl Shape {
     /// The index of the word that holds a tablet's count of live words.
     pub fn live(&self, tablet: u32) -> u32
         requires { Within self.now (places.live tablet) }
-        ensures { result ≡ index self.now (places.live tablet) }
+        ensures index { result ≡ index self.now (places.live tablet) }
+        ensures below { result < total self.now }
     {
         self.numbers().lives_start() + tablet
     }
@@ -148,7 +164,8 @@ impl Shape {
     /// The index of a table entry.
     pub fn entry(&self, entry: u32) -> u32
         requires { Within self.now (places.entry entry) }
-        ensures { result ≡ index self.now (places.entry entry) }
+        ensures index { result ≡ index self.now (places.entry entry) }
+        ensures below { result < total self.now }
     {
         self.numbers().entries_start() + entry
     }
@@ -156,7 +173,8 @@ impl Shape {
     /// The index of the first word of a region.
     pub fn region(&self, region: u32) -> u32
         requires { Within self.now (places.region_word region 0) }
-        ensures { result ≡ index self.now (places.region_word region 0) }
+        ensures index { result ≡ index self.now (places.region_word region 0) }
+        ensures below { result < total self.now }
     {
         let n = self.numbers();
         n.regions_start() + region * n.words
