@@ -1,10 +1,10 @@
 -- Belongings: bounds, parts, addresses and the homes at the start.
-use Rattle.std.proofs.Common.{◌≡◌, ℕ, ◌+◌, ◌-◌, ◌*◌, ◌/◌, ◌%◌, ◌<◌, ◌≤◌, ap, sym, ◌∙◌, arith}
+use Rattle.std.proofs.Common.{◌≡◌, ℕ, ◌+◌, ◌-◌, ◌*◌, ◌/◌, ◌%◌, ◌<◌, ap, sym, ◌∙◌, arith}
 use Rattle.std.proofs.lemmas.Nat.{div-mul-add, same_from_place}
 use Rattle.mako_shape.specs.declared.numbers.Numbers.{Numbers}
-use Rattle.mako_shape.specs.Places.{sizes, total, index, region_word}
-use Rattle.mako_shape.specs.Belongings.{tablet_of_entry, server_of_tablet, server_of_region, IsAddress, region_of_address, word_of_address, IsInRegion, opening_home, BelongingsAreInRange, PartsBelong, AddressesBelong, OpeningHomesAreGood}
-use Rattle.mako_shape.proofs.Rows.{row-below, width, div-below, mod-below, row-and-column}
+use Rattle.mako_shape.specs.Places.{total, index, region_word}
+use Rattle.mako_shape.specs.Belongings.{server_of_tablet, server_of_region, IsAddress, region_of_address, word_of_address, IsInRegion, opening_home, BelongingsAreInRange, PartsBelong, AddressesBelong, OpeningHomesAreGood}
+use Rattle.mako_shape.proofs.Rows.{row-below, div-below, mod-below, row-and-column}
 
 pub belongings_in_range : BelongingsAreInRange
 belongings_in_range = record {

@@ -1,11 +1,29 @@
 -- Places and indexes: each in range is below the number of words, no two are one, and no word is left out.
-use Rattle.std.proofs.Common.{◌≡◌, ◌≢◌, ℕ, ◌+◌, ◌<◌, List, length, set, get_or, take, ap, sym, ◌∙◌, arith}
-use Rattle.std.specs.List.{sum}
+use Rattle.std.proofs.Common.{◌≡◌, ◌≢◌, ℕ, ◌+◌, ◌<◌, ◌*◌, List, length, set, get_or, sym, ◌∙◌, arith}
+use Rattle.std.proofs.Math.Nat.{mul-add, mul_assoc}
 use Rattle.std.proofs.lemmas.List.{get_or-set_same, get_or-set_other}
 use Rattle.mako_shape.specs.declared.numbers.Numbers.{Numbers}
 use Rattle.mako_shape.specs.Places.{Place, sizes, total, rank, offset, start, index, Within, word_at}
 use Rattle.mako_shape.proofs.Cells.{cell-below, one_cell, cell-of}
 use Rattle.mako_shape.proofs.Decode.{place_of, place_of-offset, offset-below, place_of-covers}
+
+-- the number of words, added up by what has them
+pub words_add_up : (n : Numbers) → total n ≡
+    3
+    + n.mutators * (1 + n.roots + n.ring)
+    + n.servers * (1 + 2 * n.ring + n.servers * n.ring)
+    + 6 * (n.servers * n.tablets)
+    + n.servers * n.tablets * n.entries
+    + n.servers * (n.tablets + n.spare) * n.words
+unfolding total
+words_add_up n = grind (
+  arith,
+  mul-add n.mutators (1 + n.roots) n.ring,
+  mul-add n.mutators 1 n.roots,
+  mul-add n.servers (1 + 2 * n.ring) (n.servers * n.ring),
+  mul-add n.servers 1 (2 * n.ring),
+  mul_assoc n.servers n.servers n.ring,
+)
 
 -- a place in range has an index below the number of words
 pub index_below : (n : Numbers) (p : Place) → Within n p → index n p < total n

@@ -1,5 +1,5 @@
 -- The ranges of the ten numbers, and what a geometry has to meet.
-use Rattle.std.specs.Prelude.{◌≡◌, ℕ, ◌+◌, ◌*◌, ◌<◌, ◌≤◌, ◌||◌, Bool, nat_lt, Option, Some, None, List, [], ◌∷◌, position, zip}
+use Rattle.std.specs.Prelude.{◌≡◌, ℕ, ◌*◌, ◌<◌, ◌≤◌, ◌||◌, Bool, nat_lt, Some, List, [], ◌∷◌, position, zip}
 use Rattle.mako_shape.specs.declared.numbers.Numbers.{Numbers}
 use Rattle.mako_shape.specs.declared.fault.ShapeFault.{ShapeFault}
 use Rattle.mako_shape.specs.declared.fault.ShapeFault.TheVariants.{OutOfRange, TooManyEntries, TooManyWords}
@@ -52,14 +52,26 @@ EachInRange (t ∷ ts) = (t.1.0 ≤ t.0) × (t.0 ≤ t.1.1) × EachInRange ts
 pub record AllInRange (n : Numbers) : Type 0 where
   pub each : EachInRange (tested n)
 
+-- the entries of all tablets
+abbrev pub all_entries : Numbers → ℕ
+all_entries n = n.servers * n.tablets * n.entries
+
+-- the most entries that all tablets may have together
+abbrev pub max_entries : ℕ
+max_entries = 1048576
+
+-- the most words that all areas may have together
+abbrev pub max_words : ℕ
+max_words = 4194304
+
 -- all numbers are in their ranges, and entries and words are within their limits
 pub record IsShape (n : Numbers) : Type 0 where
   pub in_range : AllInRange n
-  pub entries : n.servers * n.tablets * n.entries ≤ 1048576
-  pub words : total n ≤ 4194304
+  pub entries : all_entries n ≤ max_entries
+  pub words : total n ≤ max_words
 
 -- when each fault comes: the first number out of range, then too many entries, then too many words
 abbrev pub IsFault : Numbers → ShapeFault → Type 0
 IsFault n (OutOfRange place) = position is_outside (tested n) ≡ Some place
-IsFault n TooManyEntries = AllInRange n × (1048576 < n.servers * n.tablets * n.entries)
-IsFault n TooManyWords = AllInRange n × (n.servers * n.tablets * n.entries ≤ 1048576) × (4194304 < total n)
+IsFault n TooManyEntries = AllInRange n × (max_entries < all_entries n)
+IsFault n TooManyWords = AllInRange n × (all_entries n ≤ max_entries) × (max_words < total n)

@@ -125,6 +125,16 @@ Within n (region_word r word) = (r < n.servers * (n.tablets + n.spare)) × (word
 abbrev pub word_at : Numbers → List ℕ → Place → ℕ
 word_at n words p = slice_index words (index n p)
 
+-- the number of words, added up by what has them: all, each mutator, each server, each tablet and each region
+abbrev pub WordsAddUp : Type 0
+WordsAddUp = (n : Numbers) → total n ≡
+    3
+    + n.mutators * (1 + n.roots + n.ring)
+    + n.servers * (1 + 2 * n.ring + n.servers * n.ring)
+    + 6 * (n.servers * n.tablets)
+    + n.servers * n.tablets * n.entries
+    + n.servers * (n.tablets + n.spare) * n.words
+
 -- each place in range has an index below the number of words
 abbrev pub IndexesAreBelow : Type 0
 IndexesAreBelow = (n : Numbers) (p : Place) → Within n p → index n p < total n

@@ -1,7 +1,7 @@
 //! Where the areas of words start, and how large they are together. They follow each other without gaps.
 
 ghost use Rattle.std.specs.Prelude.{◌≡◌, ◌*◌};
-ghost use Rattle.mako_shape.specs.Limits.{AllInRange};
+ghost use Rattle.mako_shape.specs.Limits.{AllInRange, all_entries};
 ghost use Rattle.mako_shape.specs.Places.{start, total};
 
 use crate::numbers::Numbers;
@@ -19,7 +19,7 @@ impl Numbers {
     /// The entries of all tablets.
     pub(crate) fn all_entries(self) -> u32
         requires { AllInRange self }
-        ensures { result ≡ self.servers * self.tablets * self.entries }
+        ensures { result ≡ all_entries self }
     {
         self.all_tablets() * self.entries
     }

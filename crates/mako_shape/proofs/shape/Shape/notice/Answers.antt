@@ -1,4 +1,4 @@
-use Rattle.std.proofs.Common.{◌≡◌, ◌+◌, ◌*◌, ◌<◌, ap, ◌∙◌, arith}
+use Rattle.std.proofs.Common.{◌≡◌, ap, ◌∙◌, arith}
 use Rattle.mako_shape.specs.declared.numbers.Numbers.{Numbers}
 use Rattle.mako_shape.specs.Places.{start, total}
 use Rattle.mako_shape.proofs.Rows.{row-below}
@@ -8,6 +8,6 @@ pub returns-clause-below : goal.returns-clause-below
 unfolding total
 returns-clause-below c =
     let first : c.notices_start.result ≡ start c.args.self.now 9 =
-      c.notices_start.ensures ∙ ap (λ (n : Numbers). start n 9) c.numbers-n.ensures.numbers
+    c.notices_start.ensures ∙ ap (λ (n : Numbers). start n 9) c.numbers-n.ensures.numbers
     in
     rw c.numbers-n.ensures.numbers (omega (arith, row-below c.args.server c.args.self.now.ring c.args.slot c.args.self.now.servers c.requires.0 c.requires.1))
