@@ -6,7 +6,7 @@ use Rattle.mako_words.specs.declared.name.Name.{Name}
 use Rattle.mako_model.specs.declared.reply.Reply.TheVariants.{Made}
 use Rattle.mako_model.specs.declared.point.Point.{Point}
 use Rattle.mako_model.specs.declared.point.Point.TheVariants.{Did, Snap}
-use Rattle.mako_model.specs.Names.{name_cmp}
+use Rattle.mako_words.specs.Names.{name_cmp}
 use Rattle.mako_model.specs.Heaps.{board_name}
 use Rattle.mako_model.specs.Legal.{Workload, state_of}
 use Rattle.mako_model.specs.Reachable.{IsReachable}

@@ -5,7 +5,7 @@ use Rattle.std.specs.FinMap as map
 use Rattle.mako_words.specs.declared.name.Name.{Name}
 use Rattle.mako_words.specs.declared.value.Value.{Value}
 use Rattle.mako_words.specs.declared.value.Value.TheVariants.{Null, Ref}
-use Rattle.mako_model.specs.Names.{name_cmp}
+use Rattle.mako_words.specs.Names.{name_cmp}
 
 -- the fields of each object, the roots of each mutator, and how many snapshots were taken and may be taken
 pub record Heap : Type 0 where

@@ -7,7 +7,6 @@ pub mod Journals
 pub mod Lawful
 pub mod LawfulFronts
 pub mod Legal
-pub mod Names
 pub mod Outcomes
 pub mod Reachable
 pub mod Starved
