@@ -1,4 +1,7 @@
 pub mod Changes
+pub mod Closed
+pub mod DeadApart
 pub mod Histories
 pub mod Lists
 pub mod Lookups
+pub mod Splits

@@ -4,6 +4,7 @@ pub mod Freed
 pub mod Fronts
 pub mod Heaps
 pub mod Journals
+pub mod Laws
 pub mod Lawful
 pub mod LawfulFronts
 pub mod Legal
