@@ -4,4 +4,5 @@ pub mod DeadApart
 pub mod Histories
 pub mod Lists
 pub mod Lookups
+pub mod Pieces
 pub mod Splits

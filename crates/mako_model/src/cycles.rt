@@ -1,6 +1,7 @@
 //! The finished cycles of a run, in room that was set aside.
 
-ghost use Rattle.std.specs.Prelude.{◌≡◌, ◌<◌, ◌≤◌, ◌+◌, ◌-◌, ◌++◌, ◌∷◌, [], length, slice_get, sum_by, IfOk, Some};
+ghost use Rattle.std.specs.Prelude.{◌≡◌, ◌<◌, ◌≤◌, ◌+◌, ◌-◌, ◌++◌, ◌∷◌, [], length, slice_get, slice_index, sum_by, IfOk, Some};
+ghost use Rattle.mako_model.specs.Freed.{pieces, start_of, RiseTo};
 
 use mako_words::{Memory, Name};
 use std::alloc::Global;
@@ -38,5 +39,64 @@ impl Cycles {
             names_room: names,
             cycles_room: cycles,
         })
+    }
+
+    /// Adds a finished cycle that freed these names.
+    pub fn push(&mut self, freed: &[Name])
+        requires cycles { length self.old.lists < self.old.cycles_room }
+        requires names { sum_by length self.old.lists + length freed.now ≤ self.old.names_room }
+        ensures lists { self.new.lists ≡ self.old.lists ++ freed.now ∷ [] }
+        ensures names_room { self.new.names_room ≡ self.old.names_room }
+        ensures cycles_room { self.new.cycles_room ≡ self.old.cycles_room }
+    {
+        if self.names.extend_from_slice(freed).is_err() {
+            unreachable!()
+        }
+        let end = self.names.len();
+        if self.ends.push(end).is_err() {
+            unreachable!()
+        }
+    }
+
+    /// The number of finished cycles.
+    pub fn len(&self) -> usize
+        ensures { result ≡ length self.now.lists }
+    {
+        self.ends.len()
+    }
+
+    /// The names freed in this cycle. Cycles are numbered from 1.
+    pub fn freed(&self, cycle: usize) -> &[Name]
+        requires first { 1 ≤ cycle }
+        requires last { cycle ≤ length self.now.lists }
+        ensures { slice_get self.now.lists (cycle - 1) ≡ Some result.now }
+    {
+        piece(&self.names, &self.ends, cycle - 1)
+    }
+}
+
+/// The part of the names that ends at the end with this index.
+fn piece<'a>(names: &'a [Name], ends: &[usize], index: usize) -> &'a [Name]
+    requires rise { RiseTo 0 ends.now (length names.now) }
+    requires within { index < length ends.now }
+    ensures { slice_get (pieces names.now 0 ends.now) index ≡ Some result.now }
+{
+    let (start, end) = bounds(names, ends, index);
+    &names[start..end]
+}
+
+/// Where the part with this index begins and ends.
+fn bounds(names: &[Name], ends: &[usize], index: usize) -> (usize, usize)
+    requires rise { RiseTo 0 ends.now (length names.now) }
+    requires within { index < length ends.now }
+    ensures start { result.0 ≡ start_of 0 ends.now index }
+    ensures end { result.1 ≡ slice_index ends.now index }
+    ensures order { result.0 ≤ result.1 }
+    ensures last { result.1 ≤ length names.now }
+{
+    if index == 0 {
+        (0, ends[0])
+    } else {
+        (ends[index - 1], ends[index])
     }
 }
