@@ -1,8 +1,8 @@
 -- Lemmas on counts of faults, and on what sources and sinks tell, that callers of the crate can cite.
-use Rattle.std.proofs.Common.{◌≡◌, ℕ, ◌+◌, ◌<◌, ◌≤◌, List, ◌++◌, length, take, drop, None, Some, refl, arith, sym, ◌∙◌, ap, subst, length-append}
+use Rattle.std.proofs.Common.{◌≡◌, ℕ, ◌+◌, ◌<◌, ◌≤◌, List, length, take, drop, None, Some, arith, sym, ◌∙◌, ap, subst, length-append}
 use Rattle.std.proofs.Math.Seq.{take-add, drop-append_seam}
 use Rattle.std.specs.declared.option.Option.{Option}
-use Rattle.std.specs.Io.KnownBytes.{Appends, Consumes}
+use Rattle.std.specs.Io.KnownBytes.{Appends}
 use Rattle.std.proofs.KnownBytes.{Appends-trans}
 use Rattle.mako_io.specs.Causes.{Rose}
 use Rattle.mako_io.specs.Streams.{TakesMore}

@@ -3,7 +3,7 @@ use Rattle.std.specs.Prelude.{ℕ, ◌-◌, ◌==◌, ◌&&◌, nat_lt, List, le
 use Rattle.mako_io.specs.Causes.{raised}
 
 -- a source: the bytes still to come, the faults and the read calls so far, and the numbers of the calls that fail
-pub record Supply : Type 0 where
+pub record MemSupply : Type 0 where
   pub left : List ℕ
   pub faults : ℕ
   pub calls : ℕ
@@ -15,13 +15,13 @@ pub record Stock : Type 0 where
   pub room : ℕ
 
 -- a sink: the bytes taken so far, for how many there is room in all, and the faults so far
-pub record Basin : Type 0 where
+pub record SoundStock : Type 0 where
   pub taken : List ℕ
   pub room : ℕ
   pub faults : ℕ
 
 -- a sink with failing calls: the write calls so far too, and the numbers of those that fail
-pub record Faulty : Type 0 where
+pub record MemStock : Type 0 where
   pub taken : List ℕ
   pub room : ℕ
   pub faults : ℕ

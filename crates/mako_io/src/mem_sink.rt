@@ -1,8 +1,8 @@
 //! A sink over memory whose writes fail where that is asked for.
 
-ghost use Rattle.std.specs.Prelude.{◌≡◌, ◌≤◌, ◌<◌, ◌++◌, ◌↔◌, [], List, length, take, IfOk, OnOk, OnErr, IsErr, Contains, Some};
+ghost use Rattle.std.specs.Prelude.{◌≡◌, ◌<◌, ◌++◌, ◌↔◌, [], take, IfOk, OnOk, OnErr, IsErr, Contains, Some};
 ghost use Rattle.mako_io.specs.InMemory.{fitting, faults_after};
-ghost use Rattle.mako_io.specs.Causes.{raised, Rose};
+ghost use Rattle.mako_io.specs.Causes.{raised};
 
 use crate::calls::Calls;
 use crate::memory::Memory;
@@ -22,9 +22,9 @@ pub struct MemSink {
 }
 
 impl Model for MemSink {
-    ghost use Rattle.mako_io.specs.InMemory.{Faulty};
+    ghost use Rattle.mako_io.specs.InMemory.{MemStock};
 
-    ghost Value = { Faulty };
+    ghost Value = { MemStock };
 
     ghost view = { λ s. record { taken = s.store.taken; room = s.store.room; faults = s.faults; calls = s.calls.made; fails = s.calls.fails.items } };
 }

@@ -1,7 +1,7 @@
 //! A source over memory whose reads fail where that is asked for.
 
-ghost use Rattle.std.specs.Prelude.{◌≡◌, ◌+◌, ◌<◌, ◌≤◌, ◌++◌, ◌↔◌, [], List, length, take, min, IfOk, OnErr, OnOk, IsErr, Contains, Some};
-ghost use Rattle.mako_io.specs.Causes.{raised, Rose};
+ghost use Rattle.std.specs.Prelude.{◌≡◌, ◌+◌, ◌<◌, ◌++◌, ◌↔◌, length, take, min, IfOk, OnErr, OnOk, IsErr, Contains, Some};
+ghost use Rattle.mako_io.specs.Causes.{raised};
 
 use crate::calls::Calls;
 use crate::rest::Rest;
@@ -18,9 +18,9 @@ pub struct MemSource {
 }
 
 impl Model for MemSource {
-    ghost use Rattle.mako_io.specs.InMemory.{Supply};
+    ghost use Rattle.mako_io.specs.InMemory.{MemSupply};
 
-    ghost Value = { Supply };
+    ghost Value = { MemSupply };
 
     ghost view = { λ s. record { left = s.rest; faults = s.faults; calls = s.calls.made; fails = s.calls.fails.items } };
 }

@@ -1,6 +1,6 @@
 //! Reading a source to its end.
 
-ghost use Rattle.std.specs.Prelude.{◌≡◌, ◌≢◌, ◌+◌, ◌<◌, ◌≤◌, [], length, IfOk, IfSome, OnOk, OnErr, Some, vec_len};
+ghost use Rattle.std.specs.Prelude.{◌≡◌, ◌≢◌, ◌+◌, ◌<◌, ◌≤◌, [], length, IfOk, IfSome, OnOk, Some};
 ghost use Rattle.mako_io.specs.Causes.{Rose};
 ghost use Rattle.mako_io.specs.Streams.{TakesAtMost, TakesMore};
 

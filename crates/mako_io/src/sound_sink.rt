@@ -1,8 +1,7 @@
 //! A sink over memory that fails only where it is full.
 
-ghost use Rattle.std.specs.Prelude.{◌≡◌, ◌≤◌, ◌<◌, ◌++◌, [], List, length, take, IfOk, OnOk, OnErr, Some};
+ghost use Rattle.std.specs.Prelude.{◌≡◌, ◌<◌, ◌++◌, [], take, IfOk, Some};
 ghost use Rattle.mako_io.specs.InMemory.{fitting, faults_after};
-ghost use Rattle.mako_io.specs.Causes.{raised, Rose};
 
 use crate::memory::Memory;
 use crate::sink::Sink;
@@ -20,9 +19,9 @@ pub struct SoundSink {
 }
 
 impl Model for SoundSink {
-    ghost use Rattle.mako_io.specs.InMemory.{Basin};
+    ghost use Rattle.mako_io.specs.InMemory.{SoundStock};
 
-    ghost Value = { Basin };
+    ghost Value = { SoundStock };
 
     ghost view = { λ s. record { taken = s.store.taken; room = s.store.room; faults = s.faults } };
 }

@@ -1,6 +1,6 @@
 //! A source over memory that never fails.
 
-ghost use Rattle.std.specs.Prelude.{◌≡◌, ◌≤◌, ◌++◌, ℕ, List, length, take, min, Some};
+ghost use Rattle.std.specs.Prelude.{◌≡◌, ◌++◌, ℕ, List, length, take, min, Some};
 
 use crate::rest::Rest;
 use crate::source::{Failed, Source};

@@ -1,6 +1,6 @@
 //! The bytes of a sink over memory.
 
-ghost use Rattle.std.specs.Prelude.{◌≡◌, ◌≤◌, ◌<◌, ℕ, List, [], length, take, min, ◌-◌, ◌++◌, IfOk, vec_capacity};
+ghost use Rattle.std.specs.Prelude.{◌≡◌, ◌≤◌, ◌<◌, [], length, take, min, ◌-◌, ◌++◌, IfOk, vec_capacity};
 ghost use Rattle.mako_io.specs.InMemory.{fitting};
 
 use crate::memory::Memory;
