@@ -1,117 +1,92 @@
 use crate::{EntryWord, FlagWord, GateWord, LiveWord, Name, NoticeWord, PhaseWord, Value};
 use std::test::Fail;
 
-const fn name(entry: u32, generation: u32) -> Name {
-    Name { entry, generation }
-}
+const BOARD: Name = Name {
+    entry: 0,
+    generation: 0,
+};
 
-const fn entry(taken: bool, generation: u32, epoch: u32, address: u32) -> EntryWord {
-    EntryWord {
-        taken,
-        generation,
-        epoch,
-        address,
-    }
-}
+const OLD: Name = Name {
+    entry: 1,
+    generation: 0,
+};
 
-const fn flags(busy: bool, ghost_: bool, changed: bool) -> FlagWord {
-    FlagWord {
-        busy,
-        ghost_,
-        changed,
-    }
-}
-
-// Each word is read as what stands beside it, and that is packed to the word again.
-macro_rules! table {
-    ($rt:ident, $type:ident, $rows:expr) => {
-        for (word, want) in $rows {
-            let read = $type::unpack(word);
-            assert_eq!($rt; read, want, "{word:x}");
-            if let Some(value) = read {
-                assert_eq!($rt; value.pack(), word);
-            }
-        }
-    };
-}
+const NEW: Name = Name {
+    entry: 1,
+    generation: 1,
+};
 
 #[test]
-fn names_values_and_notices(rt: HostRuntime) {
-    let values = [
-        (0, Some(Value::Null)),
-        (0x4000000000000007, Some(Value::Num(7))),
-        (0x8000000000000000, Some(Value::Ref(name(0, 0)))),
-        (0x8000000000000001, Some(Value::Ref(name(1, 0)))),
-        (0x8000000000100001, Some(Value::Ref(name(1, 1)))),
-        (1, None),
-        (0x4000000100000007, None),
-        (0x8000010000000001, None),
-        (0xc000000000000007, None),
-    ];
-    table!(rt, Value, values);
-    let notices = [
-        (1, Some(NoticeWord::Done)),
-        (0x8000000000100001, Some(NoticeWord::Freed(name(1, 1)))),
-        (0, None),
-        (0x4000000000000007, None),
-    ];
-    table!(rt, NoticeWord, notices);
-}
-
-#[test]
-fn entries_phases_and_counts(rt: HostRuntime) {
-    let entries = [
-        (0x800000000000001b, Some(entry(true, 0, 0, 27))),
-        (0x8000080000800033, Some(entry(true, 1, 1, 51))),
-        (0x0000080000000000, Some(entry(false, 1, 0, 0))),
-    ];
-    table!(rt, EntryWord, entries);
-    let phases = [
-        (1, Some(PhaseWord::Idle(1))),
-        (0x0000000100000001, Some(PhaseWord::Trace(1))),
-        (0x0000000200000001, Some(PhaseWord::Evac(1))),
-        (0x0000000300000001, Some(PhaseWord::Stop(1))),
-        (0x0000000100100000, None),
-        (0x0000000400000001, None),
-    ];
-    table!(rt, PhaseWord, phases);
-    let counts = [
-        (0x0000000100000008, Some(LiveWord { cycle: 1, words: 8 })),
-        (0x0010000000000008, None),
-    ];
-    table!(rt, LiveWord, counts);
-}
-
-#[test]
-fn gates_and_flags(rt: HostRuntime) {
-    let open = GateWord {
-        count: 1,
-        shut: false,
-    };
+fn packs_the_worked_words(rt: HostRuntime) {
     let shut = GateWord {
         count: 1,
         shut: true,
     };
-    let gates = [(1, Some(open)), (0x10001, Some(shut)), (0x20001, None)];
-    table!(rt, GateWord, gates);
-    let rows = [
-        (1, Some(flags(true, false, false))),
-        (6, Some(flags(false, true, true))),
-        (8, None),
+    let waiting = FlagWord {
+        busy: false,
+        ghost_: true,
+        changed: true,
+    };
+    let first = EntryWord {
+        taken: true,
+        generation: 0,
+        epoch: 0,
+        address: 27,
+    };
+    let second = EntryWord {
+        taken: true,
+        generation: 1,
+        epoch: 1,
+        address: 51,
+    };
+    let words = [
+        (Value::Num(7).pack(), 0x4000000000000007),
+        (Value::Ref(BOARD).pack(), 0x8000000000000000),
+        (Value::Ref(OLD).pack(), 0x8000000000000001),
+        (Value::Ref(NEW).pack(), 0x8000000000100001),
+        (PhaseWord::Trace(1).pack(), 0x0000000100000001),
+        (PhaseWord::Evac(1).pack(), 0x0000000200000001),
+        (shut.pack(), 0x0000000000010001),
+        (waiting.pack(), 0x0000000000000006),
+        (LiveWord { cycle: 1, words: 8 }.pack(), 0x0000000100000008),
+        (first.pack(), 0x800000000000001b),
+        (second.pack(), 0x8000080000800033),
+        (NoticeWord::Freed(NEW).pack(), 0x8000000000100001),
+        (NoticeWord::Done.pack(), 1),
     ];
-    table!(rt, FlagWord, rows);
+    for (word, want) in words {
+        assert_eq!(rt; word, want);
+    }
+}
+
+#[test]
+fn refuses_stray_bits(rt: HostRuntime) {
+    for word in [
+        1,
+        0x4000000100000007,
+        0x8000010000000001,
+        0xc000000000000007,
+    ] {
+        assert!(rt; Value::unpack(word).is_none(), "{word:x}");
+    }
+    for word in [0x0000000100100001, 0x0000000400000001] {
+        assert!(rt; PhaseWord::unpack(word).is_none(), "{word:x}");
+    }
+    assert!(rt; GateWord::unpack(0x20001).is_none());
+    assert!(rt; FlagWord::unpack(8).is_none());
+    assert!(rt; LiveWord::unpack(0x0010000100000008).is_none());
+    assert!(rt; NoticeWord::unpack(0).is_none());
+    assert!(rt; NoticeWord::unpack(0x4000000000000007).is_none());
 }
 
 #[test]
 fn prints_names_and_values(rt: HostRuntime) -> Result<(), Fail> {
-    let rows = [
-        (Value::Null, "null"),
-        (Value::Num(u32::MAX), "4294967295"),
-        (Value::Ref(name(1, 20)), "1#20"),
-    ];
-    for (value, want) in rows {
-        let text = format!(in rt.alloc(); "{value}")?;
-        assert_eq!(rt; text.as_str(), want);
-    }
+    assert_eq!(rt; NEW.to_string(rt.alloc())?.as_str(), "1#1");
+    assert_eq!(rt; Value::Null.to_string(rt.alloc())?.as_str(), "null");
+    assert_eq!(rt;
+        Value::Num(u32::MAX).to_string(rt.alloc())?.as_str(),
+        "4294967295"
+    );
+    assert_eq!(rt; Value::Ref(NEW).to_string(rt.alloc())?.as_str(), "1#1");
     Ok(())
 }
