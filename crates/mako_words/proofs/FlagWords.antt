@@ -7,7 +7,7 @@ use Rattle.mako_words.specs.Flags.{flag_word, FitsFlags, flag_at, IsPackedFlags,
 use Rattle.mako_words.specs.Words.{IsPacking, all_but}
 use Rattle.mako_words.proofs.Unpacking as unpacking
 
--- what holds of the flags of each three tests holds of all flags
+-- what holds at any three truth values holds of all flags
 each : (P : FlagWord → Type 0) → ((b g c : Bool) → P (record { busy = b; ghost_ = g; changed = c })) → (f : FlagWord) → P f
 each P h f = h f.busy f.ghost_ f.changed
 

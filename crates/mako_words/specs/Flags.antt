@@ -22,3 +22,7 @@ IsPackedFlags w = IsPackedBy FitsFlags flag_word flag_at w
 -- the word is that of these flags
 abbrev pub IsFlagWord : ℕ → FlagWord → Type 0
 IsFlagWord w f = (w < 8) × (flag_at w ≡ f)
+
+-- the step makes of the word of any flags that of the changed flags
+abbrev pub IsFlagStep : (ℕ → ℕ) → (FlagWord → FlagWord) → Type 0
+IsFlagStep step change = (w : ℕ) → w < 8 → IsFlagWord (step w) (change (flag_at w))

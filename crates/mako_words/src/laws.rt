@@ -2,7 +2,7 @@
 
 ghost use Rattle.std.specs.Prelude.{ℕ, ◌≡◌, ◌+◌, ◌-◌, ◌*◌, ◌<◌, ◌≤◌, ◌^◌, ◌↔◌, ◌⊎◌, ◌%◌, bit_and, bit_or, true, false};
 ghost use Rattle.mako_words.specs.Entries.{entry_word, FitsEntry, entry_at, IsPackedEntry};
-ghost use Rattle.mako_words.specs.Flags.{flag_word, FitsFlags, flag_at, IsPackedFlags, IsFlagWord};
+ghost use Rattle.mako_words.specs.Flags.{flag_word, FitsFlags, flag_at, IsPackedFlags, IsFlagStep};
 ghost use Rattle.mako_words.specs.Gates.{gate_word, FitsGate, gate_at, count_of, IsPackedGate, IsGateWord};
 ghost use Rattle.mako_words.specs.Lives.{live_word, FitsLive, live_at, IsPackedLive};
 ghost use Rattle.mako_words.specs.Names.{name_word, FitsName, name_at, IsPackedName};
@@ -19,7 +19,8 @@ pub fn value_words()
     ensures names { IsPacking FitsName name_word name_at }
     ensures values { IsPacking FitsValue value_word value_at }
     ensures name_forms { (w : ℕ) → IsPackedName w ↔ ((2 ^ 63 ≤ w) × (w < 2 ^ 63 + 2 ^ 40)) }
-    ensures value_forms { (w : ℕ) → IsPacked w ↔ ((w ≡ 0) ⊎ (((2 ^ 62 ≤ w) × (w < 2 ^ 62 + 2 ^ 32)) ⊎ IsPackedName w)) }
+    ensures value_forms { (w : ℕ) → IsPacked w ↔
+        ((w ≡ 0) ⊎ (((2 ^ 62 ≤ w) × (w < 2 ^ 62 + 2 ^ 32)) ⊎ IsPackedName w)) }
 {}
 
 /// Entries are packed without loss, and each word is that of an entry.
@@ -58,24 +59,30 @@ pub fn notice_words()
     ensures forms { (w : ℕ) → IsPackedNotice w ↔ ((w ≡ 1) ⊎ IsPackedName w) }
 {}
 
-/// What one step does to the word of a gate: to add or subtract 1 changes the count by 1, and to
-/// or the shut bit in or and it away sets that bit. Nothing else changes.
+/// What one step does to the word of a gate. To add or subtract 1 changes the count, and to or the
+/// shut bit in, or and it away, changes whether it is shut; neither changes the other.
 pub fn gate_steps()
-    ensures arrive { (w : ℕ) → w < 2 ^ 17 → count_of w + 1 < 2 ^ 16 → IsGateWord (w + 1) (record (gate_at w) { count = count_of w + 1 }) }
-    ensures leave { (w : ℕ) → w < 2 ^ 17 → 0 < count_of w → IsGateWord (w - 1) (record (gate_at w) { count = count_of w - 1 }) }
-    ensures shut { (w : ℕ) → w < 2 ^ 17 → IsGateWord (bit_or w GateWord.SHUT) (record (gate_at w) { shut = true }) }
-    ensures reopen { (w : ℕ) → w < 2 ^ 17 → IsGateWord (bit_and w (all_but GateWord.SHUT)) (record (gate_at w) { shut = false }) }
+    ensures arrive { (w : ℕ) → w < 2 ^ 17 → count_of w + 1 < 2 ^ 16 →
+        IsGateWord (w + 1) (record (gate_at w) { count = count_of w + 1 }) }
+    ensures leave { (w : ℕ) → w < 2 ^ 17 → 0 < count_of w →
+        IsGateWord (w - 1) (record (gate_at w) { count = count_of w - 1 }) }
+    ensures shut { (w : ℕ) → w < 2 ^ 17 →
+        IsGateWord (bit_or w GateWord.SHUT) (record (gate_at w) { shut = true }) }
+    ensures reopen { (w : ℕ) → w < 2 ^ 17 →
+        IsGateWord (bit_and w (all_but GateWord.SHUT)) (record (gate_at w) { shut = false }) }
 {}
 
-/// What one step does to the word of flags: to or bits in raises those flags, and to and a bit away
-/// lowers that flag. Nothing else changes.
+/// What one step does to the word of flags. To or bits in raises those flags, and to and a bit away
+/// lowers that flag; the others stay as they are.
 pub fn flag_steps()
-    ensures raise_busy { (w : ℕ) → w < 8 → IsFlagWord (bit_or w FlagWord.BUSY) (record (flag_at w) { busy = true }) }
-    ensures lower_busy { (w : ℕ) → w < 8 → IsFlagWord (bit_and w (all_but FlagWord.BUSY)) (record (flag_at w) { busy = false }) }
-    ensures raise_ghost { (w : ℕ) → w < 8 → IsFlagWord (bit_or w FlagWord.GHOST) (record (flag_at w) { ghost_ = true }) }
-    ensures lower_ghost { (w : ℕ) → w < 8 → IsFlagWord (bit_and w (all_but FlagWord.GHOST)) (record (flag_at w) { ghost_ = false }) }
-    ensures raise_changed { (w : ℕ) → w < 8 → IsFlagWord (bit_or w FlagWord.CHANGED) (record (flag_at w) { changed = true }) }
-    ensures lower_changed { (w : ℕ) → w < 8 → IsFlagWord (bit_and w (all_but FlagWord.CHANGED)) (record (flag_at w) { changed = false }) }
-    ensures receive { (w : ℕ) → w < 8 → IsFlagWord (bit_or w (FlagWord.BUSY + FlagWord.CHANGED)) (record (flag_at w) { busy = true; changed = true }) }
-    ensures send { (w : ℕ) → w < 8 → IsFlagWord (bit_or w (FlagWord.GHOST + FlagWord.CHANGED)) (record (flag_at w) { ghost_ = true; changed = true }) }
+    ensures raise_busy { IsFlagStep (λ w. bit_or w FlagWord.BUSY) (λ f. record f { busy = true }) }
+    ensures lower_busy { IsFlagStep (λ w. bit_and w (all_but FlagWord.BUSY)) (λ f. record f { busy = false }) }
+    ensures raise_ghost { IsFlagStep (λ w. bit_or w FlagWord.GHOST) (λ f. record f { ghost_ = true }) }
+    ensures lower_ghost { IsFlagStep (λ w. bit_and w (all_but FlagWord.GHOST)) (λ f. record f { ghost_ = false }) }
+    ensures raise_changed { IsFlagStep (λ w. bit_or w FlagWord.CHANGED) (λ f. record f { changed = true }) }
+    ensures lower_changed { IsFlagStep (λ w. bit_and w (all_but FlagWord.CHANGED)) (λ f. record f { changed = false }) }
+    ensures receive { IsFlagStep (λ w. bit_or w (FlagWord.BUSY + FlagWord.CHANGED))
+        (λ f. record f { busy = true; changed = true }) }
+    ensures send { IsFlagStep (λ w. bit_or w (FlagWord.GHOST + FlagWord.CHANGED))
+        (λ f. record f { ghost_ = true; changed = true }) }
 {}
