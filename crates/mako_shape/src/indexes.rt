@@ -54,8 +54,8 @@ impl Shape {
         ensures index { result ≡ index self.now (places.root mutator number) }
         ensures below { result < total self.now }
     {
-        let n = self.numbers();
-        n.roots_start() + mutator * n.roots + number
+        let numbers = self.numbers();
+        numbers.roots_start() + mutator * numbers.roots + number
     }
 
     /// The index of a slot of a mutator's barrier ring.
@@ -64,8 +64,8 @@ impl Shape {
         ensures index { result ≡ index self.now (places.barrier mutator slot) }
         ensures below { result < total self.now }
     {
-        let n = self.numbers();
-        n.barriers_start() + mutator * n.ring + slot
+        let numbers = self.numbers();
+        numbers.barriers_start() + mutator * numbers.ring + slot
     }
 
     /// The index of a server's flags.
@@ -83,8 +83,8 @@ impl Shape {
         ensures index { result ≡ index self.now (places.work server slot) }
         ensures below { result < total self.now }
     {
-        let n = self.numbers();
-        n.works_start() + server * n.ring + slot
+        let numbers = self.numbers();
+        numbers.works_start() + server * numbers.ring + slot
     }
 
     /// The index of a slot of the ghost ring from one server to another.
@@ -93,8 +93,8 @@ impl Shape {
         ensures index { result ≡ index self.now (places.ghost sender receiver slot) }
         ensures below { result < total self.now }
     {
-        let n = self.numbers();
-        n.ghosts_start() + (sender * n.servers + receiver) * n.ring + slot
+        let numbers = self.numbers();
+        numbers.ghosts_start() + (sender * numbers.servers + receiver) * numbers.ring + slot
     }
 
     /// The index of a slot of a server's notice ring.
@@ -103,8 +103,8 @@ impl Shape {
         ensures index { result ≡ index self.now (places.notice server slot) }
         ensures below { result < total self.now }
     {
-        let n = self.numbers();
-        n.notices_start() + server * n.ring + slot
+        let numbers = self.numbers();
+        numbers.notices_start() + server * numbers.ring + slot
     }
 
     /// The index of a tablet's gate.
@@ -176,7 +176,7 @@ impl Shape {
         ensures index { result ≡ index self.now (places.region_word region 0) }
         ensures below { result < total self.now }
     {
-        let n = self.numbers();
-        n.regions_start() + region * n.words
+        let numbers = self.numbers();
+        numbers.regions_start() + region * numbers.words
     }
 }

@@ -7,7 +7,7 @@ use crate::numbers::Numbers;
 use std::marker::Model;
 
 /// A geometry: ten numbers that are in their ranges, with entries and words within their limits.
-#[derive(Clone, Copy)]
+#[derive(Clone, Copy, Debug, PartialEq, Eq)]
 pub struct Shape {
     numbers: Numbers,
 }

@@ -8,6 +8,6 @@ pub returns-clause-below : goal.returns-clause-below
 unfolding total
 returns-clause-below c =
     let first : c.regions_start.result ≡ start c.args.self.now 17 =
-    c.regions_start.ensures ∙ ap (λ (n : Numbers). start n 17) c.numbers-n.ensures.numbers
+    c.regions_start.ensures ∙ ap (λ (n : Numbers). start n 17) c.numbers-numbers.ensures.numbers
     in
-    rw c.numbers-n.ensures.numbers (omega (arith, row-below c.args.region c.args.self.now.words 0 (c.args.self.now.servers * (c.args.self.now.tablets + c.args.self.now.spare)) c.requires.0 c.requires.1))
+    rw c.numbers-numbers.ensures.numbers (omega (arith, row-below c.args.region c.args.self.now.words 0 (c.args.self.now.servers * (c.args.self.now.tablets + c.args.self.now.spare)) c.requires.0 c.requires.1))
