@@ -1,5 +1,5 @@
 -- The first number out of range, against all of them in range.
-use Rattle.std.proofs.Common.{◌≡◌, ℕ, ◌≤◌, not, List, [], ◌∷◌, length, refl, Some, None, arith}
+use Rattle.std.proofs.Common.{◌≡◌, ℕ, ◌≤◌, not, List, [], ◌∷◌, length, refl, Some, None, Result, Ok, Err, ap, subst, arith}
 use Rattle.std.specs.List.{position, position_or_len}
 use Rattle.std.proofs.lemmas.Bool.Decides.{nat_tests}
 use Rattle.std.proofs.lemmas.List.Sums.{prefix_len-le-length}
@@ -52,3 +52,20 @@ pub no_fault : (n : Numbers) (f : ShapeFault) → IsShape n → IsFault n f → 
 no_fault n (OutOfRange place) h k = in_range-no_first (tested n) place h.in_range.each k
 no_fault n TooManyEntries h k = omega arith
 no_fault n TooManyWords h k = omega arith
+
+-- the answer that is a fault of the numbers is this answer for that fault alone
+pub answer-fault : (A : Type 0) (n : Numbers) (f : ShapeFault) → IsFault n f → (g : ShapeFault) →
+    let answer : Result A ShapeFault = Err f in
+    let other : Result A ShapeFault = Err g in
+    (answer ≡ other → IsFault n g) × (IsFault n g → answer ≡ other)
+answer-fault A n f h g = (
+  λ e. let same : f ≡ g = cc in subst (IsFault n) same h,
+  λ k. ap Err (one_fault n f g h k),
+)
+
+-- the answer for a geometry is that for no fault
+pub answer-shape : (A : Type 0) (v : A) (n : Numbers) → IsShape n → (g : ShapeFault) →
+    let answer : Result A ShapeFault = Ok v in
+    let other : Result A ShapeFault = Err g in
+    (answer ≡ other → IsFault n g) × (IsFault n g → answer ≡ other)
+answer-shape A v n h g = (λ e. cc, λ k. absurd (no_fault n g h k))

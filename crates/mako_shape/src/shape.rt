@@ -37,7 +37,6 @@ impl Shape {
     ghost use Rattle.mako_shape.specs.Limits.{IsShape, IsFault};
 
     /// The geometry of these numbers. The faults are looked for in the order of `ShapeFault`.
-    #[tactic(auto, using(crate::proofs::Ranges::all_in_range))]
     pub fn new(numbers: Numbers) -> Result<Shape, ShapeFault>
         ensures shape { IfOk result (λ s. (s ≡ numbers) × IsShape s) }
         ensures fault { (f : ShapeFault) → (result ≡ Err f) ↔ IsFault numbers f }

@@ -1,4 +1,4 @@
-use Rattle.std.proofs.Common.{◌≡◌, ◌+◌, ◌*◌, ap, ◌∙◌, arith}
+use Rattle.std.proofs.Common.{◌≡◌, ◌+◌, ◌*◌, ◌<◌, ap, ◌∙◌, arith}
 use Rattle.mako_shape.specs.declared.numbers.Numbers.{Numbers}
 use Rattle.mako_shape.specs.Places.{start, total}
 use Rattle.mako_shape.proofs.Rows.{row-below}
@@ -11,3 +11,11 @@ returns-clause-below c =
     c.regions_start.ensures ∙ ap (λ (n : Numbers). start n 17) c.numbers-numbers.ensures.numbers
     in
     rw c.numbers-numbers.ensures.numbers (omega (arith, row-below c.args.region c.args.self.now.words 0 (c.args.self.now.servers * (c.args.self.now.tablets + c.args.self.now.spare)) c.requires.0 c.requires.1))
+
+pub overflow_mul-result : goal.overflow_mul-result
+unfolding total
+overflow_mul-result c =
+    let row : c.args.region * c.args.self.now.words + 0 < c.args.self.now.servers * (c.args.self.now.tablets + c.args.self.now.spare) * c.args.self.now.words =
+    row-below c.args.region c.args.self.now.words 0 (c.args.self.now.servers * (c.args.self.now.tablets + c.args.self.now.spare)) c.requires.0 c.requires.1
+    in
+    rw c.numbers-numbers.ensures.numbers (omega arith)
