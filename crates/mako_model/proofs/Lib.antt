@@ -4,5 +4,7 @@ pub mod DeadApart
 pub mod Histories
 pub mod Lists
 pub mod Lookups
+pub mod ObjectsIn
 pub mod Pieces
+pub mod RootsIn
 pub mod Splits

@@ -3,6 +3,7 @@ pub mod Dead
 pub mod Freed
 pub mod Fronts
 pub mod Heaps
+pub mod Immortals
 pub mod Journals
 pub mod Laws
 pub mod Lawful
