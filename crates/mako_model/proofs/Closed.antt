@@ -54,13 +54,15 @@ same_objects names made h none are = subst (λ m. AreObjects m h) (sym (ap (λ m
 
 written_objects : (names : List Name) (h : Heap) (x : Name) (old fields : List Value) → fields_of h x ≡ Some old → AreObjects names h → AreObjects names (with_fields h x fields)
 written_objects names h x old fields is are y = (
-    (λ c. has_still h x fields y ((are y).0 c)),
-    (λ has. ⊎_elim (λ t. (are y).1 (subst (HasObject h) (sym t) (old, is))) (λ t. (are y).1 t) (has_cases h x fields y has)))
+  (λ c. has_still h x fields y ((are y).0 c)),
+  (λ has. ⊎_elim (λ t. (are y).1 (subst (HasObject h) (sym t) (old, is))) (λ t. (are y).1 t) (has_cases h x fields y has)),
+)
 
 made_objects : (names : List Name) (h : Heap) (x : Name) (fields : List Value) → AreObjects names h → AreObjects (names ++ x ∷ []) (with_fields h x fields)
 made_objects names h x fields are y = (
-    (λ c. ⊎_elim (λ t. has_still h x fields y ((are y).0 t)) (λ t. subst (HasObject (with_fields h x fields)) t (has_new h x fields)) (Contains-push_cases names x y c)),
-    (λ has. ⊎_elim (λ t. subst (Contains (names ++ x ∷ [])) (sym t) (Contains-push names x)) (λ t. Contains-append_left names (x ∷ []) y ((are y).1 t)) (has_cases h x fields y has)))
+  (λ c. ⊎_elim (λ t. has_still h x fields y ((are y).0 t)) (λ t. subst (HasObject (with_fields h x fields)) t (has_new h x fields)) (Contains-push_cases names x y c)),
+  (λ has. ⊎_elim (λ t. subst (Contains (names ++ x ∷ [])) (sym t) (Contains-push names x)) (λ t. Contains-append_left names (x ∷ []) y ((are y).1 t)) (has_cases h x fields y has)),
+)
 
 more_objects : (names : List Name) (h after : Heap) (made : List Name) → Change h after made → AreObjects names h → AreObjects (names ++ made) after
 more_objects names h after made (Nothing e none) are = subst (AreObjects (names ++ made)) (sym e) (same_objects names made h none are)
@@ -87,8 +89,9 @@ none_contains x c = let l : c.0 < 0 = c.1 in omega arith
 opening_objects : (w : Workload) → AreObjects (board_name ∷ []) (opening_of w)
 opening_objects w x =
     let bare : Heap = record { objects = map.empty; roots = (opening_of w).roots; snaps = 0; cycles = w.cycles } in (
-    (λ c. ⊎_elim (λ t. absurd (none_contains x t)) (λ t. subst (HasObject (opening_of w)) t (has_new bare board_name (replicate w.board Null))) (Contains-push_cases [] board_name x c)),
-    (λ has. ⊎_elim (λ t. subst (Contains (board_name ∷ [])) (sym t) (Contains-push [] board_name)) (λ t. absurd (empty_has bare x refl t)) (has_cases bare board_name (replicate w.board Null) x has)))
+      (λ c. ⊎_elim (λ t. absurd (none_contains x t)) (λ t. subst (HasObject (opening_of w)) t (has_new bare board_name (replicate w.board Null))) (Contains-push_cases [] board_name x c)),
+      (λ has. ⊎_elim (λ t. subst (Contains (board_name ∷ [])) (sym t) (Contains-push [] board_name)) (λ t. absurd (empty_has bare x refl t)) (has_cases bare board_name (replicate w.board Null) x has)),
+    )
 
 -- in a legal history the names made are those of the objects
 pub made_are_objects : (w : Workload) (history : List Point) → IsLegal w history → (x : Name) → Contains (names_made history) x ↔ HasObject (state_of w history) x
@@ -109,13 +112,12 @@ opening_root (suc mutators) roots zero zero x e = same_ref board_name x (same_So
 opening_root (suc mutators) roots zero (suc q) x e = absurd (no_null_ref x (get_replicate (roots - 1) q Null (Ref x) e))
 opening_root (suc mutators) roots (suc m) q x e = opening_root mutators roots m q x e
 
-
 -- a value at hand names an object
 hand_has : (h : Heap) (v : Value) (x : Name) → IsClosed h → IsAtHand h v → v ≡ Ref x → HasObject h x
 hand_has h v x closed at e =
     ⊎_elim (λ plain. absurd (subst IsNoRef e plain))
     (λ held. ⊎_elim (λ t. closed.roots t.0 t.1 x (t.2 ∙ ap (λ (u : Value). Some u) e))
-      (λ t. closed.fields t.3.0 x (t.3.1, t.2, t.3.2.fields_are, t.3.3 ∙ ap (λ (u : Value). Some u) e)) held) at
+    (λ t. closed.fields t.3.0 x (t.3.1, t.2, t.3.2.fields_are, t.3.3 ∙ ap (λ (u : Value). Some u) e)) held) at
 
 closed_rooted : (h : Heap) (m q : ℕ) (v : Value) → IsClosed h → ((x : Name) → v ≡ Ref x → HasObject h x) → IsClosed (with_root h m q v)
 closed_rooted h m q v closed names = record {
@@ -141,8 +143,8 @@ closed_changed h after made (Written m q name fields i v refers at e none) close
 closed_changed h after made (New m q name fields root fresh e one) closed =
     let nulls = replicate fields Null in
     subst IsClosed (sym e) (closed_rooted (with_fields h name nulls) m q (Ref name)
-      (closed_written h name nulls closed (λ i y is. absurd (no_null_ref y (get_replicate fields i Null (Ref y) is))))
-      (λ x is. subst (HasObject (with_fields h name nulls)) (same_ref name x is) (has_new h name nulls)))
+    (closed_written h name nulls closed (λ i y is. absurd (no_null_ref y (get_replicate fields i Null (Ref y) is))))
+    (λ x is. subst (HasObject (with_fields h name nulls)) (same_ref name x is) (has_new h name nulls)))
 
 closed_opening : (w : Workload) → IsClosed (opening_of w)
 closed_opening w =

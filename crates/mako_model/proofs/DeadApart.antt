@@ -36,7 +36,7 @@ module _ (lost : Name → Type 0) where
   not_at_hand h v x apart at e =
       ⊎_elim (λ plain. absurd (subst IsNoRef e plain))
       (λ held. ⊎_elim (λ t. apart.roots t.0 t.1 x (t.2 ∙ ap (λ (u : Value). Some u) e))
-        (λ t. apart.fields t.3.0 x (t.3.1, t.2, t.3.2.fields_are, t.3.3 ∙ ap (λ (u : Value). Some u) e) (apart.roots t.0 t.1 t.3.0 t.3.2.root_is)) held) at
+      (λ t. apart.fields t.3.0 x (t.3.1, t.2, t.3.2.fields_are, t.3.3 ∙ ap (λ (u : Value). Some u) e) (apart.roots t.0 t.1 t.3.0 t.3.2.root_is)) held) at
 
   apart_rooted : (h : Heap) (m q : ℕ) (v : Value) → StandApart lost h → ((x : Name) → v ≡ value.Ref x → ¬ lost x) → StandApart lost (with_root h m q v)
   apart_rooted h m q v apart names = record {
@@ -61,12 +61,12 @@ module _ (lost : Name → Type 0) where
       subst (StandApart lost) (sym e) (apart_rooted h m q v apart (λ x is. not_at_hand h v x apart at is))
   apart_changed h after made (Written m q name fields i v refers at e none) apart =
       subst (StandApart lost) (sym e) (apart_written h name (set fields i v) apart (λ kept j y is.
-        ⊎_elim (λ t. not_at_hand h v y apart at t.1) (λ t. apart.fields name y (fields, j, refers.fields_are, t.1) kept) (get_set_cases fields i j v (value.Ref y) is)))
+      ⊎_elim (λ t. not_at_hand h v y apart at t.1) (λ t. apart.fields name y (fields, j, refers.fields_are, t.1) kept) (get_set_cases fields i j v (value.Ref y) is)))
   apart_changed h after made (New m q name fields root fresh e one) apart =
       let nulls = replicate fields value.Null in
       subst (StandApart lost) (sym e) (apart_rooted (with_fields h name nulls) m q (value.Ref name)
-        (apart_written h name nulls apart (λ kept i y is. absurd (no_null_ref y (get_replicate fields i value.Null (value.Ref y) is))))
-        (λ x is is_lost. none-some _ (sym fresh ∙ ap (fields_of h) (same_ref name x is) ∙ (apart.made x is_lost).1)))
+      (apart_written h name nulls apart (λ kept i y is. absurd (no_null_ref y (get_replicate fields i value.Null (value.Ref y) is))))
+      (λ x is is_lost. none-some _ (sym fresh ∙ ap (fields_of h) (same_ref name x is) ∙ (apart.made x is_lost).1)))
 
   -- they stay apart through all lawful points
   pub apart_along : (h : Heap) (points : List Point) → AreLawful h points → StandApart lost h → StandApart lost (fold heap_after h points)
@@ -145,7 +145,7 @@ snap_stands_along h (Did m c r ∷ points) cycle all low high =
 snap_stands_along h (Snap c ∷ points) cycle all low high =
     ⊎_elim (λ e. ([], points, ap (λ k. Snap k ∷ points) (all.0.0 ∙ e)))
     (λ later. let rest = snap_stands_along (record h { snaps = h.snaps + 1 }) points cycle all.1 later high in
-      (Snap c ∷ rest.0, rest.1, ap (λ ps. Snap c ∷ ps) rest.2))
+    (Snap c ∷ rest.0, rest.1, ap (λ ps. Snap c ∷ ps) rest.2))
     (at_or_after (h.snaps + 1) cycle (omega arith))
 
 pub snap_stands : (w : Workload) (history : List Point) (cycle : ℕ) → IsLegal w history → 0 < cycle → cycle ≤ (state_of w history).snaps
@@ -193,9 +193,10 @@ lost_stay_apart w before more legal =
 
 -- and stays lost
 pub lost_stay : (w : Workload) (before more : List Point) (x : Name) → IsLegal w (before ++ more) → IsLost w before x → IsLost w (before ++ more) x
-lost_stay w before more x legal lost =
-    (made_stays before more x lost.0,
-      (λ reached. never_reached (IsLost w before) (state_of w (before ++ more)) (lost_stay_apart w before more legal) x reached lost))
+lost_stay w before more x legal lost = (
+  made_stays before more x lost.0,
+  (λ reached. never_reached (IsLost w before) (state_of w (before ++ more)) (lost_stay_apart w before more legal) x reached lost),
+)
 
 lost_later : (w : Workload) (before more after : List Point) (x : Name) → IsLegal w after → after ≡ before ++ more → IsLost w before x → IsLost w after x
 lost_later w before more after x legal e lost = subst (λ ps. IsLost w ps x) (sym e) (lost_stay w before more x (subst (IsLegal w) e legal) lost)

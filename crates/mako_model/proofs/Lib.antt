@@ -1,6 +1,8 @@
+pub mod Beginnings
 pub mod Changes
 pub mod Closed
 pub mod DeadApart
+pub mod FreedLists
 pub mod Histories
 pub mod Lists
 pub mod Lookups

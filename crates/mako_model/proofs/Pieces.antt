@@ -31,9 +31,9 @@ module _ {A : Type 0} where
   pub pieces_push : (xs ys : List A) (start : ℕ) (ends : List ℕ) → RiseTo start ends (length xs) → pieces (xs ++ ys) start (ends ++ (length xs + length ys) ∷ []) ≡ pieces xs start ends ++ ys ∷ []
   pieces_push xs ys start [] rise =
       ap (λ (zs : List A). zs ∷ []) (
-        ap (λ (n : ℕ). take (length xs + length ys - n) (drop n (xs ++ ys))) rise
-        ∙ ap (λ (zs : List A). take (length xs + length ys - length xs) zs) (drop-append_seam xs ys)
-        ∙ take_all _ ys (omega arith))
+      ap (λ (n : ℕ). take (length xs + length ys - n) (drop n (xs ++ ys))) rise
+      ∙ ap (λ (zs : List A). take (length xs + length ys - length xs) zs) (drop-append_seam xs ys)
+      ∙ take_all _ ys (omega arith))
   pieces_push xs ys start (end ∷ ends) rise =
       let le = rise_le end ends (length xs) rise.1 in
       let first : start ≤ end = rise.0 in
@@ -56,7 +56,6 @@ module _ {A : Type 0} where
   pieces_length xs start [] = refl
   pieces_length xs start (end ∷ ends) = ap suc (pieces_length xs end ends)
 
-
   pub pieces_at : (xs : List A) (start : ℕ) (ends : List ℕ) (i d : ℕ) → i < length ends → slice_get (pieces xs start ends) i ≡ Some (take (get_or ends i d - start_of start ends i) (drop (start_of start ends i) xs))
   pieces_at xs start [] i d l = absurd (omega arith)
   pieces_at xs start (end ∷ ends) zero d l = refl
@@ -75,7 +74,7 @@ module _ {A : Type 0} where
   rise_pushed xs ys xs' ends ends' rise names are =
       let long : length xs + length ys ≡ length xs' = sym (ap length names ∙ length-append xs ys) in
       subst (λ es. RiseTo 0 es (length xs')) (sym are) (subst (λ n. RiseTo 0 (ends ++ n ∷ []) (length xs')) (sym long)
-        (rise_push 0 ends (length xs) (length xs') rise (omega arith)))
+      (rise_push 0 ends (length xs) (length xs') rise (omega arith)))
 
   pub pieces_pushed : (xs ys xs' : List A) (ends ends' : List ℕ) → RiseTo 0 ends (length xs) → xs' ≡ xs ++ ys → ends' ≡ ends ++ (length xs + length ys) ∷ [] → pieces xs' 0 ends' ≡ pieces xs 0 ends ++ ys ∷ []
   pieces_pushed xs ys xs' ends ends' rise names are =

@@ -1,5 +1,5 @@
 -- Histories and fronts.
-use Rattle.std.specs.Prelude.{ℕ, ◌≡◌, ◌==◌, List, [], ◌∷◌, ◌++◌, map, slice_get, Some, if◌then◌else◌}
+use Rattle.std.specs.Prelude.{ℕ, ◌≡◌, ◌≤◌, ◌==◌, length, List, [], ◌∷◌, ◌++◌, map, slice_get, Some, if◌then◌else◌}
 use Rattle.mako_words.specs.declared.name.Name.{Name}
 use Rattle.mako_model.specs.declared.call.Call.{Call}
 use Rattle.mako_model.specs.declared.reply.Reply.{Reply}
@@ -33,3 +33,8 @@ StartsWith {A} whole front = (rest : List A) × (whole ≡ front ++ rest)
 abbrev pub FollowsPrograms : List (List Call) → List Point → Type 0
 FollowsPrograms programs history =
     (m : ℕ) (program : List Call) → slice_get programs m ≡ Some program → StartsWith program (calls_by m history)
+
+-- its history begins with the other's, and it has at least as many finished cycles
+pub record BeginsWith (whole front : Seen) : Type 0 where
+  pub history : StartsWith whole.history front.history
+  pub cycles : length front.cycles ≤ length whole.cycles

@@ -31,7 +31,7 @@ pub record AreSpent (w : Workload) (before : List Point) (cycle : ℕ) : Type 0 
 abbrev pub IsEntryTaken : Workload → Seen → List Point → ℕ → ℕ → Type 0
 IsEntryTaken w front before cycle entry =
     ((generation : ℕ) × Contains (names_made before) (record { entry = entry; generation = generation })
-        × ¬ IsDead w front.history cycle (record { entry = entry; generation = generation }))
+    × ¬ IsDead w front.history cycle (record { entry = entry; generation = generation }))
     ⊎ Contains (names_made before) (record { entry = entry; generation = w.generations - 1 })
 
 -- how many words the object takes that a point makes in the tablet

@@ -287,7 +287,10 @@ impl Immortal {
         requires value { HasRoot self.old mutator from }
         ensures { self.new ≡ with_field self.old (root_of self.old mutator to) field (root_of self.old mutator from) }
     {
-        if let (Some(Value::Ref(name)), Some(value)) = (self.roots.get(mutator, to), self.roots.get(mutator, from)) {
+        if let (Some(Value::Ref(name)), Some(value)) = (
+            self.roots.get(mutator, to),
+            self.roots.get(mutator, from),
+        ) {
             self.objects.write(name, field as usize, value);
         }
     }

@@ -8,6 +8,7 @@ mod event;
 mod front;
 mod immortal;
 mod journal;
+pub mod laws;
 mod objects;
 mod outcome;
 mod point;
