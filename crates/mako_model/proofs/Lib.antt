@@ -9,4 +9,5 @@ pub mod Lookups
 pub mod ObjectsIn
 pub mod Pieces
 pub mod RootsIn
+pub mod Searching
 pub mod Splits

@@ -11,4 +11,5 @@ pub mod LawfulFronts
 pub mod Legal
 pub mod Outcomes
 pub mod Reachable
+pub mod Searches
 pub mod Starved

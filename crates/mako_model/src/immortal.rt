@@ -3,7 +3,7 @@
 ghost use Rattle.std.specs.Prelude.{◌≡◌, ◌<◌, ◌↔◌, ℕ, List, length, replicate, slice_get, slice_set, if◌then◌else◌, IfOk, OnOk, OnErr, IsTrue, Some, is_some};
 ghost use Rattle.std.specs.Option.{option_map};
 ghost use Rattle.mako_words.specs.declared.value.Value.TheVariants.{Null, Ref};
-ghost use Rattle.mako_model.specs.Heaps.{Heap, fields_of, root_of, with_root, with_fields, opening};
+ghost use Rattle.mako_model.specs.Heaps.{Heap, fields_of, roots_of, root_of, with_root, with_fields, opening};
 ghost use Rattle.mako_model.specs.Lawful.{HasRoot, HoldsNoRef, HasField, HasMoreFields, HasNoMoreFields, IsLawful, IsLawfulReply, heap_after, heap_replied, with_field};
 ghost use Rattle.mako_model.specs.Immortals.{fields_named};
 
@@ -81,6 +81,28 @@ impl Immortal {
             self.change(point)?;
         }
         Ok(lawful)
+    }
+
+    /// The number of mutators.
+    pub fn mutators(&self) -> usize
+        ensures { result ≡ length self.now.roots }
+    {
+        self.roots.len()
+    }
+
+    /// The roots of a mutator.
+    pub fn roots_of(&self, mutator: usize) -> &[Value]
+        requires { mutator < length self.now.roots }
+        ensures { result.now ≡ roots_of self.now mutator }
+    {
+        self.roots.row(mutator)
+    }
+
+    /// The fields of an object.
+    pub fn fields_of(&self, name: Name) -> Option<&[Value]>
+        ensures { option_map (λ fields. fields.now) result ≡ fields_of self.now name }
+    {
+        self.objects.get(name)
     }
 
     /// Whether the point is lawful next.

@@ -14,6 +14,7 @@ mod outcome;
 mod point;
 mod reply;
 mod roots;
+mod search;
 
 pub use attempt::{Attempt, Pause};
 pub use call::Call;
@@ -27,3 +28,4 @@ pub use outcome::Outcome;
 pub use point::Point;
 pub use reply::Reply;
 pub use roots::Roots;
+pub use search::reach;

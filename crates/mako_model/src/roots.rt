@@ -52,6 +52,14 @@ impl Roots {
         }
     }
 
+    /// The roots of a mutator.
+    pub fn row(&self, mutator: usize) -> &[Value]
+        requires { mutator < length self.now }
+        ensures { result.now ≡ slice_index_or self.now mutator [] }
+    {
+        &self.rows[mutator]
+    }
+
     /// The root of the mutator becomes the value.
     pub fn set(&mut self, mutator: u8, root: u8, value: Value)
         requires mutator { mutator < length self.old }
