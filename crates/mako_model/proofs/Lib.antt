@@ -3,6 +3,7 @@ pub mod Changes
 pub mod Closed
 pub mod DeadApart
 pub mod FreedLists
+pub mod Growth
 pub mod Histories
 pub mod Lists
 pub mod Lookups

@@ -29,3 +29,6 @@ pub use point::Point;
 pub use reply::Reply;
 pub use roots::Roots;
 pub use search::reach;
+
+#[cfg(test)]
+mod tests;
