@@ -84,14 +84,14 @@ impl Immortal {
     }
 
     /// The number of mutators.
-    pub fn mutators(&self) -> usize
+    pub(crate) fn mutators(&self) -> usize
         ensures { result ≡ length self.now.roots }
     {
         self.roots.len()
     }
 
     /// The roots of a mutator.
-    pub fn roots_of(&self, mutator: usize) -> &[Value]
+    pub(crate) fn roots_of(&self, mutator: usize) -> &[Value]
         requires { mutator < length self.now.roots }
         ensures { result.now ≡ roots_of self.now mutator }
     {
@@ -99,7 +99,7 @@ impl Immortal {
     }
 
     /// The fields of an object.
-    pub fn fields_of(&self, name: Name) -> Option<&[Value]>
+    pub(crate) fn fields_of(&self, name: Name) -> Option<&[Value]>
         ensures { option_map (λ fields. fields.now) result ≡ fields_of self.now name }
     {
         self.objects.get(name)

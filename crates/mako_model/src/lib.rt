@@ -23,11 +23,9 @@ pub use event::Event;
 pub use front::Front;
 pub use immortal::Immortal;
 pub use journal::Journal;
-pub use objects::Objects;
 pub use outcome::Outcome;
 pub use point::Point;
 pub use reply::Reply;
-pub use roots::Roots;
 pub use search::reach;
 
 #[cfg(test)]
