@@ -1,5 +1,5 @@
 -- To begin with a front is reflexive and transitive.
-use Rattle.std.proofs.Common.{◌≡◌, ℕ, List, [], ◌++◌, length, sym, ap, refl, ◌∙◌, arith, append-nil, append_assoc}
+use Rattle.std.proofs.Common.{List, [], ◌++◌, sym, ap, ◌∙◌, arith, append-nil, append_assoc}
 use Rattle.mako_model.specs.Fronts.{Seen, StartsWith, BeginsWith}
 
 pub starts_with_itself : {A : Type 0} (xs : List A) → StartsWith xs xs

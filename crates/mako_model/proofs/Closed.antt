@@ -1,18 +1,17 @@
 -- The names made are those of the objects, and each name that stands anywhere is one of them.
-use Rattle.std.proofs.Common.{◌≡◌, ◌≢◌, ℕ, zero, suc, ◌-◌, ◌+◌, ◌<◌, ◌⊎◌, inl, inr, ⊎_elim, ◌↔◌, List, [], ◌∷◌, ◌++◌, Contains, flat_map, set, replicate, slice_get, Some, None, sym, ap, subst, refl, ◌∙◌, arith, append-nil, append_assoc}
+use Rattle.std.proofs.Common.{◌≡◌, ℕ, zero, suc, ◌-◌, ◌<◌, ◌⊎◌, inl, inr, ⊎_elim, ◌↔◌, List, [], ◌∷◌, ◌++◌, Contains, flat_map, set, replicate, slice_get, Some, sym, ap, subst, refl, ◌∙◌, arith, append-nil, append_assoc}
 use Rattle.std.specs.List.{fold}
 use Rattle.std.specs.FinMap as map
 use Rattle.std.proofs.lemmas.List.Elements.{Contains-append_left, Contains-push, Contains-push_cases}
 use Rattle.std.proofs.lemmas.Option.{same_Some, none-some}
 use Rattle.mako_words.specs.declared.name.Name.{Name}
 use Rattle.mako_words.specs.declared.value.Value.{Value}
-use Rattle.mako_words.specs.declared.value.Value.TheVariants.{Null, Num, Ref}
+use Rattle.mako_words.specs.declared.value.Value.TheVariants.{Null, Ref}
 use Rattle.mako_words.specs.Names.{name_cmp}
 use Rattle.mako_model.specs.declared.point.Point.{Point}
-use Rattle.mako_model.specs.Heaps.{Heap, fields_of, root_of, with_root, with_fields, board_name, opening_roots, opening}
-use Rattle.mako_model.specs.Lawful.{HasRoot, RefersTo, HasField, IsNoRef, IsLawful, heap_after}
+use Rattle.mako_model.specs.Heaps.{Heap, fields_of, with_root, with_fields, board_name, opening_roots}
+use Rattle.mako_model.specs.Lawful.{IsNoRef, IsLawful, heap_after}
 use Rattle.mako_model.specs.Legal.{Workload, opening_of, state_of, AreLawful, IsLegal}
-use Rattle.mako_model.specs.Reachable.{StandsInField}
 use Rattle.mako_model.specs.Dead.{made_by, names_made}
 use Rattle.mako_model.specs.Laws.{HasObject, IsClosed}
 use Rattle.mako_model.proofs.Lists.{get_set_cases, get_replicate, cell}

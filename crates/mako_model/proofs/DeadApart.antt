@@ -1,5 +1,5 @@
 -- What was not reachable at a snapshot stays apart: nothing else ever leads to it again.
-use Rattle.std.proofs.Common.{◌≡◌, ◌≢◌, ℕ, zero, suc, ◌+◌, ◌<◌, ◌≤◌, ◌⊎◌, inl, inr, ⊎_elim, List, [], ◌∷◌, ◌++◌, Contains, set, replicate, slice_get, Option, Some, None, sym, ap, subst, refl, ◌∙◌, arith, append-nil, append_assoc, eq-or-lt_of_le}
+use Rattle.std.proofs.Common.{◌≡◌, ℕ, ◌+◌, ◌<◌, ◌≤◌, ◌⊎◌, ⊎_elim, List, [], ◌∷◌, ◌++◌, Contains, set, replicate, slice_get, Option, Some, None, sym, ap, subst, refl, ◌∙◌, arith, append-nil, eq-or-lt_of_le}
 use Rattle.std.specs.List.{fold}
 use Rattle.std.proofs.lemmas.Option.{none-some}
 use Rattle.std.proofs.lemmas.List.Sums.{fold-append}
@@ -13,16 +13,16 @@ use Rattle.mako_model.specs.declared.reply.Reply.TheVariants as reply
 use Rattle.mako_model.specs.declared.point.Point.{Point}
 use Rattle.mako_model.specs.declared.point.Point.TheVariants.{Did, Snap}
 use Rattle.mako_model.specs.Heaps.{Heap, fields_of, root_of, with_root, with_fields}
-use Rattle.mako_model.specs.Lawful.{IsNoRef, IsLawful, heap_after, heap_replied, with_field}
+use Rattle.mako_model.specs.Lawful.{IsNoRef, heap_after, heap_replied, with_field}
 use Rattle.mako_model.specs.Legal.{Workload, opening_of, state_of, AreLawful, IsLegal}
 use Rattle.mako_model.specs.Reachable.{StandsInField, LeadsTo, IsReachable}
 use Rattle.mako_model.specs.Dead.{made_by, names_made, IsDead}
 use Rattle.mako_model.specs.Laws.{HasObject, DeadStandApart}
 use Rattle.mako_model.proofs.Lists.{get_set_cases, get_replicate}
-use Rattle.mako_model.proofs.Lookups.{name_cases, fields_cases, root_cases}
+use Rattle.mako_model.proofs.Lookups.{fields_cases, root_cases}
 use Rattle.mako_model.proofs.Changes.{Change, Nothing, Snapped, Rooted, Written, New, IsAtHand, change_of}
 use Rattle.mako_model.proofs.Histories.{lawful_rest, legal_front, legal_at, kept_along, made_stays}
-use Rattle.mako_model.proofs.Closed.{object_stays, made_are_objects, has_new, has_still, no_null_ref, same_ref}
+use Rattle.mako_model.proofs.Closed.{made_are_objects, has_still, no_null_ref, same_ref}
 use Rattle.mako_model.proofs.Splits.{split_of_append}
 
 -- the names of these objects stand in no root, and in no field of any other object

@@ -9,7 +9,7 @@ use Rattle.std.proofs.lemmas.Map.Made.{Contains-tail}
 use Rattle.std.proofs.lemmas.Map.Views.{All-after_first}
 use Rattle.mako_words.specs.declared.name.Name.{Name}
 use Rattle.mako_words.specs.Names.{name_cmp}
-use Rattle.mako_words.proofs.NamesInOrder.{exact_names, names_total}
+use Rattle.mako_words.proofs.NamesInOrder.{names_total}
 use Rattle.mako_model.specs.Legal.{Workload}
 use Rattle.mako_model.specs.declared.point.Point.{Point}
 use Rattle.mako_model.specs.Dead.{AreFreed}

@@ -1,5 +1,5 @@
 -- Fronts that go on: what was dead, freed, waited for, used again or starved stays so.
-use Rattle.std.proofs.Common.{◌≡◌, ◌≢◌, ◌↔◌, ℕ, zero, suc, ◌+◌, ◌-◌, ◌<◌, ◌≤◌, ◌⊎◌, inl, inr, ⊎_elim, List, [], ◌∷◌, ◌++◌, length, Contains, slice_get, Some, None, sym, ap, subst, refl, ◌∙◌, arith, append-nil, append_assoc, length-append}
+use Rattle.std.proofs.Common.{◌≡◌, ℕ, zero, suc, ◌+◌, ◌-◌, ◌<◌, ◌≤◌, ◌⊎◌, inl, inr, ⊎_elim, List, [], ◌∷◌, ◌++◌, length, Contains, slice_get, Some, sym, ap, subst, refl, ◌∙◌, arith, append-nil, append_assoc, length-append}
 use Rattle.std.specs.List.{fold}
 use Rattle.std.proofs.lemmas.List.Elements.{Contains-append_cases, Contains-push_cases}
 use Rattle.std.proofs.lemmas.List.Sums.{fold_push}
@@ -13,14 +13,13 @@ use Rattle.mako_model.specs.declared.point.Point.TheVariants.{Did, Snap}
 use Rattle.mako_model.specs.Fronts.{Seen, FollowsPrograms}
 use Rattle.mako_model.specs.Heaps.{board_name}
 use Rattle.mako_model.specs.Lawful.{IsLawful, heap_after}
-use Rattle.mako_model.specs.Legal.{Workload, opening_of, state_of, IsLegal}
-use Rattle.mako_model.specs.Reachable.{IsReachable}
+use Rattle.mako_model.specs.Legal.{Workload, state_of, IsLegal}
 use Rattle.mako_model.specs.Dead.{made_by, names_made, IsDead, AreFreed}
 use Rattle.mako_model.specs.LawfulFronts.{since, since_next, IsInRange, WaitsAreAnswered, ReusesAreOfDead, IsLawfulFront}
-use Rattle.mako_model.specs.Starved.{IsAwaited, AreSpent, IsEntryTaken, IsTabletFull, IsStarved}
+use Rattle.mako_model.specs.Starved.{IsAwaited, AreSpent, IsEntryTaken, IsStarved}
 use Rattle.mako_model.specs.Answering.{FullsAreStarved, Answers}
 use Rattle.mako_model.proofs.Splits.{split_of_append}
-use Rattle.mako_model.proofs.Histories.{state_push, legal_push, legal_at, names_push, made_stays}
+use Rattle.mako_model.proofs.Histories.{state_push, legal_push, names_push}
 use Rattle.mako_model.proofs.DeadApart.{snap_number, snaps_grow, state_append}
 
 -- the points since a mutator's last one, with one point more

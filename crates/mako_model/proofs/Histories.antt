@@ -1,12 +1,11 @@
 -- Histories that go on, their fronts, and the names that they made.
-use Rattle.std.proofs.Common.{◌≡◌, ℕ, ◌+◌, ◌<◌, ◌≤◌, ◌⊎◌, inl, inr, ⊎_elim, List, [], ◌∷◌, ◌++◌, Contains, flat_map, Some, None, sym, ap, subst, refl, ◌∙◌, arith, append-nil, append_assoc}
+use Rattle.std.proofs.Common.{◌≡◌, List, [], ◌∷◌, ◌++◌, Contains, flat_map, sym, ap, subst, ◌∙◌, append-nil}
 use Rattle.std.specs.List.{fold}
 use Rattle.std.proofs.lemmas.List.Concat.{flat_map-append}
-use Rattle.std.proofs.lemmas.List.Elements.{Contains-append_left, Contains-append_right}
-use Rattle.std.proofs.lemmas.List.Sums.{fold_push, fold-append}
+use Rattle.std.proofs.lemmas.List.Elements.{Contains-append_left}
+use Rattle.std.proofs.lemmas.List.Sums.{fold_push}
 use Rattle.mako_words.specs.declared.name.Name.{Name}
 use Rattle.mako_model.specs.declared.point.Point.{Point}
-use Rattle.mako_model.specs.declared.point.Point.TheVariants.{Did, Snap}
 use Rattle.mako_model.specs.Heaps.{Heap, board_name}
 use Rattle.mako_model.specs.Lawful.{IsLawful, heap_after}
 use Rattle.mako_model.specs.Legal.{Workload, opening_of, state_of, AreLawful, IsLegal}

@@ -1,16 +1,15 @@
 -- What stands in a heap after one root or one object changed.
-use Rattle.std.proofs.Common.{◌≡◌, ◌≢◌, ℕ, ◌<◌, ◌-◌, ◌⊎◌, inl, inr, ⊎_elim, Bool, true, false, cond, List, [], ◌∷◌, ◌++◌, replicate, slice_get, Option, Some, None, sym, ap, refl, ◌∙◌, arith, Ordering, Less, Equal, Greater, is_eq}
+use Rattle.std.proofs.Common.{◌≡◌, ◌≢◌, ℕ, ◌⊎◌, inl, inr, ⊎_elim, true, false, cond, List, Some, sym, ap, refl, ◌∙◌, Less, Equal, Greater, is_eq}
 use Rattle.std.specs.Ordering.{eq_by_cmp}
 use Rattle.std.specs.FinMap as map
 use Rattle.std.proofs.lemmas.Cmp.{tied_itself}
-use Rattle.std.proofs.lemmas.Option.{same_Some, none-some}
+use Rattle.std.proofs.lemmas.Option.{same_Some}
 use Rattle.mako_words.specs.declared.name.Name.{Name}
 use Rattle.mako_words.specs.declared.value.Value.{Value}
-use Rattle.mako_words.specs.declared.value.Value.TheVariants.{Null, Num, Ref}
 use Rattle.mako_words.specs.Names.{name_cmp}
 use Rattle.mako_words.proofs.NamesInOrder.{exact_names, names_total}
-use Rattle.mako_model.specs.Heaps.{Heap, fields_of, root_of, roots_of, with_root, with_fields, board_name, opening_roots, opening}
-use Rattle.mako_model.proofs.Lists.{cell_same, cell_other, cell_cases, get_replicate}
+use Rattle.mako_model.specs.Heaps.{Heap, fields_of, root_of, with_root, with_fields}
+use Rattle.mako_model.proofs.Lists.{cell_same, cell_other, cell_cases}
 
 -- two names are one, or the order tells them apart
 pub name_cases : (x y : Name) → ((x ≡ y) × (eq_by_cmp name_cmp x y ≡ true)) ⊎ ((x ≢ y) × (eq_by_cmp name_cmp x y ≡ false))

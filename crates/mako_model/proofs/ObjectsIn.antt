@@ -1,5 +1,5 @@
 -- What the map that the entries give has at a name.
-use Rattle.std.proofs.Common.{◌≡◌, ℕ, ◌<◌, Bool, true, false, cond, List, [], ◌∷◌, map, length, set, unwrap_or, option_map, Option, Some, None, Vec, Global, Ordering, sym, ap, subst, refl, ◌∙◌}
+use Rattle.std.proofs.Common.{◌≡◌, Bool, true, false, cond, List, [], ◌∷◌, map, option_map, Option, Some, None, Vec, Global, sym, ap, refl, ◌∙◌}
 use Rattle.std.specs.BTreeMap.{is_at}
 use Rattle.std.specs.FinMap as finite
 use Rattle.std.specs.Map.{lookup}

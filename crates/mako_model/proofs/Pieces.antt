@@ -1,5 +1,5 @@
 -- The pieces of a list between rising ends.
-use Rattle.std.proofs.Common.{◌≡◌, ℕ, zero, suc, ◌+◌, ◌-◌, ◌<◌, ◌≤◌, List, [], ◌∷◌, ◌++◌, length, get_or, take, drop, slice_get, Some, None, sum_by, vec_capacity, sym, ap, subst, refl, ◌∙◌, arith, length-append, length-drop, length-take, drop_of_length-le, length-take-le, take_all, zero-add, add-one}
+use Rattle.std.proofs.Common.{◌≡◌, ℕ, zero, suc, ◌+◌, ◌-◌, ◌<◌, ◌≤◌, List, [], ◌∷◌, ◌++◌, length, get_or, take, drop, slice_get, Some, sum_by, vec_capacity, sym, ap, subst, refl, ◌∙◌, arith, length-append, length-drop, length-take-le, take_all, zero-add, add-one}
 use Rattle.std.proofs.Math.Seq.{drop-append_seam}
 use Rattle.std.proofs.lemmas.List.{take-append-le, drop-append-le}
 use Rattle.std.proofs.lemmas.List.Sums.{sum_by-cons}

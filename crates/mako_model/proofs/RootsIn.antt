@@ -1,5 +1,5 @@
 -- The roots that rows give, after one root changed.
-use Rattle.std.proofs.Common.{◌≡◌, ℕ, zero, suc, ◌+◌, ◌-◌, ◌<◌, ◌≤◌, List, [], ◌∷◌, ◌++◌, map, length, get_or, set, replicate, Vec, Global, sym, ap, refl, ◌∙◌, arith, suc-add}
+use Rattle.std.proofs.Common.{◌≡◌, ℕ, zero, suc, ◌+◌, ◌<◌, List, [], ◌∷◌, ◌++◌, map, length, get_or, set, replicate, Vec, Global, sym, ap, refl, ◌∙◌, arith, suc-add}
 use Rattle.std.specs.Vec.{with_item}
 use Rattle.std.proofs.lemmas.List.{map-set}
 use Rattle.mako_words.specs.declared.value.Value.{Value}

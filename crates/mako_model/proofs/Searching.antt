@@ -14,7 +14,7 @@ use Rattle.mako_words.specs.declared.name.Name.{Name}
 use Rattle.mako_words.specs.declared.value.Value.{Value}
 use Rattle.mako_words.specs.declared.value.Value.TheVariants.{Null, Num, Ref}
 use Rattle.mako_words.specs.Names.{name_cmp}
-use Rattle.mako_words.proofs.NamesInOrder.{exact_names, names_total}
+use Rattle.mako_words.proofs.NamesInOrder.{names_total}
 use Rattle.mako_model.specs.Heaps.{Heap, fields_of, roots_of, root_of}
 use Rattle.mako_model.specs.Reachable.{StandsInField, LeadsTo, IsReachable}
 use Rattle.mako_model.specs.Searches.{AreSame, added, expanded, AreRootsFound, AreFieldsFound, AreReachable}

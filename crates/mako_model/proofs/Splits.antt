@@ -1,5 +1,5 @@
 -- Where an element of a list stands, in a list that is two lists joined.
-use Rattle.std.proofs.Common.{◌≡◌, ◌⊎◌, inl, inr, ⊎_elim, List, [], ◌∷◌, ◌++◌, sym, ap, ap₂, refl, ◌∙◌}
+use Rattle.std.proofs.Common.{◌≡◌, ◌⊎◌, inl, inr, ⊎_elim, List, [], ◌∷◌, ◌++◌, sym, ap, refl}
 
 module _ {A : Type 0} where
   -- it stands in the first list, or in the second

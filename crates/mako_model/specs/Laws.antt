@@ -1,16 +1,13 @@
 -- What is true of each legal history.
-use Rattle.std.specs.Prelude.{ℕ, ◌≡◌, ◌≤◌, ◌↔◌, List, ◌++◌, Some}
-use Rattle.std.specs.List.{Contains}
+use Rattle.std.specs.Prelude.{ℕ, ◌≡◌, List, Some}
 use Rattle.mako_words.specs.declared.name.Name.{Name}
 use Rattle.mako_words.specs.declared.value.Value.{Value}
 use Rattle.mako_words.specs.declared.value.Value.TheVariants.{Ref}
 use Rattle.mako_model.specs.declared.point.Point.{Point}
-use Rattle.mako_model.specs.Fronts.{StartsWith}
 use Rattle.mako_model.specs.Heaps.{Heap, fields_of, root_of}
-use Rattle.mako_model.specs.Lawful.{IsLawful}
-use Rattle.mako_model.specs.Legal.{Workload, state_of, IsLegal}
+use Rattle.mako_model.specs.Legal.{Workload, state_of}
 use Rattle.mako_model.specs.Reachable.{StandsInField}
-use Rattle.mako_model.specs.Dead.{names_made, IsDead}
+use Rattle.mako_model.specs.Dead.{IsDead}
 
 -- there is an object of this name
 abbrev pub HasObject : Heap → Name → Type 0

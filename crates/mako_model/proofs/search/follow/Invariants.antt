@@ -1,4 +1,4 @@
-use Rattle.std.proofs.Common.{◌≡◌, ◌-◌, ◌≤◌, ◌^◌, length}
+use Rattle.std.proofs.Common.{◌-◌, ◌≤◌, ◌^◌, length}
 use Rattle.mako_model.specs.Searches.{AreSame, AreRootsFound, AreFieldsFound, AreReachable}
 use Rattle.mako_model.proofs.search.follow.Given as goal
 

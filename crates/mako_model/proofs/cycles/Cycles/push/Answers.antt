@@ -1,4 +1,4 @@
-use Rattle.std.proofs.Common.{◌≡◌, ◌+◌, ◌++◌, ◌∷◌, [], length, ap, ◌∙◌, arith}
+use Rattle.std.proofs.Common.{◌++◌, ◌∷◌, [], length, ap, ◌∙◌, arith}
 use Rattle.std.proofs.lemmas.Grind.{common_steps}
 use Rattle.mako_model.proofs.Pieces.{room_left, cycle_left, rise_pushed, pieces_pushed}
 use Rattle.mako_model.proofs.cycles.Cycles.push.Goals as goal

@@ -1,4 +1,4 @@
-use Rattle.std.proofs.Common.{ap, sym, ◌∙◌, arith, rules, length, set, unwrap_or, subst, IsSome, refl, []}
+use Rattle.std.proofs.Common.{ap, sym, ◌∙◌, arith, length, set, unwrap_or, subst, IsSome, refl, []}
 use Rattle.std.specs.FinMap as finite
 use Rattle.std.specs.Vec.{with_item}
 use Rattle.mako_model.specs.Immortals.{objects_in}

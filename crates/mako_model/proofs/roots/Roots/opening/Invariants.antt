@@ -1,4 +1,4 @@
-use Rattle.std.proofs.Common.{◌≡◌, replicate, map}
+use Rattle.std.proofs.Common.{◌≡◌, replicate}
 use Rattle.mako_model.specs.Heaps.{opening_roots}
 use Rattle.mako_model.specs.Immortals.{roots_in}
 use Rattle.mako_model.proofs.roots.Roots.opening.Given as goal

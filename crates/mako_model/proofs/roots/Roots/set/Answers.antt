@@ -1,4 +1,4 @@
-use Rattle.std.proofs.Common.{Vec, Global, map, length, set, get_or, ap, ◌∙◌, [], arith}
+use Rattle.std.proofs.Common.{Vec, Global, length, set, get_or, ap, ◌∙◌, [], arith}
 use Rattle.std.proofs.lemmas.List.{length-map}
 use Rattle.mako_words.specs.declared.value.Value.{Value}
 use Rattle.mako_model.proofs.RootsIn.{set_in}
