@@ -5,3 +5,5 @@ pub mod Texts
 pub mod Forms
 pub mod Reading
 pub mod Answers
+pub mod Outputs
+pub mod Written

@@ -8,6 +8,7 @@ mod form;
 mod lines;
 mod names;
 mod numbers;
+mod output;
 mod program;
 mod reading;
 mod refusal;
