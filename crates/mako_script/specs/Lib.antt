@@ -7,3 +7,4 @@ pub mod Reading
 pub mod Answers
 pub mod Outputs
 pub mod Written
+pub mod Workloads

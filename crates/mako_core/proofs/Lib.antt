@@ -1,0 +1,10 @@
+mod AnswerLaws
+mod AreaOrder
+mod Frames
+mod HeapLaws
+mod Indexes
+mod Laws
+mod MadeLaws
+mod Openings
+mod RunLaws
+mod StepLaws

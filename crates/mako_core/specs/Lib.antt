@@ -1,0 +1,4 @@
+pub mod Commands
+pub mod Cores
+pub mod Runs
+pub mod StandsFor

@@ -1,0 +1,11 @@
+//! The core: the words of the heap, and the commands of a script carried out on them.
+#![tactic(auto)]
+
+mod access;
+mod commands;
+mod core_state;
+mod flat_words;
+mod making;
+
+pub use core_state::Core;
+pub use flat_words::FlatWords;

@@ -1,0 +1,17 @@
+-- What the plain heap needs of a script.
+use Rattle.std.specs.Prelude.{◌*◌, map}
+use Rattle.mako_model.specs.Legal.{Workload}
+use Rattle.mako_script.specs.Scripts.{ScriptView}
+
+abbrev pub workload_of : ScriptView → Workload
+workload_of s = record {
+  mutators = s.numbers.mutators;
+  roots = s.numbers.roots;
+  board = s.board;
+  tablets = s.numbers.servers * s.numbers.tablets;
+  entries = s.numbers.entries;
+  words = s.numbers.words;
+  cycles = s.numbers.cycles;
+  generations = s.numbers.generations;
+  programs = map (λ p. p.calls) s.programs;
+}
