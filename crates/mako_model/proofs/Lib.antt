@@ -12,3 +12,4 @@ pub mod Pieces
 pub mod RootsIn
 pub mod Searching
 pub mod Splits
+pub mod Tied

@@ -1,5 +1,6 @@
 pub mod Answering
 pub mod Dead
+pub mod Examples
 pub mod Freed
 pub mod Fronts
 pub mod Heaps

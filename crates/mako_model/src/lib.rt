@@ -5,6 +5,7 @@ mod attempt;
 mod call;
 mod cycles;
 mod event;
+pub mod examples;
 mod front;
 mod immortal;
 mod journal;
