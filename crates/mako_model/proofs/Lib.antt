@@ -2,6 +2,7 @@ pub mod Beginnings
 pub mod Changes
 pub mod Closed
 pub mod DeadApart
+pub mod Following
 pub mod FreedLists
 pub mod Growth
 pub mod Histories
