@@ -24,7 +24,6 @@ use Rattle.mako_model.proofs.Growth.{IsNext, IsStarvedIfFull}
 use Rattle.mako_model.proofs.Lists.{get_replicate}
 use Rattle.mako_model.proofs.Splits.{split_of_append}
 
-
 pub same_reply : (m n : ℕ) (c d : Call) (r s : Reply) → Did m c r ≡ Did n d s → r ≡ s
 same_reply m n c d r s e = cc
 

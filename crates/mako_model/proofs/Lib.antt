@@ -10,6 +10,7 @@ pub mod Lists
 pub mod Lookups
 pub mod ObjectsIn
 pub mod Pieces
+pub mod Retired
 pub mod RootsIn
 pub mod Searching
 pub mod Splits

@@ -51,7 +51,6 @@ one_tied = (one, set (unwrap_or (finite.get (finite.from_entries {R = name_cmp} 
 abbrev both_tied : Entries
 both_tied = (two, set (unwrap_or (finite.get (finite.from_entries {R = name_cmp} one_tied) two) []) 0 (value.Ref one)) ∷ one_tied
 
-
 -- ---- point by point
 
 board_in_range : IsInRange tied board_name

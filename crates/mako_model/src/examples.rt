@@ -1,7 +1,8 @@
-//! A worked example: two objects that name each other, and that nothing else names.
+//! Worked examples: two objects that name each other, and that nothing else names; and an entry that
+//! had its last object.
 
 ghost use Rattle.mako_model.specs.Answering.{Answers, AnswersToEnd};
-ghost use Rattle.mako_model.specs.Examples.{tied, tied_front, half_freed_front};
+ghost use Rattle.mako_model.specs.Examples.{tied, tied_front, half_freed_front, retiring, retired_front, hasty_front};
 
 /// The front in which the cycle frees both answers the script to its end.
 pub fn objects_that_name_each_other_are_freed()
@@ -11,4 +12,14 @@ pub fn objects_that_name_each_other_are_freed()
 /// That in which it frees one of them alone does not answer it.
 pub fn none_of_them_is_left()
     ensures { ¬ Answers tied half_freed_front }
+{}
+
+/// A new object finds no room where the one entry that is left had its last object.
+pub fn a_retired_entry_is_no_room()
+    ensures { AnswersToEnd retiring retired_front }
+{}
+
+/// But there is no such answer before a cycle has finished.
+pub fn no_room_is_known_after_a_cycle()
+    ensures { ¬ Answers retiring hasty_front }
 {}
