@@ -11,6 +11,7 @@ pub mod Lookups
 pub mod ObjectsIn
 pub mod Pieces
 pub mod Retired
+pub mod Reused
 pub mod RootsIn
 pub mod Searching
 pub mod Splits

@@ -1,10 +1,11 @@
--- Two objects that name each other, and that nothing else names, are freed together. And an entry is
--- retired after its last generation, so that there is no room in a tablet that has no other entry.
-use Rattle.std.specs.Prelude.{List, [], ◌∷◌}
+-- Three worked examples: two objects that name each other, and that nothing else names, are freed together;
+-- an entry that had its last object is no room; and the entry of a dead object is used again.
+use Rattle.std.specs.Prelude.{List, [], ◌∷◌, ◌++◌}
 use Rattle.mako_words.specs.declared.name.Name.{Name}
+use Rattle.mako_words.specs.declared.value.Value.TheVariants.{Ref}
 use Rattle.mako_model.specs.declared.call.Call.{Call}
-use Rattle.mako_model.specs.declared.call.Call.TheVariants.{New, Put, DropRoot, Collect}
-use Rattle.mako_model.specs.declared.reply.Reply.TheVariants.{Made, Done, Cycle, Full}
+use Rattle.mako_model.specs.declared.call.Call.TheVariants.{New, Put, DropRoot, Show, Collect}
+use Rattle.mako_model.specs.declared.reply.Reply.TheVariants.{Made, Done, Cycle, Full, Value}
 use Rattle.mako_model.specs.declared.point.Point.{Point}
 use Rattle.mako_model.specs.declared.point.Point.TheVariants.{Did, Snap}
 use Rattle.mako_model.specs.Fronts.{Seen}
@@ -62,3 +63,30 @@ retired_front = record { history = retiring_history; cycles = (one ∷ []) ∷ [
 -- the same, but no cycle has finished, so that nobody knows yet
 abbrev pub hasty_front : Seen
 hasty_front = record { history = retiring_history; cycles = [] }
+
+-- the name of the second object of entry 1
+abbrev pub one_again : Name
+one_again = record { entry = 1; generation = 1 }
+
+-- a mutator makes two objects, drops the first, makes a third and shows the second
+abbrev pub reusing : List Call
+reusing = New 1 6 ∷ New 2 5 ∷ DropRoot 1 ∷ New 3 6 ∷ Show 2 ∷ []
+
+abbrev pub roomy : Workload
+roomy = record { mutators = 1; roots = 4; board = 1; tablets = 1; entries = 4; words = 16; cycles = 10; generations = 8; programs = reusing ∷ [] }
+
+abbrev pub before_reuse_snap : List Point
+before_reuse_snap = Did 0 (New 1 6) (Made one) ∷ Did 0 (New 2 5) (Made two) ∷ Did 0 (DropRoot 1) Done ∷ []
+
+abbrev pub reuse_history : List Point
+reuse_history =
+    Did 0 (New 1 6) (Made one) ∷ Did 0 (New 2 5) (Made two) ∷ Did 0 (DropRoot 1) Done ∷ Snap 1 ∷ Did 0 (New 3 6) (Made one_again)
+    ∷ Did 0 (Show 2) (Value (Ref two)) ∷ []
+
+-- the entry of the dropped object is used again, under its next generation
+abbrev pub reused_front : Seen
+reused_front = record { history = reuse_history; cycles = (one ∷ []) ∷ [] }
+
+-- the same, but it is used again before a snapshot found its object dead
+abbrev pub reused_too_soon : Seen
+reused_too_soon = record { history = before_reuse_snap ++ Did 0 (New 3 6) (Made one_again) ∷ []; cycles = [] }

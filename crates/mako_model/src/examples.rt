@@ -1,8 +1,8 @@
-//! Worked examples: two objects that name each other, and that nothing else names; and an entry that
-//! had its last object.
+//! Worked examples: two objects that name each other, and that nothing else names; an entry that had
+//! its last object; and one that is used again.
 
 ghost use Rattle.mako_model.specs.Answering.{Answers, AnswersToEnd};
-ghost use Rattle.mako_model.specs.Examples.{tied, tied_front, half_freed_front, retiring, retired_front, hasty_front};
+ghost use Rattle.mako_model.specs.Examples.{tied, tied_front, half_freed_front, retiring, retired_front, hasty_front, roomy, reused_front, reused_too_soon};
 
 /// The front in which the cycle frees both answers the script to its end.
 pub fn objects_that_name_each_other_are_freed()
@@ -22,4 +22,14 @@ pub fn a_retired_entry_is_no_room()
 /// But there is no such answer before a cycle has finished.
 pub fn no_room_is_known_after_a_cycle()
     ensures { ¬ Answers retiring hasty_front }
+{}
+
+/// The entry of an object that was dead at a snapshot is used again.
+pub fn a_dead_entry_is_used_again()
+    ensures { AnswersToEnd roomy reused_front }
+{}
+
+/// But it is not used again before.
+pub fn an_entry_is_used_again_after_a_snapshot()
+    ensures { ¬ Answers roomy reused_too_soon }
 {}
