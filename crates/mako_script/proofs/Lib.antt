@@ -6,3 +6,4 @@ pub mod Takes
 pub mod Sections
 pub mod Spelled
 pub mod Accepted
+pub mod Progress

@@ -1,5 +1,5 @@
 -- What a writer of a part of the output did.
-use Rattle.std.specs.Prelude.{◌≡◌, ℕ, ◌+◌, ◌-◌, ◌^◌, min, List, [], ◌∷◌, ◌++◌, length, Result, Ok, Err}
+use Rattle.std.specs.Prelude.{◌≡◌, ℕ, ◌+◌, ◌-◌, ◌^◌, ◌<◌, ◌≤◌, slice_index_or, min, List, [], ◌∷◌, ◌++◌, length, Result, Ok, Err}
 use Rattle.std.specs.List.{flat_map}
 use Rattle.std.specs.declared.option.Option.{Option}
 use Rattle.std.specs.Io.KnownBytes.{Appends}
@@ -25,3 +25,7 @@ abbrev pub sections_text : ℕ → List (List Call) → List (List Reply) → Li
 sections_text m programs [] = []
 sections_text m [] (replies ∷ lists) = []
 sections_text m (calls ∷ programs) (replies ∷ lists) = mutator_line m ++ lines_text calls replies ++ sections_text (m + 1) programs lists
+
+-- each list of replies has a program of at least as many calls
+abbrev pub FitPrograms : List (List Call) → List (List Reply) → Type 0
+FitPrograms programs lists = (m : ℕ) → m < length lists → length (slice_index_or lists m []) ≤ length (slice_index_or programs m [])

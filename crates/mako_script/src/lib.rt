@@ -17,6 +17,7 @@ mod section;
 mod settings;
 
 pub use fault::{Kind, ScriptFault};
+pub use output::write_output;
 pub use program::Program;
 pub use reading::parse;
 pub use script::Script;
