@@ -27,11 +27,11 @@ pub digits_done : (word : List ℕ) (i value : ℕ) (read : Option ℕ) → leng
 digits_done word i value read past so_far = sym so_far ∙ ap (digits_on value) (drop_all i word past)
 
 -- the number of digits behind a number
-abbrev digits_after : ℕ → List ℕ → ℕ
+abbrev pub digits_after : ℕ → List ℕ → ℕ
 digits_after n [] = n
 digits_after n (c ∷ cs) = digits_after (n * 10 + (c - 48)) cs
 
-own : IsNumeralModel (λ ds. all_ascii_digits ds ≡ true) (digits_after 0)
+pub own : IsNumeralModel (λ ds. all_ascii_digits ds ≡ true) (digits_after 0)
 own = numerals_by_fold _ tells_all_ascii_digits digits_after (search rules)
 
 all_digits : (n : ℕ) (word : List ℕ) (m : ℕ) → digits_on n word ≡ Some m → (all_ascii_digits word ≡ true) × (digits_after n word ≡ m)

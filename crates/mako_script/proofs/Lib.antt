@@ -7,3 +7,4 @@ pub mod Sections
 pub mod Spelled
 pub mod Accepted
 pub mod Progress
+pub mod Again

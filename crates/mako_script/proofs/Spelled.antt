@@ -75,7 +75,7 @@ define_takes roots names w after v are few spelled e value = by (place_at names 
 
 -- ---- command lines
 
-abbrev named_text : Command → List ℕ
+abbrev pub named_text : Command → List ℕ
 named_text New = codes "new"
 named_text Num = codes "num"
 named_text Copy = codes "copy"
@@ -469,20 +469,20 @@ values_if_ok items after lines (Err e) h = tt
 pub are_proper : (roots : ℕ) (lines : List (List ℕ)) (ps : List ProgramView) → sections_at 16 roots 0 lines ≡ Some ps → 1 ≤ roots → AreProper roots ps
 are_proper roots lines ps e some = let t = sections_take 16 roots 0 lines ps e some (omega arith) in record { few = t.few; commands = omega (arith, t.total); programs = t.programs }
 
-eleven : (vs : List ℕ) → length vs ≡ 11 → vs ≡ get_or vs 0 0 ∷ get_or vs 1 0 ∷ get_or vs 2 0 ∷ get_or vs 3 0 ∷ get_or vs 4 0 ∷ get_or vs 5 0 ∷ get_or vs 6 0 ∷ get_or vs 7 0 ∷ get_or vs 8 0 ∷ get_or vs 9 0 ∷ get_or vs 10 0 ∷ []
+pub eleven : (vs : List ℕ) → length vs ≡ 11 → vs ≡ get_or vs 0 0 ∷ get_or vs 1 0 ∷ get_or vs 2 0 ∷ get_or vs 3 0 ∷ get_or vs 4 0 ∷ get_or vs 5 0 ∷ get_or vs 6 0 ∷ get_or vs 7 0 ∷ get_or vs 8 0 ∷ get_or vs 9 0 ∷ get_or vs 10 0 ∷ []
 eleven vs len = drop_more vs 0 0 (omega (arith, len)) ∙ ap (λ (t : List ℕ). get_or vs 0 0 ∷ t) (drop_more vs 1 0 (omega (arith, len)) ∙ ap (λ (t : List ℕ). get_or vs 1 0 ∷ t) (drop_more vs 2 0 (omega (arith, len)) ∙ ap (λ (t : List ℕ). get_or vs 2 0 ∷ t) (drop_more vs 3 0 (omega (arith, len)) ∙ ap (λ (t : List ℕ). get_or vs 3 0 ∷ t) (drop_more vs 4 0 (omega (arith, len)) ∙ ap (λ (t : List ℕ). get_or vs 4 0 ∷ t) (drop_more vs 5 0 (omega (arith, len)) ∙ ap (λ (t : List ℕ). get_or vs 5 0 ∷ t) (drop_more vs 6 0 (omega (arith, len)) ∙ ap (λ (t : List ℕ). get_or vs 6 0 ∷ t) (drop_more vs 7 0 (omega (arith, len)) ∙ ap (λ (t : List ℕ). get_or vs 7 0 ∷ t) (drop_more vs 8 0 (omega (arith, len)) ∙ ap (λ (t : List ℕ). get_or vs 8 0 ∷ t) (drop_more vs 9 0 (omega (arith, len)) ∙ ap (λ (t : List ℕ). get_or vs 9 0 ∷ t) (drop_more vs 10 0 (omega (arith, len)) ∙ ap (λ (t : List ℕ). get_or vs 10 0 ∷ t) (drop_all 11 vs (omega (arith, len)))))))))))))
 
 -- the lines of settings with these keys and numbers
-abbrev setting_lines : List (List ℕ × (ℕ × ℕ)) → List ℕ → List (List (List ℕ))
+abbrev pub setting_lines : List (List ℕ × (ℕ × ℕ)) → List ℕ → List (List (List ℕ))
 setting_lines [] vs = []
-setting_lines (key ∷ keys) [] = []
-setting_lines (key ∷ keys) (v ∷ vs) = (key.0 ∷ decimal v ∷ []) ∷ setting_lines keys vs
+setting_lines (key ∷ table) [] = []
+setting_lines (key ∷ table) (v ∷ vs) = (key.0 ∷ decimal v ∷ []) ∷ setting_lines table vs
 
 settings_spelled : (keys : List (List ℕ × (ℕ × ℕ))) (lines : List (List ℕ)) (vs : List ℕ) (rest : List (List ℕ)) → TakesSettings keys lines vs rest → lines ≡ lines_from (setting_lines keys vs) ++ rest
 settings_spelled [] lines vs rest h = h.1
 settings_spelled (key ∷ keys) lines vs rest h = rw (h.3, h.4) (ap (λ (t : List (List ℕ)). join_with_byte 32 (key.0 ∷ decimal h.1 ∷ []) ∷ t) (settings_spelled keys h.0 h.2 rest h.7))
 
-the_settings : (vs : List ℕ) (ps : List ProgramView) → AreValues vs → setting_lines keys vs ≡ map setting_words (settings (script_of vs ps))
+pub the_settings : (vs : List ℕ) (ps : List ProgramView) → AreValues vs → setting_lines keys vs ≡ map setting_words (settings (script_of vs ps))
 the_settings vs ps values =
     let first : get_or vs 0 0 ≡ 1 = values.first in
     ap (setting_lines keys) (eleven vs values.count) ∙ ap (λ (v : ℕ). setting_lines keys (v ∷ get_or vs 1 0 ∷ get_or vs 2 0 ∷ get_or vs 3 0 ∷ get_or vs 4 0 ∷ get_or vs 5 0 ∷ get_or vs 6 0 ∷ get_or vs 7 0 ∷ get_or vs 8 0 ∷ get_or vs 9 0 ∷ get_or vs 10 0 ∷ [])) first
