@@ -59,4 +59,10 @@ form_has n board (p ∷ q ∷ ps) f = absurd (omega (arith, f.single))
 
 pub proper_from : (v : List ℕ) (ps : List ProgramView) → AreValues v → AreProper ((numbers_in v (length ps)).roots) ps → IsShape (numbers_in v (length ps)) → IsProper (script_of v ps)
 proper_from v ps values programs shape = record {
-  shape = shape; board_low = values.board_low; board_high = values.board_high; mutators = refl; commands = programs.commands; programs = programs.programs }
+  shape = shape;
+  board_low = values.board_low;
+  board_high = values.board_high;
+  mutators = refl;
+  commands = programs.commands;
+  programs = programs.programs;
+}

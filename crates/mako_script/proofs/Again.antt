@@ -96,8 +96,8 @@ module _ (final : List (List ℕ)) (are : AreNames final) (k : ℕ) (within : k 
   same_root : (a b : ℕ) → a < length final → b < length final → name_of final a ≡ name_of final b → a ≡ b
   same_root a b in_a in_b same =
       ⊎_elim (λ (lt : a < b). absurd (are.distinct a b lt in_b same))
-        (λ (ge : b ≤ a). ⊎_elim (λ (gt : b < a). absurd (are.distinct b a gt in_a (sym same))) (λ (le : a ≤ b). omega arith) (cases_lt b a))
-        (cases_lt a b)
+      (λ (ge : b ≤ a). ⊎_elim (λ (gt : b < a). absurd (are.distinct b a gt in_a (sym same))) (λ (le : a ≤ b). omega arith) (cases_lt b a))
+      (cases_lt a b)
 
   taken : (r : ℕ) → r < k → name_of (take k final) r ≡ name_of final r
   taken r below = get_or-take k final r [] below
@@ -133,21 +133,21 @@ module _ (final : List (List ℕ)) (are : AreNames final) (k : ℕ) (within : k 
   unfolding argument_at
   defined_again r low below =
       ⊎_elim
-        (λ (old : r < k). rw (are.spelled r below, place_again r old) refl)
-        (λ (new : k ≤ r). let same : r ≡ k = omega arith in
-          let at : place_at (take k final) (name_of final r) ≡ None = ap (λ (n : ℕ). place_at (take k final) (name_of final n)) same ∙ place_new (omega arith) in
-          rw (are.spelled r below, at) (ap (λ (n : ℕ). Some n) (omega (arith, length-take-le k final within))))
-        (cases_lt r k)
+      (λ (old : r < k). rw (are.spelled r below, place_again r old) refl)
+      (λ (new : k ≤ r). let same : r ≡ k = omega arith in
+      let at : place_at (take k final) (name_of final r) ≡ None = ap (λ (n : ℕ). place_at (take k final) (name_of final n)) same ∙ place_new (omega arith) in
+      rw (are.spelled r below, at) (ap (λ (n : ℕ). Some n) (omega (arith, length-take-le k final within))))
+      (cases_lt r k)
 
   define_again : (roots r : ℕ) (rest : List (List ℕ)) → length final ≤ roots → r ≤ k → r < length final → names_after true roots (take k final) (name_of final r ∷ rest) ≡ Some (take (max k (r + 1)) final)
   define_again roots r rest few low below =
       rw (are.spelled r below) (⊎_elim
-        (λ (old : r < k). define_known roots (take k final) (name_of final r) (ap is_some (place_again r old)) ∙ ap (λ (n : ℕ). Some (take n final)) (omega arith))
-        (λ (new : k ≤ r). let same : r ≡ k = omega arith in
-          let at : place_at (take k final) (name_of final r) ≡ None = ap (λ (n : ℕ). place_at (take k final) (name_of final n)) same ∙ place_new (omega arith) in
-          define_new roots (take k final) (name_of final r) (ap is_some at) (omega (arith, length-take-le k final within))
-          ∙ ap (λ (n : ℕ). Some (take k final ++ name_of final n ∷ [])) same ∙ ap (λ (t : List (List ℕ)). Some t) (sym (take_more final k [] (omega arith))) ∙ ap (λ (n : ℕ). Some (take n final)) (omega arith))
-        (cases_lt r k))
+      (λ (old : r < k). define_known roots (take k final) (name_of final r) (ap is_some (place_again r old)) ∙ ap (λ (n : ℕ). Some (take n final)) (omega arith))
+      (λ (new : k ≤ r). let same : r ≡ k = omega arith in
+      let at : place_at (take k final) (name_of final r) ≡ None = ap (λ (n : ℕ). place_at (take k final) (name_of final n)) same ∙ place_new (omega arith) in
+      define_new roots (take k final) (name_of final r) (ap is_some at) (omega (arith, length-take-le k final within))
+      ∙ ap (λ (n : ℕ). Some (take k final ++ name_of final n ∷ [])) same ∙ ap (λ (t : List (List ℕ)). Some t) (sym (take_more final k [] (omega arith))) ∙ ap (λ (n : ℕ). Some (take n final)) (omega arith))
+      (cases_lt r k))
 
 -- ---- command lines
 
@@ -276,7 +276,7 @@ module _ (final : List (List ℕ)) (are : AreNames final) (roots : ℕ) (few : l
       let line : command_at roots (take k final) (words_of (join_with_byte 32 (command_words final c))) ≡ Some (c, take (defined_after k c) final) = ap (command_at roots (take k final)) words ∙ command_again final are roots few k c within fits.0 after in
       let test : leb 1048576 count ≡ false = grind (arith, nat_tests) in
       goes_on roots count (take k final) (join_with_byte 32 (command_words final c)) rest split.0 split.1 c (take (defined_after k c) final) (record { names = final; calls = cs }, m ∷ more) split.2 (not_end final c) line test
-        (calls_again (count + 1) (defined_after k c) cs m more after fits.1 (omega arith))
+      (calls_again (count + 1) (defined_after k c) cs m more after fits.1 (omega arith))
 
 first_name : (final : List (List ℕ)) → AreNames final → take 1 final ≡ board_name ∷ []
 first_name [] are = absurd (omega (arith, are.some))
@@ -305,9 +305,9 @@ sections_again (suc left) roots count (p ∷ ps) h few room =
     let sums = sum_by-cons (λ (x : ProgramView). length x.calls) p ps in
     let rest = some_line (lines_from (flat_map section_lines ps)) [] [] in
     let regroup : lines_from (flat_map section_lines (p ∷ ps)) ++ [] ∷ [] ≡ lines_from (section_lines p) ++ (lines_from (flat_map section_lines ps) ++ [] ∷ []) =
-          ap (λ (t : List (List ℕ)). t ++ [] ∷ []) (map-append (join_with_byte 32) (section_lines p) (flat_map section_lines ps)) ∙ append_assoc (lines_from (section_lines p)) (lines_from (flat_map section_lines ps)) ([] ∷ []) in
+    ap (λ (t : List (List ℕ)). t ++ [] ∷ []) (map-append (join_with_byte 32) (section_lines p) (flat_map section_lines ps)) ∙ append_assoc (lines_from (section_lines p)) (lines_from (flat_map section_lines ps)) ([] ∷ []) in
     let first : section_at roots count (lines_from (section_lines p) ++ (lines_from (flat_map section_lines ps) ++ [] ∷ [])) ≡ Some (p, lines_from (flat_map section_lines ps) ++ [] ∷ []) =
-          ap (λ (t : List (List ℕ)). section_at roots count (lines_from (section_lines p) ++ t)) rest.2 ∙ section_again roots count p rest.0 rest.1 h.0 (omega (arith, sums)) ∙ ap (λ (t : List (List ℕ)). Some (p, t)) (sym rest.2) in
+    ap (λ (t : List (List ℕ)). section_at roots count (lines_from (section_lines p) ++ t)) rest.2 ∙ section_again roots count p rest.0 rest.1 h.0 (omega (arith, sums)) ∙ ap (λ (t : List (List ℕ)). Some (p, t)) (sym rest.2) in
     let others = sections_again left roots (count + length p.calls) ps h.1 (omega arith) (omega (arith, sums)) in
     ap (sections_at (suc left) roots count) regroup ∙ rw (first, others) refl
 
@@ -336,7 +336,7 @@ settings_again (key ∷ table) [] m more h = absurd h
 settings_again (key ∷ table) (v ∷ vs) m more h =
     let rest = some_line (lines_from (setting_lines table vs)) m more in
     let first : setting_at key (join_with_byte 32 (key.0 ∷ decimal v ∷ []) ∷ (lines_from (setting_lines table vs) ++ m ∷ more)) ≡ Some (v, lines_from (setting_lines table vs) ++ m ∷ more) =
-          ap (λ (t : List (List ℕ)). setting_at key (join_with_byte 32 (key.0 ∷ decimal v ∷ []) ∷ t)) rest.2 ∙ setting_again key v rest.0 rest.1 h.0 h.1 h.2 h.3 ∙ ap (λ (t : List (List ℕ)). Some (v, t)) (sym rest.2) in
+    ap (λ (t : List (List ℕ)). setting_at key (join_with_byte 32 (key.0 ∷ decimal v ∷ []) ∷ t)) rest.2 ∙ setting_again key v rest.0 rest.1 h.0 h.1 h.2 h.3 ∙ ap (λ (t : List (List ℕ)). Some (v, t)) (sym rest.2) in
     rw (first, settings_again table vs m more h.4) refl
 
 setting_words_ok : (table : List (List ℕ × (ℕ × ℕ))) (vs : List ℕ) → InRanges table vs → AllByRecursion (AllByRecursion IsWord) (setting_lines table vs)
@@ -353,18 +353,67 @@ values_of s = map (λ p. p.1) (settings s)
 
 in_ranges : (s : ScriptView) → IsProper s → InRanges keys (values_of s)
 in_ranges s proper =
-    let e = proper.shape.in_range.each in
-    (letters_word (codes "mako") refl, omega arith, omega arith, omega arith,
-    (letters_word (codes "servers") refl, omega (arith, e.2.0), omega (arith, e.2.1), omega (arith, e.2.1),
-    (letters_word (codes "tablets") refl, omega (arith, e.2.2.0), omega (arith, e.2.2.1), omega (arith, e.2.2.1),
-    (letters_word (codes "entries") refl, omega (arith, e.2.2.2.0), omega (arith, e.2.2.2.1), omega (arith, e.2.2.2.1),
-    (letters_word (codes "words") refl, omega (arith, e.2.2.2.2.0), omega (arith, e.2.2.2.2.1), omega (arith, e.2.2.2.2.1),
-    (letters_word (codes "spare") refl, omega (arith, e.2.2.2.2.2.0), omega (arith, e.2.2.2.2.2.1), omega (arith, e.2.2.2.2.2.1),
-    (letters_word (codes "ring") refl, omega (arith, e.2.2.2.2.2.2.0), omega (arith, e.2.2.2.2.2.2.1), omega (arith, e.2.2.2.2.2.2.1),
-    (letters_word (codes "roots") refl, omega (arith, e.2.2.2.2.2.2.2.0), omega (arith, e.2.2.2.2.2.2.2.1), omega (arith, e.2.2.2.2.2.2.2.1),
-    (letters_word (codes "cycles") refl, omega (arith, e.2.2.2.2.2.2.2.2.0), omega (arith, e.2.2.2.2.2.2.2.2.1), omega (arith, e.2.2.2.2.2.2.2.2.1),
-    (letters_word (codes "gens") refl, omega (arith, e.2.2.2.2.2.2.2.2.2.0), omega (arith, e.2.2.2.2.2.2.2.2.2.1), omega (arith, e.2.2.2.2.2.2.2.2.2.1),
-    (letters_word (codes "board") refl, proper.board_low, proper.board_high, omega (arith, proper.board_high), tt)))))))))))
+    let e = proper.shape.in_range.each in (
+      letters_word (codes "mako") refl,
+      omega arith,
+      omega arith,
+      omega arith,
+      (
+        letters_word (codes "servers") refl,
+        omega (arith, e.2.0),
+        omega (arith, e.2.1),
+        omega (arith, e.2.1),
+        (
+          letters_word (codes "tablets") refl,
+          omega (arith, e.2.2.0),
+          omega (arith, e.2.2.1),
+          omega (arith, e.2.2.1),
+          (
+            letters_word (codes "entries") refl,
+            omega (arith, e.2.2.2.0),
+            omega (arith, e.2.2.2.1),
+            omega (arith, e.2.2.2.1),
+            (
+              letters_word (codes "words") refl,
+              omega (arith, e.2.2.2.2.0),
+              omega (arith, e.2.2.2.2.1),
+              omega (arith, e.2.2.2.2.1),
+              (
+                letters_word (codes "spare") refl,
+                omega (arith, e.2.2.2.2.2.0),
+                omega (arith, e.2.2.2.2.2.1),
+                omega (arith, e.2.2.2.2.2.1),
+                (
+                  letters_word (codes "ring") refl,
+                  omega (arith, e.2.2.2.2.2.2.0),
+                  omega (arith, e.2.2.2.2.2.2.1),
+                  omega (arith, e.2.2.2.2.2.2.1),
+                  (
+                    letters_word (codes "roots") refl,
+                    omega (arith, e.2.2.2.2.2.2.2.0),
+                    omega (arith, e.2.2.2.2.2.2.2.1),
+                    omega (arith, e.2.2.2.2.2.2.2.1),
+                    (
+                      letters_word (codes "cycles") refl,
+                      omega (arith, e.2.2.2.2.2.2.2.2.0),
+                      omega (arith, e.2.2.2.2.2.2.2.2.1),
+                      omega (arith, e.2.2.2.2.2.2.2.2.1),
+                      (
+                        letters_word (codes "gens") refl,
+                        omega (arith, e.2.2.2.2.2.2.2.2.2.0),
+                        omega (arith, e.2.2.2.2.2.2.2.2.2.1),
+                        omega (arith, e.2.2.2.2.2.2.2.2.2.1),
+                        (letters_word (codes "board") refl, proper.board_low, proper.board_high, omega (arith, proper.board_high), tt),
+                      ),
+                    ),
+                  ),
+                ),
+              ),
+            ),
+          ),
+        ),
+      ),
+    )
 
 calls_words : (final : List (List ℕ)) → AreNames final → (k : ℕ) (cs : List Call) → k ≤ length final → AreCalls k cs (length final) → AllByRecursion (AllByRecursion IsWord) (map (command_words final) cs ++ (end_word ∷ []) ∷ [])
 calls_words final are k [] within h = ((letters_word end_word refl, tt), tt)
@@ -380,8 +429,8 @@ sections_words : (roots : ℕ) (ps : List ProgramView) → AllByRecursion (IsPro
 sections_words roots [] h = tt
 sections_words roots (p ∷ ps) h =
     all-append (AllByRecursion IsWord) (section_lines p) (flat_map section_lines ps)
-      ((letters_word mutator_word refl, tt), calls_words p.names h.0.names 1 p.calls (omega (arith, h.0.names.some)) h.0.calls)
-      (sections_words roots ps h.1)
+    ((letters_word mutator_word refl, tt), calls_words p.names h.0.names 1 p.calls (omega (arith, h.0.names.some)) h.0.calls)
+    (sections_words roots ps h.1)
 
 pub script_again : (s : ScriptView) → IsProper s → script_at (lines_of (script_text s)) ≡ Some (values_of s, s.programs)
 unfolding script_at script_text
@@ -389,12 +438,12 @@ script_again s proper =
     let ranges = in_ranges s proper in
     let words = all-append (AllByRecursion IsWord) (setting_lines keys (values_of s)) (flat_map section_lines s.programs) (setting_words_ok keys (values_of s) ranges) (sections_words s.numbers.roots s.programs proper.programs) in
     let lines : lines_of (flat_map line_text (script_lines s)) ≡ lines_from (setting_lines keys (values_of s)) ++ (lines_from (flat_map section_lines s.programs) ++ [] ∷ []) =
-          lines_again (script_lines s) words
-          ∙ ap (λ (t : List (List ℕ)). t ++ [] ∷ []) (map-append (join_with_byte 32) (setting_lines keys (values_of s)) (flat_map section_lines s.programs))
-          ∙ append_assoc (lines_from (setting_lines keys (values_of s))) (lines_from (flat_map section_lines s.programs)) ([] ∷ []) in
+    lines_again (script_lines s) words
+    ∙ ap (λ (t : List (List ℕ)). t ++ [] ∷ []) (map-append (join_with_byte 32) (setting_lines keys (values_of s)) (flat_map section_lines s.programs))
+    ∙ append_assoc (lines_from (setting_lines keys (values_of s))) (lines_from (flat_map section_lines s.programs)) ([] ∷ []) in
     let rest = some_line (lines_from (flat_map section_lines s.programs)) [] [] in
     let first : settings_at keys (lines_from (setting_lines keys (values_of s)) ++ (lines_from (flat_map section_lines s.programs) ++ [] ∷ [])) ≡ Some (values_of s, lines_from (flat_map section_lines s.programs) ++ [] ∷ []) =
-          ap (λ (t : List (List ℕ)). settings_at keys (lines_from (setting_lines keys (values_of s)) ++ t)) rest.2 ∙ settings_again keys (values_of s) rest.0 rest.1 ranges ∙ ap (λ (t : List (List ℕ)). Some (values_of s, t)) (sym rest.2) in
+    ap (λ (t : List (List ℕ)). settings_at keys (lines_from (setting_lines keys (values_of s)) ++ t)) rest.2 ∙ settings_again keys (values_of s) rest.0 rest.1 ranges ∙ ap (λ (t : List (List ℕ)). Some (values_of s, t)) (sym rest.2) in
     let mutators : length s.programs ≤ 16 = omega (arith, proper.mutators, proper.shape.in_range.each.1) in
     let others = sections_again 16 s.numbers.roots 0 s.programs proper.programs mutators (omega (arith, proper.commands)) in
     rw (lines, first, others) refl

@@ -34,7 +34,7 @@ goes_on text todo piece rest old mid new before went now p split taken counted =
   front = p.front ++ piece;
   parts = append_assoc p.front piece rest ∙ ap (λ (x : List ℕ). p.front ++ x) (sym split) ∙ p.parts;
   taken = Appends-trans old mid new p.front piece p.taken taken;
-  counted = omega (arith, p.counted, counted, length-append p.front piece)
+  counted = omega (arith, p.counted, counted, length-append p.front piece);
 }
 
 take_behind : (front piece rest : List ℕ) (k : ℕ) → k ≤ length piece → take (length front + k) (front ++ (piece ++ rest)) ≡ front ++ take k piece
@@ -49,7 +49,7 @@ stops text todo piece rest old mid new before went now p split w =
       bytes = length p.front + w.bytes;
       short = omega (arith, ap length whole, length-append p.front (piece ++ rest), length-append piece rest, w.short);
       taken = rw (whole, take_behind p.front piece rest w.bytes (omega (arith, w.short))) (Appends-trans old mid new p.front (take w.bytes piece) p.taken w.taken);
-      counted = omega (arith, p.counted, w.counted)
+      counted = omega (arith, p.counted, w.counted);
     }
 
 pub done : (text : List ℕ) (old new : Option (List ℕ)) (before went : ℕ) → Progress text [] old new before went → Writes text old new before (Ok went)
@@ -116,10 +116,10 @@ answered_sections (p ∷ programs) (l ∷ lists) history m same replies follows 
     let l_is : l ≡ replies_to m history = same_some (replies 0 (omega arith)) ∙ ap (λ (n : ℕ). replies_to n history) zero_more in
     let p_is = rw zero_more at (follows 0 p refl) in
     let head : lines_text p l ≡ flat_map point_text (answered_by m history) =
-          ap (λ (x : List Call). lines_text x l) p_is.1 ∙ ap (λ (x : List Reply). lines_text (calls_by m history ++ p_is.0) x) l_is ∙ answered_lines (answered_by m history) p_is.0 in
+    ap (λ (x : List Call). lines_text x l) p_is.1 ∙ ap (λ (x : List Reply). lines_text (calls_by m history ++ p_is.0) x) l_is ∙ answered_lines (answered_by m history) p_is.0 in
     let tail = answered_sections programs lists history (m + 1) (omega arith)
-          (λ k below. replies (suc k) (omega arith) ∙ ap (λ (n : ℕ). Some (replies_to n history)) (omega arith))
-          (λ k program at. let h = follows (suc k) program at in subst (λ (n : ℕ). StartsWith program (calls_by n history)) (omega arith) h) in
+    (λ k below. replies (suc k) (omega arith) ∙ ap (λ (n : ℕ). Some (replies_to n history)) (omega arith))
+    (λ k program at. let h = follows (suc k) program at in subst (λ (n : ℕ). StartsWith program (calls_by n history)) (omega arith) h) in
     ap (λ (t : List ℕ). mutator_line m ++ t ++ sections_text (m + 1) programs lists) head ∙ ap (λ (t : List ℕ). (mutator_line m ++ flat_map point_text (answered_by m history)) ++ t) tail
   where
     same_some : {A : Type 0} {x y : A} → Some x ≡ Some y → x ≡ y
@@ -133,8 +133,8 @@ module _ (programs : List ProgramView) (o : Outcome) (whole : IsWhole o) (same :
   pub output_sections : sections_text 0 (map (λ p. p.calls) programs) (reply_lists o) ≡ flat_map (mutator_text o.front.history) (range_with_len 0 (length programs))
   output_sections =
       answered_sections (map (λ p. p.calls) programs) (reply_lists o) o.front.history 0 (same ∙ sym (length-map programs (λ p. p.calls)))
-        (λ k below. whole.replies k below ∙ ap (λ (n : ℕ). Some (replies_to n o.front.history)) (omega arith))
-        (λ k program at. subst (λ (n : ℕ). StartsWith program (calls_by n o.front.history)) (omega arith) (follows k program at))
+      (λ k below. whole.replies k below ∙ ap (λ (n : ℕ). Some (replies_to n o.front.history)) (omega arith))
+      (λ k program at. subst (λ (n : ℕ). StartsWith program (calls_by n o.front.history)) (omega arith) (follows k program at))
       ∙ ap (λ (n : ℕ). flat_map (mutator_text o.front.history) (range_with_len 0 n)) (length-map programs (λ p. p.calls))
 
   -- no mutator has more replies than calls

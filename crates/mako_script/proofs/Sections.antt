@@ -50,12 +50,12 @@ calls_step roots count names [] s e = absurd cc
 calls_step roots count names (l ∷ []) s e = absurd cc
 calls_step roots count names (l ∷ m ∷ more) s e =
     ⊎_elim (λ (h : (bytes_eq l end_word ≡ true) × ((None, names, m ∷ more) ≡ s)). let here : calls_at roots count names (l ∷ m ∷ more) ≡ behind roots count (None, names, m ∷ more) = rw h.0 refl in here ∙ ap (behind roots count) h.1)
-      (λ (h : (bytes_eq l end_word ≡ false) × ((command_at roots names (words_of l) >>= λ c. Some (Some c.0, c.1, m ∷ more)) ≡ Some s)).
-        let a = bind_some (command_at roots names (words_of l)) (λ c. Some (Some c.0, c.1, m ∷ more)) s h.1 in
-        let same = some_is (Some a.0.0, a.0.1, m ∷ more) s a.2 in
-        let here = calls_command roots count names l m more a.0 h.0 a.1 in
-        here ∙ ap (behind roots count) same)
-      (done_step (bytes_eq l end_word) (None, names, m ∷ more) (command_at roots names (words_of l) >>= λ c. Some (Some c.0, c.1, m ∷ more)) s e)
+    (λ (h : (bytes_eq l end_word ≡ false) × ((command_at roots names (words_of l) >>= λ c. Some (Some c.0, c.1, m ∷ more)) ≡ Some s)).
+    let a = bind_some (command_at roots names (words_of l)) (λ c. Some (Some c.0, c.1, m ∷ more)) s h.1 in
+    let same = some_is (Some a.0.0, a.0.1, m ∷ more) s a.2 in
+    let here = calls_command roots count names l m more a.0 h.0 a.1 in
+    here ∙ ap (behind roots count) same)
+    (done_step (bytes_eq l end_word) (None, names, m ∷ more) (command_at roots names (words_of l) >>= λ c. Some (Some c.0, c.1, m ∷ more)) s e)
 
 calls_none : (roots count : ℕ) (names lines : List (List ℕ)) → step_at roots names lines ≡ None → calls_at roots count names lines ≡ None
 unfolding step_at calls_at
@@ -76,7 +76,7 @@ pub calls_end : (front : List Call) (roots count : ℕ) (names lines after rest 
     → step_at roots names lines ≡ Some (None, after, rest) → with_calls front (calls_at roots count names lines) ≡ total → total ≡ Some (record { names = after; calls = front }, rest)
 calls_end front roots count names lines after rest total h so_far =
     let one : with_calls front (calls_at roots count names lines) ≡ Some (record { names = after; calls = front }, rest) =
-          rw (calls_step roots count names lines (None, after, rest) h) (ap (λ (cs : List Call). Some (record { names = after; calls = cs }, rest)) (append-nil front)) in
+    rw (calls_step roots count names lines (None, after, rest) h) (ap (λ (cs : List Call). Some (record { names = after; calls = cs }, rest)) (append-nil front)) in
     sym so_far ∙ one
 
 regroup : (front : List Call) (call : Call) (read : Option (ProgramView × List (List ℕ))) → with_calls front (read >>= λ p. Some (with_call call p)) ≡ with_calls (front ++ call ∷ []) read
@@ -89,7 +89,7 @@ pub calls_more : (front : List Call) (roots count : ℕ) (names lines : List (Li
 calls_more front roots count names lines call after rest total h room next one_more so_far =
     let test : leb 1048576 count ≡ false = grind (arith, nat_tests) in
     let one : with_calls front (calls_at roots count names lines) ≡ with_calls (front ++ call ∷ []) (calls_at roots (count + 1) after rest) =
-          rw (calls_step roots count names lines (Some call, after, rest) h, test) (regroup front call (calls_at roots (count + 1) after rest)) in
+    rw (calls_step roots count names lines (Some call, after, rest) h, test) (regroup front call (calls_at roots (count + 1) after rest)) in
     rw one_more (sym one ∙ so_far)
 
 pub calls_full : (front : List Call) (roots count : ℕ) (names lines : List (List ℕ)) (call : Call) (after rest : List (List ℕ)) (total : Option (ProgramView × List (List ℕ)))
@@ -133,10 +133,10 @@ step_few roots names [] s e few = absurd cc
 step_few roots names (l ∷ []) s e few = absurd cc
 step_few roots names (l ∷ m ∷ more) s e few =
     ⊎_elim (λ (h : (bytes_eq l end_word ≡ true) × ((None, names, m ∷ more) ≡ s)). subst (λ (t : Option Call × List (List ℕ) × List (List ℕ)). length t.1 ≤ roots) h.1 few)
-      (λ (h : (bytes_eq l end_word ≡ false) × ((command_at roots names (words_of l) >>= λ c. Some (Some c.0, c.1, m ∷ more)) ≡ Some s)).
-        let a = bind_some (command_at roots names (words_of l)) (λ c. Some (Some c.0, c.1, m ∷ more)) s h.1 in
-        subst (λ (t : Option Call × List (List ℕ) × List (List ℕ)). length t.1 ≤ roots) (some_is (Some a.0.0, a.0.1, m ∷ more) s a.2) (command_few roots names (words_of l) a.0 a.1 few))
-      (done_step (bytes_eq l end_word) (None, names, m ∷ more) (command_at roots names (words_of l) >>= λ c. Some (Some c.0, c.1, m ∷ more)) s e)
+    (λ (h : (bytes_eq l end_word ≡ false) × ((command_at roots names (words_of l) >>= λ c. Some (Some c.0, c.1, m ∷ more)) ≡ Some s)).
+    let a = bind_some (command_at roots names (words_of l)) (λ c. Some (Some c.0, c.1, m ∷ more)) s h.1 in
+    subst (λ (t : Option Call × List (List ℕ) × List (List ℕ)). length t.1 ≤ roots) (some_is (Some a.0.0, a.0.1, m ∷ more) s a.2) (command_few roots names (words_of l) a.0 a.1 few))
+    (done_step (bytes_eq l end_word) (None, names, m ∷ more) (command_at roots names (words_of l) >>= λ c. Some (Some c.0, c.1, m ∷ more)) s e)
 
 -- ---- sections
 
@@ -182,5 +182,5 @@ pub sections_more : (left next_left roots count next : ℕ) (front : List Progra
 unfolding sections_at
 sections_more left next_left roots count next front lines p rest total more h fewer counted so_far =
     let one : with_programs front (sections_at (suc next_left) roots count lines) ≡ with_programs (front ++ p ∷ []) (sections_at next_left roots (count + length p.calls) rest) =
-          rw (more, h) (regroup_programs front p (sections_at next_left roots (count + length p.calls) rest)) in
+    rw (more, h) (regroup_programs front p (sections_at next_left roots (count + length p.calls) rest)) in
     rw counted (sym one ∙ ap (λ (k : ℕ). with_programs front (sections_at k roots count lines)) (sym fewer) ∙ so_far)

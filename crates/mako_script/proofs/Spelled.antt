@@ -33,13 +33,13 @@ names_push names w are spelled absent = record {
   some = omega (arith, length_push names w);
   board = get_or_append_left names (w ∷ []) [] 0 are.some ∙ are.board;
   spelled = λ root below. ⊎_elim
-    (λ (old : root < length names). ap is_name (get_or_append_left names (w ∷ []) [] root old) ∙ are.spelled root old)
-    (λ (new : length names ≤ root). ap is_name (get_or_push names w [] root (omega (arith, length_push names w))) ∙ spelled)
-    (cases_lt root (length names));
+      (λ (old : root < length names). ap is_name (get_or_append_left names (w ∷ []) [] root old) ∙ are.spelled root old)
+      (λ (new : length names ≤ root). ap is_name (get_or_push names w [] root (omega (arith, length_push names w))) ∙ spelled)
+      (cases_lt root (length names));
   distinct = λ a b before below same. ⊎_elim
-    (λ (old : b < length names). are.distinct a b before old (sym (get_or_append_left names (w ∷ []) [] a (omega arith)) ∙ same ∙ get_or_append_left names (w ∷ []) [] b old))
-    (λ (new : length names ≤ b). place_none names w absent a (omega (arith, length_push names w)) (sym (get_or_append_left names (w ∷ []) [] a (omega (arith, length_push names w))) ∙ same ∙ get_or_push names w [] b (omega (arith, length_push names w))))
-    (cases_lt b (length names))
+      (λ (old : b < length names). are.distinct a b before old (sym (get_or_append_left names (w ∷ []) [] a (omega arith)) ∙ same ∙ get_or_append_left names (w ∷ []) [] b old))
+      (λ (new : length names ≤ b). place_none names w absent a (omega (arith, length_push names w)) (sym (get_or_append_left names (w ∷ []) [] a (omega (arith, length_push names w))) ∙ same ∙ get_or_push names w [] b (omega (arith, length_push names w))))
+      (cases_lt b (length names));
 }
 
 -- a name that a command defines has this root among the names behind it
@@ -59,19 +59,21 @@ define_takes roots names w after v are few spelled e value = by (place_at names 
   where
     known : (r : ℕ) → place_at names w ≡ Some r → names ≡ after → Defines roots names w v after
     known r p same =
-      let h = place_takes names w r p in
-      let is : v ≡ r = value ∙ ap (λ o. unwrap_or o (length names)) p in
-      subst (λ (t : List (List ℕ)). Defines roots names w v t) same (record { are = are; few = few; rest = []; front = sym (append-nil names); within = omega (arith, h.0); named = ap (name_of names) is ∙ h.1; low = omega (arith, h.0); next = omega (arith, h.0) })
+        let h = place_takes names w r p in
+        let is : v ≡ r = value ∙ ap (λ o. unwrap_or o (length names)) p in
+        subst (λ (t : List (List ℕ)). Defines roots names w v t) same (record { are = are; few = few; rest = []; front = sym (append-nil names); within = omega (arith, h.0); named = ap (name_of names) is ∙ h.1; low = omega (arith, h.0); next = omega (arith, h.0) })
+
     new : place_at names w ≡ None → length names < roots → names ++ w ∷ [] ≡ after → Defines roots names w v after
     new p room same =
-      let is : v ≡ length names = value ∙ ap (λ o. unwrap_or o (length names)) p in
-      subst (λ (t : List (List ℕ)). Defines roots names w v t) same (record { are = names_push names w are spelled p; few = omega (arith, length_push names w); rest = w ∷ []; front = refl; within = omega (arith, length_push names w); named = get_or_push names w [] v (sym is); low = omega arith; next = omega (arith, length_push names w) })
+        let is : v ≡ length names = value ∙ ap (λ o. unwrap_or o (length names)) p in
+        subst (λ (t : List (List ℕ)). Defines roots names w v t) same (record { are = names_push names w are spelled p; few = omega (arith, length_push names w); rest = w ∷ []; front = refl; within = omega (arith, length_push names w); named = get_or_push names w [] v (sym is); low = omega arith; next = omega (arith, length_push names w) })
+
     by : (o : Option ℕ) → place_at names w ≡ o → Defines roots names w v after
     by (Some r) p = known r p (some_is names after (sym (define_known roots names w (ap is_some p)) ∙ e))
     by None p = ⊎_elim
-      (λ (room : length names < roots). new p room (some_is (names ++ w ∷ []) after (sym (define_new roots names w (ap is_some p) room) ∙ e)))
-      (λ (full : roots ≤ length names). absurd (let no_room : None ≡ Some after = sym (define_full roots names w (ap is_some p) full) ∙ e in cc))
-      (cases_lt (length names) roots)
+        (λ (room : length names < roots). new p room (some_is (names ++ w ∷ []) after (sym (define_new roots names w (ap is_some p) room) ∙ e)))
+        (λ (full : roots ≤ length names). absurd (let no_room : None ≡ Some after = sym (define_full roots names w (ap is_some p) full) ∙ e in cc))
+        (cases_lt (length names) roots)
 
 -- ---- command lines
 
@@ -171,20 +173,36 @@ module _ (roots : ℕ) (names : List (List ℕ)) (are : AreNames names) (few : l
   takes_copy w x v n after tw tx e =
       let d = defined_first roots names w (x ∷ []) after v are few tw e in
       let r = reads_name names x n tx in
-      record { spelled = λ more.
-        let named : name_of (after ++ more) v ≡ w = get_or_append_left after more [] v d.within ∙ d.named in
-        let read : name_of (after ++ more) n ≡ x = ap (λ (t : List (List ℕ)). name_of (t ++ more) n) d.front ∙ named_along names d.rest more n x r.below r.named in
-        rw (named, read) refl; fits = (d.low, r.below); next = d.next; are = d.are; few = d.few; rest = d.rest; front = d.front }
+      record {
+        spelled = λ more.
+            let named : name_of (after ++ more) v ≡ w = get_or_append_left after more [] v d.within ∙ d.named in
+            let read : name_of (after ++ more) n ≡ x = ap (λ (t : List (List ℕ)). name_of (t ++ more) n) d.front ∙ named_along names d.rest more n x r.below r.named in
+            rw (named, read) refl;
+        fits = (d.low, r.below);
+        next = d.next;
+        are = d.are;
+        few = d.few;
+        rest = d.rest;
+        front = d.front;
+      }
 
   takes_get : (w x y : List ℕ) (v n k : ℕ) (after : List (List ℕ)) → Takes names Defined w v → Takes names Read x n → Takes names Index y k → names_after true roots names (w ∷ x ∷ y ∷ []) ≡ Some after
       → TakesCall roots names (codes "get" ∷ w ∷ x ∷ y ∷ []) (calls.Get v n k) after
   takes_get w x y v n k after tw tx ty e =
       let d = defined_first roots names w (x ∷ y ∷ []) after v are few tw e in
       let r = reads_name names x n tx in
-      record { spelled = λ more.
-        let named : name_of (after ++ more) v ≡ w = get_or_append_left after more [] v d.within ∙ d.named in
-        let read : name_of (after ++ more) n ≡ x = ap (λ (t : List (List ℕ)). name_of (t ++ more) n) d.front ∙ named_along names d.rest more n x r.below r.named in
-        rw (named, read, ty.0) refl; fits = (d.low, r.below, ty.1); next = d.next; are = d.are; few = d.few; rest = d.rest; front = d.front }
+      record {
+        spelled = λ more.
+            let named : name_of (after ++ more) v ≡ w = get_or_append_left after more [] v d.within ∙ d.named in
+            let read : name_of (after ++ more) n ≡ x = ap (λ (t : List (List ℕ)). name_of (t ++ more) n) d.front ∙ named_along names d.rest more n x r.below r.named in
+            rw (named, read, ty.0) refl;
+        fits = (d.low, r.below, ty.1);
+        next = d.next;
+        are = d.are;
+        few = d.few;
+        rest = d.rest;
+        front = d.front;
+      }
 
   takes_drop : (w : List ℕ) (v : ℕ) (after : List (List ℕ)) → Takes names Read w v → Some names ≡ Some after → TakesCall roots names (codes "drop" ∷ w ∷ []) (calls.DropRoot v) after
   takes_drop w v after tw e =
@@ -204,10 +222,18 @@ module _ (roots : ℕ) (names : List (List ℕ)) (are : AreNames names) (few : l
       let r = reads_name names w v tw in
       let q = reads_name names y k ty in
       subst (λ (t : List (List ℕ)). TakesCall roots names (codes "put" ∷ w ∷ x ∷ y ∷ []) (calls.Put v n k) t) (some_is names after e)
-      (record { spelled = λ more.
-        let read : name_of (names ++ more) v ≡ w = get_or_append_left names more [] v r.below ∙ r.named in
-        let other : name_of (names ++ more) k ≡ y = get_or_append_left names more [] k q.below ∙ q.named in
-        rw (read, other, tx.0) refl; fits = (r.below, tx.1, q.below); next = refl; are = are; few = few; rest = []; front = sym (append-nil names) })
+      (record {
+        spelled = λ more.
+            let read : name_of (names ++ more) v ≡ w = get_or_append_left names more [] v r.below ∙ r.named in
+            let other : name_of (names ++ more) k ≡ y = get_or_append_left names more [] k q.below ∙ q.named in
+            rw (read, other, tx.0) refl;
+        fits = (r.below, tx.1, q.below);
+        next = refl;
+        are = are;
+        few = few;
+        rest = [];
+        front = sym (append-nil names);
+      })
 
   takes_collect : (after : List (List ℕ)) → Some names ≡ Some after → TakesCall roots names (codes "collect" ∷ []) calls.Collect after
   takes_collect after e =
@@ -251,7 +277,7 @@ module _ (roots : ℕ) (names : List (List ℕ)) (are : AreNames names) (few : l
       let t = by_command k.0 w.0.1 v.0 n.0 each n.1 in
       let spelled : words ≡ named_text k.0 ∷ w.0.1 = word_takes words w.0 w.1 ∙ ap (λ (x : List ℕ). x ∷ w.0.1) (named_takes w.0.0 k.0 k.1) in
       subst (λ (x : Call × List (List ℕ)). TakesCall roots names words x.0 x.1) (some_is (call_of k.0 v.0, n.0) c n.2)
-        (subst (λ (x : List (List ℕ)). TakesCall roots names x (call_of k.0 v.0) n.0) (sym spelled) t)
+      (subst (λ (x : List (List ℕ)). TakesCall roots names x (call_of k.0 v.0) n.0) (sym spelled) t)
 
 -- a line is its words, with one space between them
 pub line_is : (line : List ℕ) → line ≡ join_with_byte 32 (words_of line)
@@ -287,37 +313,42 @@ calls_take roots count names (l ∷ m ∷ more) p rest e are few room =
     ended_or : (b : Bool) (x : ProgramView × List (List ℕ)) (r : Option (ProgramView × List (List ℕ))) (y : ProgramView × List (List ℕ)) → cond b (Some x) r ≡ Some y → ((b ≡ true) × (x ≡ y)) ⊎ ((b ≡ false) × (r ≡ Some y))
     ended_or true x r y h = inl (refl, some_is x y h)
     ended_or false x r y h = inr (refl, h)
+
     ended : (bytes_eq l end_word ≡ true) × (ends_with names (m ∷ more) ≡ (p, rest)) → TakesProgram roots count names (l ∷ m ∷ more) p rest
     ended h =
-      let line : l ≡ end_word = (bytes_eq-Decides l end_word).0 h.0 in
-      subst (λ (y : ProgramView × List (List ℕ)). TakesProgram roots count names (l ∷ m ∷ more) y.0 y.1) h.1
+        let line : l ≡ end_word = (bytes_eq-Decides l end_word).0 h.0 in
+        subst (λ (y : ProgramView × List (List ℕ)). TakesProgram roots count names (l ∷ m ∷ more) y.0 y.1) h.1
         (record { spelled = ap (λ (x : List ℕ). x ∷ m ∷ more) line; are = are; few = few; more = []; front = sym (append-nil names); calls = refl; total = omega arith })
+
     goes_on : ((after : List (List ℕ)) (q : ProgramView) (left : List (List ℕ)) → calls_at roots (count + 1) after (m ∷ more) ≡ Some (q, left) → AreNames after → length after ≤ roots → count + 1 ≤ 1048576 → TakesProgram roots (count + 1) after (m ∷ more) q left)
-      → (bytes_eq l end_word ≡ false) × ((command_at roots names (words_of l) >>= λ c. cond (leb 1048576 count) None (calls_at roots (count + 1) c.1 (m ∷ more) >>= λ q. Some (with_call c.0 q))) ≡ Some (p, rest)) → TakesProgram roots count names (l ∷ m ∷ more) p rest
+        → (bytes_eq l end_word ≡ false) × ((command_at roots names (words_of l) >>= λ c. cond (leb 1048576 count) None (calls_at roots (count + 1) c.1 (m ∷ more) >>= λ q. Some (with_call c.0 q))) ≡ Some (p, rest)) → TakesProgram roots count names (l ∷ m ∷ more) p rest
     goes_on again h =
-      let c = bind_some (command_at roots names (words_of l)) (λ c. cond (leb 1048576 count) None (calls_at roots (count + 1) c.1 (m ∷ more) >>= λ q. Some (with_call c.0 q))) (p, rest) h.1 in
-      let g = guard_read (leb 1048576 count) (calls_at roots (count + 1) c.0.1 (m ∷ more) >>= λ q. Some (with_call c.0.0 q)) (p, rest) c.2 in
-      let q = bind_some (calls_at roots (count + 1) c.0.1 (m ∷ more)) (λ q. Some (with_call c.0.0 q)) (p, rest) g.1 in
-      let t = command_takes roots names are few (words_of l) c.0 c.1 in
-      let below : count < 1048576 = grind (arith, nat_tests, g.0) in
-      let others = again c.0.1 q.0.0 q.0.1 q.1 t.are t.few (omega arith) in
-      joined c.0.0 c.0.1 q.0 t others (some_is (with_call c.0.0 q.0) (p, rest) q.2)
+        let c = bind_some (command_at roots names (words_of l)) (λ c. cond (leb 1048576 count) None (calls_at roots (count + 1) c.1 (m ∷ more) >>= λ q. Some (with_call c.0 q))) (p, rest) h.1 in
+        let g = guard_read (leb 1048576 count) (calls_at roots (count + 1) c.0.1 (m ∷ more) >>= λ q. Some (with_call c.0.0 q)) (p, rest) c.2 in
+        let q = bind_some (calls_at roots (count + 1) c.0.1 (m ∷ more)) (λ q. Some (with_call c.0.0 q)) (p, rest) g.1 in
+        let t = command_takes roots names are few (words_of l) c.0 c.1 in
+        let below : count < 1048576 = grind (arith, nat_tests, g.0) in
+        let others = again c.0.1 q.0.0 q.0.1 q.1 t.are t.few (omega arith) in
+        joined c.0.0 c.0.1 q.0 t others (some_is (with_call c.0.0 q.0) (p, rest) q.2)
       where
         guard_read : {A : Type 0} (b : Bool) (r : Option A) (y : A) → cond b None r ≡ Some y → (b ≡ false) × (r ≡ Some y)
         guard_read true r y k = absurd cc
         guard_read false r y k = (refl, k)
+
         joined : (call : Call) (after : List (List ℕ)) (q : ProgramView × List (List ℕ)) → TakesCall roots names (words_of l) call after → TakesProgram roots (count + 1) after (m ∷ more) q.0 q.1
             → with_call call q ≡ (p, rest) → TakesProgram roots count names (l ∷ m ∷ more) p rest
         joined call after q t o same =
-          let words : words_of l ≡ command_words q.0.names call = rw o.front (t.spelled o.more) in
-          let line : l ≡ join_with_byte 32 (command_words q.0.names call) = line_is l ∙ ap (join_with_byte 32) words in
-          subst (λ (y : ProgramView × List (List ℕ)). TakesProgram roots count names (l ∷ m ∷ more) y.0 y.1) same
+            let words : words_of l ≡ command_words q.0.names call = rw o.front (t.spelled o.more) in
+            let line : l ≡ join_with_byte 32 (command_words q.0.names call) = line_is l ∙ ap (join_with_byte 32) words in
+            subst (λ (y : ProgramView × List (List ℕ)). TakesProgram roots count names (l ∷ m ∷ more) y.0 y.1) same
             (record {
               spelled = rw (line, o.spelled) refl;
-              are = o.are; few = o.few; more = t.rest ++ o.more;
+              are = o.are;
+              few = o.few;
+              more = t.rest ++ o.more;
               front = o.front ∙ ap (λ (x : List (List ℕ)). x ++ o.more) t.front ∙ append_assoc names t.rest o.more;
               calls = (t.fits, rw t.next o.calls);
-              total = omega (arith, o.total)
+              total = omega (arith, o.total);
             })
 
 -- the first word of a section stands on its first line
@@ -334,10 +365,12 @@ section_takes roots count lines p rest e some room =
     guard_section : (b : Bool) (r : Option (ProgramView × List (List ℕ))) (y : ProgramView × List (List ℕ)) → cond b r None ≡ Some y → (b ≡ true) × (r ≡ Some y)
     guard_section true r y k = (refl, k)
     guard_section false r y k = absurd cc
+
     line_takes : (ls : List (List ℕ)) (l : List ℕ × List (List ℕ)) → line_at ls ≡ Some l → ls ≡ l.0 ∷ l.1
     line_takes [] l k = absurd cc
     line_takes (x ∷ []) l k = absurd cc
     line_takes (x ∷ y ∷ ys) l k = ap (λ (q : List ℕ × List (List ℕ)). q.0 ∷ q.1) (some_is (x, y ∷ ys) l k)
+
     board_names : AreNames (board_name ∷ [])
     board_names = record { some = omega arith; board = refl; spelled = λ root below. at root below; distinct = λ a b before below. absurd (omega arith) }
       where
@@ -368,22 +401,22 @@ sections_take zero roots count lines ps e some room =
     subst (λ (x : List ProgramView). TakesPrograms zero roots count lines x) g.1 (record { spelled = nothing_left lines g.0; programs = tt; total = omega arith; few = omega arith })
 sections_take (suc left) roots count lines ps e some room =
     ⊎_elim
-      (λ (h : (is_end lines ≡ true) × (no_programs ≡ ps)).
-        subst (λ (x : List ProgramView). TakesPrograms (suc left) roots count lines x) h.1 (record { spelled = nothing_left lines h.0; programs = tt; total = omega arith; few = omega arith }))
-      (λ (h : (is_end lines ≡ false) × ((section_at roots count lines >>= λ p. sections_at left roots (count + length p.0.calls) p.1 >>= λ qs. Some (p.0 ∷ qs)) ≡ Some ps)).
-        let p = bind_some (section_at roots count lines) (λ p. sections_at left roots (count + length p.0.calls) p.1 >>= λ qs. Some (p.0 ∷ qs)) ps h.1 in
-        let q = bind_some (sections_at left roots (count + length p.0.0.calls) p.0.1) (λ qs. Some (p.0.0 ∷ qs)) ps p.2 in
-        let one = section_takes roots count lines p.0.0 p.0.1 p.1 some room in
-        let others = sections_take left roots (count + length p.0.0.calls) p.0.1 q.0 q.1 some one.2 in
-        subst (λ (x : List ProgramView). TakesPrograms (suc left) roots count lines x) (some_is (p.0.0 ∷ q.0) ps q.2)
-          (record {
-            spelled = one.0 ∙ ap (λ (x : List (List ℕ)). lines_from (section_lines p.0.0) ++ x) others.spelled ∙ sym (append_assoc (lines_from (section_lines p.0.0)) (lines_from (flat_map section_lines q.0)) ([] ∷ []))
-              ∙ ap (λ (x : List (List ℕ)). x ++ [] ∷ []) (sym (map-append (join_with_byte 32) (section_lines p.0.0) (flat_map section_lines q.0)));
-            programs = (one.1, others.programs);
-            total = omega (arith, others.total, sum_by-cons (λ (x : ProgramView). length x.calls) p.0.0 q.0);
-            few = omega (arith, others.few)
-          }))
-      (ended_or (is_end lines) no_programs (section_at roots count lines >>= λ p. sections_at left roots (count + length p.0.calls) p.1 >>= λ qs. Some (p.0 ∷ qs)) ps e)
+    (λ (h : (is_end lines ≡ true) × (no_programs ≡ ps)).
+    subst (λ (x : List ProgramView). TakesPrograms (suc left) roots count lines x) h.1 (record { spelled = nothing_left lines h.0; programs = tt; total = omega arith; few = omega arith }))
+    (λ (h : (is_end lines ≡ false) × ((section_at roots count lines >>= λ p. sections_at left roots (count + length p.0.calls) p.1 >>= λ qs. Some (p.0 ∷ qs)) ≡ Some ps)).
+    let p = bind_some (section_at roots count lines) (λ p. sections_at left roots (count + length p.0.calls) p.1 >>= λ qs. Some (p.0 ∷ qs)) ps h.1 in
+    let q = bind_some (sections_at left roots (count + length p.0.0.calls) p.0.1) (λ qs. Some (p.0.0 ∷ qs)) ps p.2 in
+    let one = section_takes roots count lines p.0.0 p.0.1 p.1 some room in
+    let others = sections_take left roots (count + length p.0.0.calls) p.0.1 q.0 q.1 some one.2 in
+    subst (λ (x : List ProgramView). TakesPrograms (suc left) roots count lines x) (some_is (p.0.0 ∷ q.0) ps q.2)
+    (record {
+      spelled = one.0 ∙ ap (λ (x : List (List ℕ)). lines_from (section_lines p.0.0) ++ x) others.spelled ∙ sym (append_assoc (lines_from (section_lines p.0.0)) (lines_from (flat_map section_lines q.0)) ([] ∷ []))
+          ∙ ap (λ (x : List (List ℕ)). x ++ [] ∷ []) (sym (map-append (join_with_byte 32) (section_lines p.0.0) (flat_map section_lines q.0)));
+      programs = (one.1, others.programs);
+      total = omega (arith, others.total, sum_by-cons (λ (x : ProgramView). length x.calls) p.0.0 q.0);
+      few = omega (arith, others.few);
+    }))
+    (ended_or (is_end lines) no_programs (section_at roots count lines >>= λ p. sections_at left roots (count + length p.0.calls) p.1 >>= λ qs. Some (p.0 ∷ qs)) ps e)
   where
     ended_or : (b : Bool) (x : List ProgramView) (r : Option (List ProgramView)) (y : List ProgramView) → cond b (Some x) r ≡ Some y → ((b ≡ true) × (x ≡ y)) ⊎ ((b ≡ false) × (r ≡ Some y))
     ended_or true x r y h = inl (refl, some_is x y h)
@@ -415,16 +448,18 @@ setting_takes key lines v more e =
     guard_both true true r y h = (refl, refl, h)
     guard_both true false r y h = absurd cc
     guard_both false b r y h = absurd cc
+
     line_takes : (ls : List (List ℕ)) (l : List ℕ × List (List ℕ)) → line_at ls ≡ Some l → ls ≡ l.0 ∷ l.1
     line_takes [] l h = absurd cc
     line_takes (x ∷ []) l h = absurd cc
     line_takes (x ∷ y ∷ ys) l h = ap (λ (q : List ℕ × List (List ℕ)). q.0 ∷ q.1) (some_is (x, y ∷ ys) l h)
+
     finish : (l k n : List ℕ × List (List ℕ)) (x : ℕ) → lines ≡ l.0 ∷ l.1 → words_of l.0 ≡ k.0 ∷ k.1 → k.1 ≡ n.0 ∷ n.1 → k.0 ≡ key.0 → n.1 ≡ [] → (n.0 ≡ decimal x) × (key.1.0 ≤ x) × (x ≤ key.1.1) → numbered x l.1 ≡ numbered v more
         → (lines ≡ join_with_byte 32 (key.0 ∷ decimal v ∷ []) ∷ more) × (key.1.0 ≤ v) × (v ≤ key.1.1)
     finish l k n x el ek en ekey enil w same =
-      let words : words_of l.0 ≡ key.0 ∷ decimal x ∷ [] = ek ∙ ap (λ (t : List (List ℕ)). k.0 ∷ t) (en ∙ ap (λ (t : List (List ℕ)). n.0 ∷ t) enil) ∙ rw (ekey, w.0) refl in
-      let line : l.0 ≡ join_with_byte 32 (key.0 ∷ decimal x ∷ []) = line_is l.0 ∙ ap (join_with_byte 32) words in
-      subst (λ (y : ℕ × List (List ℕ)). (lines ≡ join_with_byte 32 (key.0 ∷ decimal y.0 ∷ []) ∷ y.1) × (key.1.0 ≤ y.0) × (y.0 ≤ key.1.1)) same (el ∙ ap (λ (t : List ℕ). t ∷ l.1) line, w.1, w.2)
+        let words : words_of l.0 ≡ key.0 ∷ decimal x ∷ [] = ek ∙ ap (λ (t : List (List ℕ)). k.0 ∷ t) (en ∙ ap (λ (t : List (List ℕ)). n.0 ∷ t) enil) ∙ rw (ekey, w.0) refl in
+        let line : l.0 ≡ join_with_byte 32 (key.0 ∷ decimal x ∷ []) = line_is l.0 ∙ ap (join_with_byte 32) words in
+        subst (λ (y : ℕ × List (List ℕ)). (lines ≡ join_with_byte 32 (key.0 ∷ decimal y.0 ∷ []) ∷ y.1) × (key.1.0 ≤ y.0) × (y.0 ≤ key.1.1)) same (el ∙ ap (λ (t : List ℕ). t ∷ l.1) line, w.1, w.2)
 
 pub settings_take : (keys : List (List ℕ × (ℕ × ℕ))) (lines : List (List ℕ)) (vs : List ℕ) (rest : List (List ℕ)) → settings_at keys lines ≡ Some (vs, rest) → TakesSettings keys lines vs rest
 unfolding each_at
@@ -459,7 +494,7 @@ are_values lines vs rest e =
       roots_low = (at 7 ([], (0, 0)) (omega arith)).0;
       roots_high = (at 7 ([], (0, 0)) (omega arith)).1;
       board_low = (at 10 ([], (0, 0)) (omega arith)).0;
-      board_high = (at 10 ([], (0, 0)) (omega arith)).1
+      board_high = (at 10 ([], (0, 0)) (omega arith)).1;
     }
 
 pub values_if_ok : {X : Type 0} (items : X → List ℕ) (after : X → List (List ℕ)) (lines : List (List ℕ)) (r : Result X Refusal) → Gives (λ x. (items x, after x)) r (settings_at keys lines) → IfOk r (λ x. AreValues (items x))
@@ -506,10 +541,10 @@ script_takes text vs ps e =
     let first = settings_spelled keys (lines_of text) a.0.0 a.0.1 (settings_take keys (lines_of text) a.0.0 a.0.1 a.1) in
     let second = sections_take 16 (get_or a.0.0 7 0) 0 a.0.1 b.0 b.1 values.roots_low (omega arith) in
     let lines : lines_of text ≡ lines_from (script_lines (script_of a.0.0 b.0)) ++ [] ∷ [] =
-          first ∙ ap (λ (t : List (List ℕ)). lines_from (setting_lines keys a.0.0) ++ t) second.spelled
-          ∙ sym (append_assoc (lines_from (setting_lines keys a.0.0)) (lines_from (flat_map section_lines b.0)) ([] ∷ []))
-          ∙ ap (λ (t : List (List ℕ)). t ++ [] ∷ []) (sym (map-append (join_with_byte 32) (setting_lines keys a.0.0) (flat_map section_lines b.0)))
-          ∙ ap (λ (t : List (List (List ℕ))). lines_from (t ++ flat_map section_lines b.0) ++ [] ∷ []) (the_settings a.0.0 b.0 values) in
+    first ∙ ap (λ (t : List (List ℕ)). lines_from (setting_lines keys a.0.0) ++ t) second.spelled
+    ∙ sym (append_assoc (lines_from (setting_lines keys a.0.0)) (lines_from (flat_map section_lines b.0)) ([] ∷ []))
+    ∙ ap (λ (t : List (List ℕ)). t ++ [] ∷ []) (sym (map-append (join_with_byte 32) (setting_lines keys a.0.0) (flat_map section_lines b.0)))
+    ∙ ap (λ (t : List (List (List ℕ))). lines_from (t ++ flat_map section_lines b.0) ++ [] ∷ []) (the_settings a.0.0 b.0 values) in
     let spelled : text ≡ flat_map line_text (script_lines (script_of a.0.0 b.0)) = text_is text ∙ ap (join_with_byte 10) lines ∙ joined (script_lines (script_of a.0.0 b.0)) in
     subst (λ (x : List ℕ × List ProgramView). text ≡ flat_map line_text (script_lines (script_of x.0 x.1))) (some_is (a.0.0, b.0) (vs, ps) b.2) spelled
 

@@ -202,17 +202,17 @@ command_at roots names words = do
 abbrev pub keys : List (List ℕ × (ℕ × ℕ))
 keys =
     (codes "mako", (1, 1))
-  ∷ (codes "servers", (1, 8))
-  ∷ (codes "tablets", (1, 256))
-  ∷ (codes "entries", (1, 1024))
-  ∷ (codes "words", (16, 65536))
-  ∷ (codes "spare", (1, 8))
-  ∷ (codes "ring", (1, 64))
-  ∷ (codes "roots", (1, 32))
-  ∷ (codes "cycles", (0, 1048575))
-  ∷ (codes "gens", (1, 1048575))
-  ∷ (codes "board", (1, 14))
-  ∷ []
+    ∷ (codes "servers", (1, 8))
+    ∷ (codes "tablets", (1, 256))
+    ∷ (codes "entries", (1, 1024))
+    ∷ (codes "words", (16, 65536))
+    ∷ (codes "spare", (1, 8))
+    ∷ (codes "ring", (1, 64))
+    ∷ (codes "roots", (1, 32))
+    ∷ (codes "cycles", (0, 1048575))
+    ∷ (codes "gens", (1, 1048575))
+    ∷ (codes "board", (1, 14))
+    ∷ []
 
 -- a key of a table, and the range of its number
 abbrev pub key_view : Key → List ℕ × (ℕ × ℕ)
@@ -246,7 +246,7 @@ calls_at roots count names (l ∷ []) = None
 calls_at roots count names (l ∷ m ∷ more) =
     if bytes_eq l end_word then Some (record { names = names; calls = [] }, m ∷ more)
     else (command_at roots names (words_of l) >>= λ c.
-      if nat_le 1048576 count then None else (calls_at roots (count + 1) c.1 (m ∷ more) >>= λ p. Some (with_call c.0 p)))
+    if nat_le 1048576 count then None else (calls_at roots (count + 1) c.1 (m ∷ more) >>= λ p. Some (with_call c.0 p)))
 
 unfoldable pub section_at : ℕ → ℕ → List (List ℕ) → Option (ProgramView × List (List ℕ))
 section_at roots count lines = do
@@ -288,7 +288,8 @@ numbers_in v mutators = record {
   ring = slice_index v 6;
   roots = slice_index v 7;
   cycles = slice_index v 8;
-  generations = slice_index v 9 }
+  generations = slice_index v 9;
+}
 
 -- the script with these numbers in its settings
 abbrev pub script_of : List ℕ → List ProgramView → ScriptView

@@ -16,17 +16,17 @@ line_text words = join_with_byte 32 words ++ 10 ∷ []
 abbrev pub settings : ScriptView → List (List ℕ × ℕ)
 settings s =
     (codes "mako", 1)
-  ∷ (codes "servers", s.numbers.servers)
-  ∷ (codes "tablets", s.numbers.tablets)
-  ∷ (codes "entries", s.numbers.entries)
-  ∷ (codes "words", s.numbers.words)
-  ∷ (codes "spare", s.numbers.spare)
-  ∷ (codes "ring", s.numbers.ring)
-  ∷ (codes "roots", s.numbers.roots)
-  ∷ (codes "cycles", s.numbers.cycles)
-  ∷ (codes "gens", s.numbers.generations)
-  ∷ (codes "board", s.board)
-  ∷ []
+    ∷ (codes "servers", s.numbers.servers)
+    ∷ (codes "tablets", s.numbers.tablets)
+    ∷ (codes "entries", s.numbers.entries)
+    ∷ (codes "words", s.numbers.words)
+    ∷ (codes "spare", s.numbers.spare)
+    ∷ (codes "ring", s.numbers.ring)
+    ∷ (codes "roots", s.numbers.roots)
+    ∷ (codes "cycles", s.numbers.cycles)
+    ∷ (codes "gens", s.numbers.generations)
+    ∷ (codes "board", s.board)
+    ∷ []
 
 -- the words of a setting's line
 abbrev pub setting_words : List ℕ × ℕ → List (List ℕ)

@@ -21,3 +21,6 @@ pub use output::write_output;
 pub use program::Program;
 pub use reading::parse;
 pub use script::Script;
+
+#[cfg(test)]
+mod tests;

@@ -263,11 +263,7 @@ fn write_cycle<K: Sink>(
 }
 
 /// Writes the lines of all finished cycles.
-fn write_cycles<K: Sink>(
-    sink: &mut K,
-    before: usize,
-    cycles: &Cycles,
-) -> Result<usize, WriteFault>
+fn write_cycles<K: Sink>(sink: &mut K, before: usize, cycles: &Cycles) -> Result<usize, WriteFault>
     ensures written { Writes (flat_map cycle_text (enumerate_from 1 cycles.now.lists)) (K.taken sink.old) (K.taken sink.new) before result }
     ensures fault { OnErr result (Rose (K.faults sink.old) (K.faults sink.new)) }
     ensures counted { K.faults sink.old ≤ K.faults sink.new }

@@ -21,17 +21,61 @@ struct Key {
 
 /// The keys, in the order of their lines.
 const KEYS: [Key; SETTINGS] = [
-    Key { word: b"mako", low: 1, high: 1 },
-    Key { word: b"servers", low: 1, high: 8 },
-    Key { word: b"tablets", low: 1, high: 256 },
-    Key { word: b"entries", low: 1, high: 1024 },
-    Key { word: b"words", low: 16, high: 65_536 },
-    Key { word: b"spare", low: 1, high: 8 },
-    Key { word: b"ring", low: 1, high: 64 },
-    Key { word: b"roots", low: 1, high: 32 },
-    Key { word: b"cycles", low: 0, high: 1_048_575 },
-    Key { word: b"gens", low: 1, high: 1_048_575 },
-    Key { word: b"board", low: 1, high: 14 },
+    Key {
+        word: b"mako",
+        low: 1,
+        high: 1,
+    },
+    Key {
+        word: b"servers",
+        low: 1,
+        high: 8,
+    },
+    Key {
+        word: b"tablets",
+        low: 1,
+        high: 256,
+    },
+    Key {
+        word: b"entries",
+        low: 1,
+        high: 1024,
+    },
+    Key {
+        word: b"words",
+        low: 16,
+        high: 65_536,
+    },
+    Key {
+        word: b"spare",
+        low: 1,
+        high: 8,
+    },
+    Key {
+        word: b"ring",
+        low: 1,
+        high: 64,
+    },
+    Key {
+        word: b"roots",
+        low: 1,
+        high: 32,
+    },
+    Key {
+        word: b"cycles",
+        low: 0,
+        high: 1_048_575,
+    },
+    Key {
+        word: b"gens",
+        low: 1,
+        high: 1_048_575,
+    },
+    Key {
+        word: b"board",
+        low: 1,
+        high: 14,
+    },
 ];
 
 /// The number of a key's line, and the text behind the line.

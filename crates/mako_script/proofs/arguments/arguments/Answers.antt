@@ -12,9 +12,10 @@ returns-in_err-value c =
     rw (p.1, p.2) (arguments_stop c.in_err-value.field-0.0 _ _ _ (each_stops c.in_err-value.field-0.0 (value_at (texts c.args.names.now)) c.loop-kind.values.items c.args.kinds.now c.loop-kind.kind-index _ (words_behind c.loop-kind.rest.now) _ c.loop-kind-test.true (get_or_default _ _ _ _ c.loop-kind-test.true) c.in_err-value.ensures c.loop-kind.invariant.0))
 
 pub loop-kind-preserved : goal.loop-kind-preserved
-loop-kind-preserved c =
-    (rw c.push.ensures.items (each_more (value_at (texts c.args.names.now)) c.loop-kind.values.items c.args.kinds.now c.loop-kind.kind-index _ (words_behind c.loop-kind.rest.now) c.in_ok-value.value (words_behind c.in_ok-value.after.now) _ c.loop-kind-test.true (get_or_default _ _ _ _ c.loop-kind-test.true) c.in_ok-value.ensures c.loop-kind.invariant.0),
-     omega (arith, c.push.ensures.len, c.loop-kind.invariant.1))
+loop-kind-preserved c = (
+  rw c.push.ensures.items (each_more (value_at (texts c.args.names.now)) c.loop-kind.values.items c.args.kinds.now c.loop-kind.kind-index _ (words_behind c.loop-kind.rest.now) c.in_ok-value.value (words_behind c.in_ok-value.after.now) _ c.loop-kind-test.true (get_or_default _ _ _ _ c.loop-kind-test.true) c.in_ok-value.ensures c.loop-kind.invariant.0),
+  omega (arith, c.push.ensures.len, c.loop-kind.invariant.1),
+)
 
 pub returns-then-is_empty : goal.returns-then-is_empty
 returns-then-is_empty c =

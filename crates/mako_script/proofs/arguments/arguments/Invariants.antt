@@ -7,5 +7,5 @@ use Rattle.mako_script.proofs.arguments.arguments.Given as goal
 abbrev pub invariant-loop-kind : goal.invariant-loop-kind
 invariant-loop-kind l =
     (with_front l.values.items (each_at (value_at (texts l.names)) (drop l.kind-index l.kinds) (words_behind l.rest))
-        ≡ each_at (value_at (texts l.names)) l.kinds (words_behind l.text))
-  × (array_vec_len l.values ≡ l.kind-index)
+    ≡ each_at (value_at (texts l.names)) l.kinds (words_behind l.text))
+    × (array_vec_len l.values ≡ l.kind-index)

@@ -20,9 +20,10 @@ loop-k-preserved g c =
     let lists = c.args.cycles.now.lists in
     let names = c.freed.result.now in
     let within : c.loop-k.k < length lists = omega (arith, c.loop-k-test.true, c.len-k-end.ensures) in
-    let split = cycles_more lists c.loop-k.k names within ∙ ap (λ (x : List Name). cycle_text (c.loop-k.k + 1, x) ++ flat_map cycle_text (enumerate_from (c.loop-k.k + 1 + 1) (drop (c.loop-k.k + 1) lists))) (freed_at lists c.loop-k.k names c.freed.ensures) in
-    (goes_on _ _ (cycle_text (c.loop-k.k + 1, names)) _ _ _ _ _ _ _ c.loop-k.invariant.0 split c.in_ok-went.ensures.written.0 c.in_ok-went.ensures.written.1,
-     omega (arith, c.in_ok-went.ensures.counted, c.loop-k.invariant.1))
+    let split = cycles_more lists c.loop-k.k names within ∙ ap (λ (x : List Name). cycle_text (c.loop-k.k + 1, x) ++ flat_map cycle_text (enumerate_from (c.loop-k.k + 1 + 1) (drop (c.loop-k.k + 1) lists))) (freed_at lists c.loop-k.k names c.freed.ensures) in (
+      goes_on _ _ (cycle_text (c.loop-k.k + 1, names)) _ _ _ _ _ _ _ c.loop-k.invariant.0 split c.in_ok-went.ensures.written.0 c.in_ok-went.ensures.written.1,
+      omega (arith, c.in_ok-went.ensures.counted, c.loop-k.invariant.1),
+    )
 
 pub returns-clause-written : goal.returns-clause-written
 returns-clause-written g c =

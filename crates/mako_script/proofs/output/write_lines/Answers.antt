@@ -21,9 +21,10 @@ loop-i-preserved g c =
     let calls = c.args.calls.now in
     let replies = c.args.replies.now in
     let within : c.loop-i.i < length calls = omega (arith, c.requires) in
-    let split = lines_more calls replies c.loop-i.i _ _ within c.loop-i-test.true ∙ ap (λ (x : List ℕ). x ++ lines_text (drop (c.loop-i.i + 1) calls) (drop (c.loop-i.i + 1) replies)) (sym (c.deref.ensures.0 ∙ c.point_line-line.ensures)) in
-    (goes_on _ _ c.deref.result.now _ _ _ _ _ _ _ c.loop-i.invariant.0 split c.in_ok-went.ensures.written.0 c.in_ok-went.ensures.written.1,
-     omega (arith, c.in_ok-went.ensures.counted, c.loop-i.invariant.1))
+    let split = lines_more calls replies c.loop-i.i _ _ within c.loop-i-test.true ∙ ap (λ (x : List ℕ). x ++ lines_text (drop (c.loop-i.i + 1) calls) (drop (c.loop-i.i + 1) replies)) (sym (c.deref.ensures.0 ∙ c.point_line-line.ensures)) in (
+      goes_on _ _ c.deref.result.now _ _ _ _ _ _ _ c.loop-i.invariant.0 split c.in_ok-went.ensures.written.0 c.in_ok-went.ensures.written.1,
+      omega (arith, c.in_ok-went.ensures.counted, c.loop-i.invariant.1),
+    )
 
 pub returns-clause-written : goal.returns-clause-written
 returns-clause-written g c =

@@ -18,9 +18,10 @@ returns-in_err-went-clause-written g c =
 pub loop-i-preserved : goal.loop-i-preserved
 loop-i-preserved g c =
     let names = c.args.names.now in
-    let split = flat_more freed_text names c.loop-i.i _ c.loop-i-test.true ∙ ap (λ (x : List ℕ). x ++ flat_map freed_text (drop (c.loop-i.i + 1) names)) (sym (c.deref.ensures.0 ∙ c.freed_bytes-piece.ensures)) in
-    (goes_on _ _ c.deref.result.now _ _ _ _ _ _ _ c.loop-i.invariant.0 split c.in_ok-went.ensures.written.0 c.in_ok-went.ensures.written.1,
-     omega (arith, c.in_ok-went.ensures.counted, c.loop-i.invariant.1))
+    let split = flat_more freed_text names c.loop-i.i _ c.loop-i-test.true ∙ ap (λ (x : List ℕ). x ++ flat_map freed_text (drop (c.loop-i.i + 1) names)) (sym (c.deref.ensures.0 ∙ c.freed_bytes-piece.ensures)) in (
+      goes_on _ _ c.deref.result.now _ _ _ _ _ _ _ c.loop-i.invariant.0 split c.in_ok-went.ensures.written.0 c.in_ok-went.ensures.written.1,
+      omega (arith, c.in_ok-went.ensures.counted, c.loop-i.invariant.1),
+    )
 
 pub returns-clause-written : goal.returns-clause-written
 returns-clause-written g c =

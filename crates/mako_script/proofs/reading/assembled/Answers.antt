@@ -11,13 +11,13 @@ use Rattle.mako_script.proofs.reading.assembled.Goals as goal
 pub returns-in_default-clause-err : goal.returns-in_default-clause-err
 returns-in_default-clause-err c = λ accepted.
     let same : c.numbers_of-numbers.result ≡ numbers_in c.args.values.now (length c.args.programs.items) =
-          c.numbers_of-numbers.ensures ∙ ap (numbers_in c.args.values.now) (omega (arith, c.len.ensures, c.args.programs.ok.0)) in
+    c.numbers_of-numbers.ensures ∙ ap (numbers_in c.args.values.now) (omega (arith, c.len.ensures, c.args.programs.ok.0)) in
     no_fault c.numbers_of-numbers.result c.in_default.field-0 (rw same accepted.proper.shape) ((c.in_default.ensures.fault c.in_default.field-0).0 refl)
 
 pub returns-then-not-is_accepted-clause-err : goal.returns-then-not-is_accepted-clause-err
 returns-then-not-is_accepted-clause-err c = λ accepted.
     let same : c.numbers_of-numbers.result ≡ numbers_in c.args.values.now (length c.args.programs.items) =
-          c.numbers_of-numbers.ensures ∙ ap (numbers_in c.args.values.now) (omega (arith, c.len.ensures, c.args.programs.ok.0)) in
+    c.numbers_of-numbers.ensures ∙ ap (numbers_in c.args.values.now) (omega (arith, c.len.ensures, c.args.programs.ok.0)) in
     let board = slice_index c.args.values.now 10 in
     let has : has_form (numbers_in c.args.values.now (length c.args.programs.items)) board c.args.programs.items ≡ true = form_has _ board c.args.programs.items accepted.form in
     let test : has_form (numbers_in c.args.values.now (length c.args.programs.items)) board c.args.programs.items ≡ false = rw (← same, ← c.deref.ensures.value) (sym c.if-not-is_accepted.ensures) in
@@ -27,21 +27,21 @@ returns-then-not-is_accepted-clause-err c = λ accepted.
 pub invariant_of-result : goal.invariant_of-result
 invariant_of-result c =
     let same : c.numbers_of-numbers.result ≡ numbers_in c.args.values.now (length c.args.programs.items) =
-          c.numbers_of-numbers.ensures ∙ ap (numbers_in c.args.values.now) (omega (arith, c.len.ensures, c.args.programs.ok.0)) in
+    c.numbers_of-numbers.ensures ∙ ap (numbers_in c.args.values.now) (omega (arith, c.len.ensures, c.args.programs.ok.0)) in
     let board = slice_index c.args.values.now 10 in
     let whole : c.in-Ok.shape ≡ numbers_in c.args.values.now (length c.args.programs.items) = c.in-Ok.ensures.shape.0 ∙ same in
     let shape : IsShape (numbers_in c.args.values.now (length c.args.programs.items)) = subst IsShape whole c.in-Ok.ensures.shape.1 in
     let test : has_form (numbers_in c.args.values.now (length c.args.programs.items)) board c.args.programs.items ≡ true = rw (← same, ← c.deref.ensures.value) (sym c.if-not-is_accepted.ensures) in
     subst (λ (n : Numbers). IsAccepted (record { numbers = n; board = board; programs = c.args.programs.items })) (sym whole)
-      (record { proper = proper_from c.args.values.now c.args.programs.items c.requires.values c.requires.programs shape; form = form_from _ board c.args.programs.items test })
+    (record { proper = proper_from c.args.values.now c.args.programs.items c.requires.values c.requires.programs shape; form = form_from _ board c.args.programs.items test })
 
 pub returns-clause-accepted : goal.returns-clause-accepted
 returns-clause-accepted c =
     let same : c.numbers_of-numbers.result ≡ numbers_in c.args.values.now (length c.args.programs.items) =
-          c.numbers_of-numbers.ensures ∙ ap (numbers_in c.args.values.now) (omega (arith, c.len.ensures, c.args.programs.ok.0)) in
+    c.numbers_of-numbers.ensures ∙ ap (numbers_in c.args.values.now) (omega (arith, c.len.ensures, c.args.programs.ok.0)) in
     let board = slice_index c.args.values.now 10 in
     let whole : c.in-Ok.shape ≡ numbers_in c.args.values.now (length c.args.programs.items) = c.in-Ok.ensures.shape.0 ∙ same in
     let shape : IsShape (numbers_in c.args.values.now (length c.args.programs.items)) = subst IsShape whole c.in-Ok.ensures.shape.1 in
     let test : has_form (numbers_in c.args.values.now (length c.args.programs.items)) board c.args.programs.items ≡ true = rw (← same, ← c.deref.ensures.value) (sym c.if-not-is_accepted.ensures) in
     subst (λ (n : Numbers). IsAccepted (record { numbers = n; board = board; programs = c.args.programs.items })) (sym whole)
-      (record { proper = proper_from c.args.values.now c.args.programs.items c.requires.values c.requires.programs shape; form = form_from _ board c.args.programs.items test })
+    (record { proper = proper_from c.args.values.now c.args.programs.items c.requires.values c.requires.programs shape; form = form_from _ board c.args.programs.items test })

@@ -8,4 +8,4 @@ assembled-requires-clause-programs c =
     let same : c.deref-2.result.now ≡ c.deref.result.now = c.deref-2.ensures.0 ∙ sym c.deref.ensures.0 in
     let some : 1 ≤ get_or c.deref.result.now 7 0 = rw c.deref.ensures.0 c.in_ok-values.ensures.values.roots_low in
     subst (λ (v : List ℕ). AreProper (get_or v 7 0) c.in_ok-programs.programs.items) (sym same)
-      (are_proper (get_or c.deref.result.now 7 0) (lines_of c.in_ok-values.text.now) c.in_ok-programs.programs.items c.in_ok-programs.ensures some)
+    (are_proper (get_or c.deref.result.now 7 0) (lines_of c.in_ok-values.text.now) c.in_ok-programs.programs.items c.in_ok-programs.ensures some)

@@ -30,5 +30,5 @@ commands-preserved c =
       read = rw items (calls_more c.commands.calls.items c.args.roots _ (texts c.commands.names) (lines_of c.commands.rest.now) c.in-Some.call (texts c.next_command.new.names) (lines_of c.in_ok-call.after.now) _ step (omega (arith, c.commands.calls.ok.0)) _ (omega (arith, length_push c.commands.calls.items c.in-Some.call)) c.commands.invariant.read);
       names = step_few c.args.roots (texts c.commands.names) (lines_of c.commands.rest.now) (c.in_ok-call.call, texts c.next_command.new.names, lines_of c.in_ok-call.after.now) c.in_ok-call.ensures.read c.commands.invariant.names;
       count = omega (arith, longer, c.commands.calls.ok.0);
-      left = omega (arith, c.in_ok-call.ensures.shorter, c.commands.invariant.left)
+      left = omega (arith, c.in_ok-call.ensures.shorter, c.commands.invariant.left);
     }

@@ -9,7 +9,7 @@ invariant-commands l = record {
   read : with_calls l.calls.items (calls_at l.roots (l.count + length l.calls.items) (texts l.names) (lines_of l.rest)) ≡ calls_at l.roots l.count (board_name ∷ []) (lines_of l.text);
   names : length (texts l.names) ≤ l.roots;
   count : l.count + length l.calls.items ≤ 1048576;
-  left : length l.rest ≤ length l.text
+  left : length l.rest ≤ length l.text;
 }
 
 abbrev pub decreases-commands : goal.decreases-commands

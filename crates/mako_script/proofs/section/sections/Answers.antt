@@ -30,7 +30,7 @@ loop-rest-preserved c =
     record {
       read = rw items (sections_more _ _ c.args.roots c.loop-rest.count _ programs.items (lines_of c.loop-rest.rest.now) c.in_ok-program.program (lines_of c.in_ok-program.after.now) _ more c.in_ok-program.ensures.read fewer counted c.loop-rest.invariant.read);
       few = omega (arith, longer, programs.ok.0, c.loop-rest.invariant.few);
-      count = omega (arith, counted, c.in_ok-program.ensures.count)
+      count = omega (arith, counted, c.in_ok-program.ensures.count);
     }
 
 pub returns : goal.returns

@@ -15,9 +15,10 @@ returns-in_err-value c =
 pub loop-key-preserved : goal.loop-key-preserved
 loop-key-preserved c =
     let table = c.args.table.now in
-    let within : c.loop-key.key-index < length (map key_view table) = omega (arith, length-map table key_view) in
-    (rw c.push.ensures.items (each_more setting_at c.loop-key.values.items (map key_view table) c.loop-key.key-index _ (lines_of c.loop-key.rest.now) c.in_ok-value.value (lines_of c.in_ok-value.after.now) _ within (key_at table c.loop-key.key-index _ c.loop-key-test.true) c.in_ok-value.ensures c.loop-key.invariant.0),
-     omega (arith, c.push.ensures.len, c.loop-key.invariant.1))
+    let within : c.loop-key.key-index < length (map key_view table) = omega (arith, length-map table key_view) in (
+      rw c.push.ensures.items (each_more setting_at c.loop-key.values.items (map key_view table) c.loop-key.key-index _ (lines_of c.loop-key.rest.now) c.in_ok-value.value (lines_of c.in_ok-value.after.now) _ within (key_at table c.loop-key.key-index _ c.loop-key-test.true) c.in_ok-value.ensures c.loop-key.invariant.0),
+      omega (arith, c.push.ensures.len, c.loop-key.invariant.1),
+    )
 
 pub returns : goal.returns
 returns c =

@@ -7,4 +7,4 @@ use Rattle.mako_script.proofs.settings.numbers.Given as goal
 abbrev pub invariant-loop-key : goal.invariant-loop-key
 invariant-loop-key l =
     (with_front l.values.items (settings_at (drop l.key-index (map key_view l.table)) (lines_of l.rest)) ≡ settings_at (map key_view l.table) (lines_of l.text))
-  × (array_vec_len l.values ≡ l.key-index)
+    × (array_vec_len l.values ≡ l.key-index)
