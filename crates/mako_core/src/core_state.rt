@@ -1,6 +1,6 @@
 //! The core of a run: the words of the heap, and the script that is carried out on them.
 
-ghost use Rattle.std.specs.Prelude.{◌≡◌, ◌<◌, ◌++◌, ◌∷◌, ◌↔◌, [], length, slice_get, IfOk, IsTrue, Some};
+ghost use Rattle.std.specs.Prelude.{◌≡◌, ◌<◌, ◌≤◌, ◌++◌, ◌∷◌, ◌↔◌, [], length, slice_get, IfOk, IsTrue, Some};
 ghost use Rattle.std.specs.Bool.{OnTrue, OnFalse};
 ghost use Rattle.mako_model.specs.Answering.{Answers, AnswersToEnd};
 ghost use Rattle.mako_script.specs.Forms.{all_calls};
@@ -81,6 +81,7 @@ impl Core {
     pub fn step(&mut self) -> bool
         ensures more { IsTrue result ↔ (length self.old.history < length (all_calls self.old.script)) }
         ensures script { self.new.script ≡ self.old.script }
+        ensures within { length self.new.history ≤ length (all_calls self.new.script) }
         ensures answer { OnTrue result (AddsAnswer self.old self.new) }
         ensures still { OnFalse result (self.new ≡ self.old) }
     {

@@ -6,6 +6,8 @@ mod commands;
 mod core_state;
 mod flat_words;
 mod making;
+mod order;
 
 pub use core_state::Core;
 pub use flat_words::FlatWords;
+pub use order::Order;

@@ -27,6 +27,18 @@ impl Model for Cycles {
 }
 
 impl Cycles {
+    /// No finished cycle, and no room for one. It takes no memory.
+    pub fn new(alloc: Global) -> Cycles
+        ensures { result ≡ record { lists = []; names_room = 0; cycles_room = 0 } }
+    {
+        Cycles {
+            names: Vec::new(alloc),
+            ends: Vec::new(alloc),
+            names_room: 0,
+            cycles_room: 0,
+        }
+    }
+
     /// No finished cycle, with room for this many names over all cycles and for this many cycles.
     pub fn with_room(alloc: Global, names: usize, cycles: usize) -> Result<Cycles, Memory>
         ensures empty { IfOk result (λ c. c.lists ≡ []) }

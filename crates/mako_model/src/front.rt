@@ -1,9 +1,10 @@
 //! The front of a run: its history and its finished cycles, as contracts see them.
 
-ghost use Rattle.std.specs.Prelude.{◌≡◌};
+ghost use Rattle.std.specs.Prelude.{◌≡◌, []};
 
 use crate::cycles::Cycles;
 use crate::journal::Journal;
+use std::alloc::Global;
 use std::marker::Model;
 use std::snapshot::Snapshot;
 
@@ -23,6 +24,13 @@ impl Model for Front {
 }
 
 impl Front {
+    /// The front before anything was done.
+    pub fn empty(alloc: Global) -> Front
+        ensures { result ≡ record { history = []; cycles = [] } }
+    {
+        Front::of(&Journal::new(alloc), &Cycles::new(alloc))
+    }
+
     /// The front of a journal and of the finished cycles.
     pub fn of(journal: &Journal, cycles: &Cycles) -> Front
         ensures history { result.history ≡ journal.now.points }

@@ -26,6 +26,16 @@ impl Model for Journal {
 }
 
 impl Journal {
+    /// An empty journal without room. It takes no memory.
+    pub fn new(alloc: Global) -> Journal
+        ensures { result ≡ record { points = []; room = 0 } }
+    {
+        Journal {
+            points: Vec::new(alloc),
+            room: 0,
+        }
+    }
+
     /// An empty journal with room for this many points.
     pub fn with_room(alloc: Global, room: usize) -> Result<Journal, Memory>
         ensures empty { IfOk result (λ j. j.points ≡ []) }
@@ -41,9 +51,7 @@ impl Journal {
         ensures points { self.new.points ≡ self.old.points ++ point ∷ [] }
         ensures room { self.new.room ≡ self.old.room }
     {
-        if self.points.push(point).is_err() {
-            unreachable!()
-        }
+        self.points.push_reserved(point);
     }
 
     /// The number of points.

@@ -1,0 +1,112 @@
+-- What a command comes to, from what was read, and what is told of it.
+use Rattle.std.specs.Prelude.{ℕ, ◌≡◌, ◌≤◌, ◌<◌, ◌⊎◌, Bool, true, List, [], ◌∷◌, length, take, map, string_bytes, codes, Some, IfSome}
+use Rattle.std.specs.declared.option.Option.{Option}
+use Rattle.std.specs.Io.KnownBytes.{Appends, Keeps}
+use Rattle.mako_io.specs.Streams.{TakesMore}
+use Rattle.mako_model.specs.Answering.{AnswersToEnd}
+use Rattle.mako_model.specs.Fronts.{Seen, FollowsPrograms}
+use Rattle.mako_model.specs.Outcomes as outcomes
+use Rattle.mako_script.specs.Forms.{IsAccepted}
+use Rattle.mako_script.specs.Outputs.{output_text}
+use Rattle.mako_script.specs.Scripts.{ScriptView}
+use Rattle.mako_script.specs.Texts.{IsScript}
+use Rattle.mako_script.specs.Workloads.{workload_of}
+use Rattle.mako_cli.specs.declared.ended.Ended.{Ended}
+use Rattle.mako_cli.specs.declared.settled.Settled.{Settled}
+use Rattle.mako_cli.specs.declared.settled.Settled.TheVariants.{Done, Usage, NoScript, ReadFault, Memory}
+
+-- the greatest number of bytes of a script
+abbrev pub max_bytes : ℕ
+max_bytes = 16777216
+
+-- the exit status, if all its text is written
+abbrev pub status_of : Settled → ℕ
+status_of (Done script outcome) = 0
+status_of Usage = 1
+status_of NoScript = 2
+status_of ReadFault = 3
+status_of Memory = 5
+
+-- the text that is written
+abbrev pub text_of : Settled → List ℕ
+text_of (Done script outcome) = output_text (length script.programs) outcome.front true
+text_of Usage = codes "usage\n"
+text_of NoScript = codes "script form 0\n"
+text_of ReadFault = codes "read fault\n"
+text_of Memory = codes "memory\n"
+
+-- the front of the run, empty where there was none
+abbrev pub front_of : Settled → Seen
+front_of (Done script outcome) = outcome.front
+front_of Usage = record { history = []; cycles = [] }
+front_of NoScript = record { history = []; cycles = [] }
+front_of ReadFault = record { history = []; cycles = [] }
+front_of Memory = record { history = []; cycles = [] }
+
+-- the bytes are all that the source had, where it tells them, and are not too many
+pub record IsWhole (old new : Option (List ℕ)) (bytes : List ℕ) : Type 0 where
+  pub few : length bytes ≤ max_bytes
+  pub all : IfSome old (λ left. bytes ≡ left)
+  pub ended : IfSome old (λ left. new ≡ Some [])
+
+-- the bytes are those of the script, and the front answers it to the end, without a finished cycle
+pub record IsAnswered (old new : Option (List ℕ)) (script : ScriptView) (front : Seen) : Type 0 where
+  pub bytes : List ℕ
+  pub whole : IsWhole old new bytes
+  pub accepted : IsAccepted script
+  pub spelled : IsScript bytes script
+  pub answers : AnswersToEnd (workload_of script) front
+  pub cycles : front.cycles ≡ []
+
+-- the bytes are not those of a script that is accepted
+pub record IsUnaccepted (old new : Option (List ℕ)) : Type 0 where
+  pub bytes : List ℕ
+  pub whole : IsWhole old new bytes
+  pub none : (script : ScriptView) → IsAccepted script → IsScript bytes script → ⊥
+
+-- What reading a source and carrying out its script come to: done where an accepted script was read, no script where there
+-- was none or too many bytes, a read fault only where the source's count of faults rose. Want of memory is free.
+abbrev pub Settles : Option (List ℕ) → Option (List ℕ) → Type 0 → Settled → Type 0
+Settles old new rose (Done script outcome) = IsAnswered old new script outcome.front
+Settles old new rose Usage = ⊥
+Settles old new rose NoScript = TakesMore max_bytes old new ⊎ IsUnaccepted old new
+Settles old new rose ReadFault = rose
+Settles old new rose Memory = Unit {0}
+
+-- the outcome of a run has the lists of its front, one for each program, and the front follows the programs
+abbrev pub IsTellable : Settled → Type 0
+IsTellable (Done script outcome) = outcomes.IsWhole outcome × (length (outcomes.reply_lists outcome) ≡ length script.programs)
+    × FollowsPrograms (map (λ p. p.calls) script.programs) outcome.front.history
+IsTellable Usage = Unit {0}
+IsTellable NoScript = Unit {0}
+IsTellable ReadFault = Unit {0}
+IsTellable Memory = Unit {0}
+
+-- only a front of the text went out, and the sink's count of faults rose
+pub record IsCut (text : List ℕ) (old new : Option (List ℕ)) (rose : Type 0) : Type 0 where
+  pub cause : rose
+  pub went : ℕ
+  pub short : went < length text
+  pub taken : Appends old new (take went text)
+
+-- the text went out whole with its status, or only a front of it with that of a write fault
+abbrev pub IsWritten : List ℕ → ℕ → Option (List ℕ) → Option (List ℕ) → Type 0 → ℕ → Type 0
+IsWritten text whole old new rose status =
+    ((status ≡ whole) × Appends old new text) ⊎ ((status ≡ 4) × IsCut text old new rose)
+
+-- the text of what a command came to was written, and its front is told
+pub record IsTold (settled : Settled) (old new : Option (List ℕ)) (rose : Type 0) (ended : Ended) : Type 0 where
+  pub written : IsWritten (text_of settled) (status_of settled) old new rose ended.status
+  pub front_is : ended.front ≡ front_of settled
+
+-- the words of the command line that are a command
+abbrev pub command : List (List ℕ)
+command = codes "replay" ∷ codes "turns" ∷ codes "1000" ∷ []
+
+-- What a command line comes to: usage exactly where its words are no command, and then the source was not read.
+abbrev pub Commands : List (List ℕ) → Option (List ℕ) → Option (List ℕ) → Type 0 → Settled → Type 0
+Commands words old new rose Usage = ¬ (words ≡ command)
+Commands words old new rose (Done script outcome) = (words ≡ command) × Settles old new rose (Done script outcome)
+Commands words old new rose NoScript = (words ≡ command) × Settles old new rose NoScript
+Commands words old new rose ReadFault = (words ≡ command) × Settles old new rose ReadFault
+Commands words old new rose Memory = (words ≡ command) × Settles old new rose Memory

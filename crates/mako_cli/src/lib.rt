@@ -1,0 +1,11 @@
+//! The commands of the program, from the words of the command line to the bytes that are written.
+#![tactic(auto)]
+
+mod commands;
+mod ended;
+mod run;
+mod settled;
+
+pub use commands::{replay_top, top};
+pub use ended::Ended;
+pub use settled::Settled;

@@ -1,0 +1,24 @@
+//! A script carried out to its end.
+
+ghost use Rattle.std.specs.Prelude.{◌≡◌, [], length, IfOk};
+ghost use Rattle.mako_model.specs.Answering.{AnswersToEnd};
+ghost use Rattle.mako_model.specs.Outcomes.{IsWhole, reply_lists};
+ghost use Rattle.mako_script.specs.Workloads.{workload_of};
+
+use mako_core::Core;
+use mako_model::Outcome;
+use mako_script::Script;
+use mako_words::Memory;
+use std::alloc::Global;
+
+/// Carries out a script to its end.
+pub fn run(alloc: Global, script: &Script) -> Result<Outcome, Memory>
+    ensures whole { IfOk result IsWhole }
+    ensures lists { IfOk result (λ o. length (reply_lists o) ≡ length script.now.programs) }
+    ensures answers { IfOk result (λ o. AnswersToEnd (workload_of script.now) o.front) }
+    ensures cycles { IfOk result (λ o. o.front.cycles ≡ []) }
+{
+    let mut core = Core::start(alloc, script)?;
+    'commands: while core.step() {}
+    Ok(core.finish())
+}

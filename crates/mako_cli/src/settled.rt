@@ -1,0 +1,33 @@
+//! What a command comes to, before its text is written.
+
+use mako_model::Outcome;
+use mako_script::Script;
+
+/// What a command comes to, before its text is written.
+#[derive(Drop)]
+pub enum Settled {
+    /// The script was carried out to its end.
+    Done(Script, Outcome),
+    /// The words of the command line are no command.
+    Usage,
+    /// The bytes are no script of the form that is accepted, or too many.
+    NoScript,
+    /// A read failed.
+    ReadFault,
+    /// There was not memory enough before the first step.
+    Memory,
+}
+
+impl Settled {
+    pub const DONE: u8 = 0;
+
+    pub const USAGE: u8 = 1;
+
+    pub const NO_SCRIPT: u8 = 2;
+
+    pub const READ_FAULT: u8 = 3;
+
+    pub const WRITE_FAULT: u8 = 4;
+
+    pub const MEMORY: u8 = 5;
+}
