@@ -1,12 +1,12 @@
 -- What is spelled so is read again.
-use Rattle.std.proofs.Common.{◌≡◌, ◌≢◌, ℕ, zero, suc, ◌+◌, ◌-◌, ◌*◌, ◌^◌, ◌<◌, ◌≤◌, max, Bool, true, false, cond, ltb, leb, eqb, ◌&&◌, ◌||◌, List, [], ◌∷◌, ◌++◌, length, map, get_or, take, drop, Option, Some, None, refl, sym, ap, subst, ◌∙◌, append_assoc, arith, ◌⊎◌, inl, inr, ⊎_elim, sum_by}
-use Rattle.std.specs.Prelude.{is_some, unwrap_or, codes}
+use Rattle.std.proofs.Common.{◌≡◌, ℕ, zero, suc, ◌+◌, ◌^◌, ◌<◌, ◌≤◌, max, true, false, ltb, leb, eqb, ◌||◌, List, [], ◌∷◌, ◌++◌, length, map, take, Option, Some, None, refl, sym, ap, subst, ◌∙◌, append_assoc, arith, ⊎_elim, sum_by}
+use Rattle.std.specs.Prelude.{is_some, codes}
 use Rattle.std.specs.Fmt.{decimal}
 use Rattle.std.specs.Str.{bytes_eq, all_ascii_digits}
-use Rattle.std.specs.List.{join_with_byte, flat_map, AllByRecursion, All, list_all, slice_split}
+use Rattle.std.specs.List.{join_with_byte, flat_map, AllByRecursion, list_all, slice_split}
 use Rattle.std.proofs.lemmas.Bool.{cases_lt}
 use Rattle.std.proofs.lemmas.Bool.Decides.{nat_tests}
-use Rattle.std.proofs.lemmas.List.{append-nil, take_more, get_or-take, length-take-le, length_push, take_all, map-append}
+use Rattle.std.proofs.lemmas.List.{take_more, get_or-take, length-take-le, take_all, map-append}
 use Rattle.std.proofs.lemmas.List.Sums.{sum_by-cons}
 use Rattle.std.proofs.lemmas.List.Elements.{All-from_recursion}
 use Rattle.std.proofs.lemmas.List.Splits.{slice_split_none, slice_split_at}
@@ -22,7 +22,7 @@ use Rattle.mako_script.specs.Names.{is_name, is_letter_or_digit, name_of, AreNam
 use Rattle.mako_script.specs.Programs.{ProgramView, IsCall, defined_after, AreCalls, IsProgram}
 use Rattle.mako_script.specs.Texts.{command_words, command_word, argument_words, end_word, mutator_word, section_lines, line_text, settings, script_lines, script_text}
 use Rattle.mako_script.specs.Scripts.{ScriptView, IsProper}
-use Rattle.mako_script.specs.Reading.{◌>>=◌, lines_of, words_of, number_at, within_at, name_at, place_at, define_at, word_at, command_named, kinds_of, defines, call_of, names_after, value_at, each_at, argument_at, arguments_at, command_at, line_at, setting_at, settings_at, is_nil, calls_at, section_at, sections_at, script_at, script_of, with_call, is_end, keys, Reads}
+use Rattle.mako_script.specs.Reading.{lines_of, words_of, within_at, name_at, place_at, command_named, kinds_of, defines, call_of, names_after, value_at, each_at, argument_at, arguments_at, command_at, setting_at, settings_at, calls_at, section_at, sections_at, script_at, script_of, with_call, keys, Reads}
 use Rattle.mako_script.specs.Forms.{IsAccepted}
 use Rattle.mako_script.proofs.Takes.{some_is}
 use Rattle.mako_script.proofs.Digits.{own, number_again}

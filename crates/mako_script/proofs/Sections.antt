@@ -1,5 +1,5 @@
 -- Reading the commands of a section, and the sections of a script, as a loop does.
-use Rattle.std.proofs.Common.{◌≡◌, ℕ, zero, suc, ◌-◌, ◌+◌, ◌≤◌, ◌<◌, eqb, leb, cond, Bool, true, false, List, [], ◌∷◌, ◌++◌, length, drop, get_or, Option, Some, None, refl, sym, ap, subst, ◌∙◌, append_assoc, arith, ◌⊎◌, inl, inr, ⊎_elim}
+use Rattle.std.proofs.Common.{◌≡◌, ℕ, zero, suc, ◌+◌, ◌≤◌, ◌<◌, eqb, leb, cond, Bool, true, false, List, [], ◌∷◌, ◌++◌, length, Option, Some, None, refl, sym, ap, subst, ◌∙◌, append_assoc, arith, ◌⊎◌, inl, inr, ⊎_elim}
 use Rattle.std.proofs.lemmas.List.{append-nil, length_push}
 use Rattle.std.specs.Prelude.{is_some}
 use Rattle.std.specs.List.{onto_first}
@@ -10,7 +10,7 @@ use Rattle.mako_script.specs.declared.refusal.Refusal.{Refusal}
 use Rattle.mako_script.specs.declared.refusal.Refusal.TheVariants.{Bad, Memory}
 use Rattle.mako_script.specs.Programs.{ProgramView}
 use Rattle.mako_script.specs.Texts.{end_word}
-use Rattle.mako_script.specs.Reading.{◌>>=◌, Refuses, step_at, command_at, calls_at, section_at, sections_at, with_call, line_at, lines_of, words_of, is_end, define_at, place_at, names_after, word_at, name_at, command_named, arguments_at, kinds_of, defines, call_of}
+use Rattle.mako_script.specs.Reading.{◌>>=◌, Refuses, step_at, command_at, calls_at, section_at, sections_at, with_call, lines_of, words_of, is_end, define_at, place_at, names_after, word_at, name_at, command_named, arguments_at, kinds_of, defines, call_of}
 use Rattle.mako_script.proofs.Splits.{split_some}
 use Rattle.mako_script.proofs.Takes.{bind_some, guard_some, some_is}
 

@@ -1,11 +1,11 @@
 -- What is read of commands, sections and settings is spelled so.
-use Rattle.std.proofs.Common.{◌≡◌, ◌≢◌, ℕ, zero, suc, ◌+◌, ◌-◌, ◌*◌, ◌^◌, ◌<◌, ◌≤◌, max, Bool, true, false, cond, ltb, leb, eqb, ◌&&◌, List, [], ◌∷◌, ◌++◌, length, map, get_or, drop, Option, Some, None, refl, sym, ap, subst, ◌∙◌, append_assoc, arith, ◌⊎◌, inl, inr, ⊎_elim, sum_by}
+use Rattle.std.proofs.Common.{◌≡◌, ℕ, zero, suc, ◌+◌, ◌<◌, ◌≤◌, max, Bool, true, false, cond, leb, ◌&&◌, List, [], ◌∷◌, ◌++◌, length, map, get_or, Option, Some, None, refl, sym, ap, subst, ◌∙◌, append_assoc, arith, ◌⊎◌, inl, inr, ⊎_elim, sum_by}
 use Rattle.std.specs.Prelude.{is_some, unwrap_or, codes, Result, Ok, Err, IfOk}
 use Rattle.mako_script.specs.declared.refusal.Refusal.{Refusal}
 use Rattle.std.specs.Fmt.{decimal}
 use Rattle.std.specs.Str.{bytes_eq}
 use Rattle.std.specs.List.{join_with_byte, flat_map, AllByRecursion}
-use Rattle.std.proofs.lemmas.Bool.{cases_lt, cases_eq}
+use Rattle.std.proofs.lemmas.Bool.{cases_lt}
 use Rattle.std.proofs.lemmas.Bool.Decides.{nat_tests}
 use Rattle.std.proofs.lemmas.List.{get_or_append_left, get_or_push, length_push, length-append, append-nil, map-append, drop_more, drop_all}
 use Rattle.std.proofs.lemmas.List.Sums.{sum_by-cons}
@@ -15,17 +15,15 @@ use Rattle.mako_model.specs.declared.call.Call.{Call}
 use Rattle.mako_model.specs.declared.call.Call.TheVariants as calls
 use Rattle.mako_script.specs.declared.command.Command.{Command}
 use Rattle.mako_script.specs.declared.command.Command.TheVariants.{New, Num, Copy, Drop, Get, Put, Show, Collect}
-use Rattle.mako_script.specs.declared.command.Argument.{Argument}
 use Rattle.mako_script.specs.declared.command.Argument.TheVariants.{Defined, Read, Fields, Index, Number}
 use Rattle.mako_script.specs.Names.{is_name, name_of, AreNames, board_name}
 use Rattle.mako_script.specs.Programs.{ProgramView, IsCall, defined_after, AreCalls, IsProgram}
-use Rattle.mako_script.specs.Texts.{command_words, command_word, argument_words, end_word, mutator_word, section_lines, line_text, settings, setting_words, script_lines, script_text, IsScript}
+use Rattle.mako_script.specs.Texts.{command_words, end_word, mutator_word, section_lines, line_text, settings, setting_words, script_lines, script_text, IsScript}
 use Rattle.mako_script.specs.Scripts.{ScriptView}
 use Rattle.mako_script.specs.Forms.{IsAccepted}
 use Rattle.mako_script.specs.Reading.{◌>>=◌, words_of, name_at, place_at, define_at, word_at, command_named, kinds_of, defines, call_of, names_after, arguments_at, command_at, calls_at, section_at, sections_at, with_call, line_at, is_end, is_nil, within_at, setting_at, settings_at, each_at, keys, AreValues, AreProper, Gives, lines_of, script_at, script_of, Reads}
 use Rattle.mako_script.proofs.NameLists.{place_takes, place_none, define_known, define_full, define_new}
 use Rattle.mako_script.proofs.Takes.{bind_some, some_is, name_takes, word_takes, Takes, TakesEach, arguments_take, one, two, three, ended_some, within_takes, nil_is}
-use Rattle.mako_script.proofs.Sections.{define_few}
 
 -- a list of names with a new one behind it
 names_push : (names : List (List ℕ)) (w : List ℕ) → AreNames names → is_name w ≡ true → place_at names w ≡ None → AreNames (names ++ w ∷ [])

@@ -1,6 +1,5 @@
 -- What a reader may answer.
-use Rattle.std.specs.Prelude.{◌≡◌, ℕ, Result, Ok, Err}
-use Rattle.mako_script.specs.declared.fault.Kind.{Kind}
+use Rattle.std.specs.Prelude.{◌≡◌, Result, Ok, Err}
 use Rattle.mako_script.specs.declared.fault.ScriptFault.{ScriptFault}
 use Rattle.mako_script.specs.declared.fault.ScriptFault.TheVariants.{Bad, Memory}
 use Rattle.mako_script.specs.Scripts.{ScriptView}

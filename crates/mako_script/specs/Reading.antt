@@ -1,5 +1,5 @@
 -- Reading a script from its lines and words, as a function on lists. It stands between the text and the code.
-use Rattle.std.specs.Prelude.{◌≡◌, ℕ, zero, suc, sum_by, count_by, ◌+◌, ◌-◌, ◌*◌, ◌<◌, ◌≤◌, ◌&&◌, ◌||◌, ◌==◌, Bool, true, false, not, nat_lt, nat_le, is_some, List, [], ◌∷◌, ◌++◌, length, map, slice_index, position, unwrap_or, Option, Some, None, Result, Ok, Err, codes, string_bytes, String, if◌then◌else◌}
+use Rattle.std.specs.Prelude.{◌≡◌, ℕ, zero, suc, sum_by, count_by, ◌+◌, ◌-◌, ◌*◌, ◌<◌, ◌≤◌, ◌&&◌, ◌||◌, ◌==◌, Bool, true, false, nat_lt, nat_le, is_some, List, [], ◌∷◌, ◌++◌, length, map, slice_index, position, unwrap_or, Option, Some, None, Result, Ok, Err, codes, string_bytes, String, if◌then◌else◌}
 use Rattle.std.specs.List.{slice_split, list_all, AllByRecursion}
 use Rattle.std.specs.Str.{bytes_eq}
 use Rattle.std.specs.Char.{is_ascii_digit}

@@ -1,10 +1,8 @@
 -- What a writer of a part of the output did.
 use Rattle.std.specs.Prelude.{◌≡◌, ℕ, ◌+◌, ◌-◌, ◌^◌, ◌<◌, ◌≤◌, slice_index_or, min, List, [], ◌∷◌, ◌++◌, length, Result, Ok, Err}
-use Rattle.std.specs.List.{flat_map}
 use Rattle.std.specs.declared.option.Option.{Option}
 use Rattle.std.specs.Io.KnownBytes.{Appends}
 use Rattle.mako_io.specs.declared.writing.WriteFault.{WriteFault}
-use Rattle.mako_words.specs.declared.name.Name.{Name}
 use Rattle.mako_model.specs.declared.call.Call.{Call}
 use Rattle.mako_model.specs.declared.reply.Reply.{Reply}
 use Rattle.mako_script.specs.Outputs.{WentOut, point_text, mutator_line}

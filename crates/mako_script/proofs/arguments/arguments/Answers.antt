@@ -1,8 +1,8 @@
-use Rattle.std.proofs.Common.{◌≡◌, ◌∷◌, [], ◌++◌, ◌+◌, ◌<◌, length, arith, sym, get_or}
+use Rattle.std.proofs.Common.{arith}
 use Rattle.std.proofs.lemmas.Result.{err_from_is_err_and}
 use Rattle.std.proofs.lemmas.List.{get_or_default}
 use Rattle.std.proofs.lemmas.Bool.Decides.{nat_tests}
-use Rattle.mako_script.specs.Reading.{value_at, each_at, words_behind, texts}
+use Rattle.mako_script.specs.Reading.{value_at, words_behind, texts}
 use Rattle.mako_script.proofs.Loops.{each_more, each_stops, each_done, arguments_done, arguments_more, arguments_stop}
 use Rattle.mako_script.proofs.arguments.arguments.Goals as goal
 

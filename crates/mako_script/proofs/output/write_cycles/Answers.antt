@@ -1,9 +1,9 @@
-use Rattle.std.proofs.Common.{◌≡◌, ◌+◌, ◌++◌, ◌<◌, length, List, ℕ, drop, ap, sym, ◌∙◌, subst, arith}
+use Rattle.std.proofs.Common.{◌+◌, ◌++◌, ◌<◌, length, List, ℕ, drop, ap, ◌∙◌, subst, arith}
 use Rattle.std.specs.List.{flat_map, enumerate_from}
 use Rattle.std.proofs.lemmas.Result.{err_from_is_err_and}
 use Rattle.mako_words.specs.declared.name.Name.{Name}
 use Rattle.mako_script.specs.Outputs.{cycle_text}
-use Rattle.mako_script.proofs.Progress.{Progress, starts, goes_on, stops, done, cycles_more, cycles_none, freed_at}
+use Rattle.mako_script.proofs.Progress.{Progress, goes_on, stops, done, cycles_more, cycles_none, freed_at}
 use Rattle.mako_script.proofs.output.write_cycles.Goals as goal
 
 pub returns-in_err-went-clause-written : goal.returns-in_err-went-clause-written

@@ -1,4 +1,4 @@
-use Rattle.std.proofs.Common.{◌≡◌, ◌+◌, ◌++◌, ◌<◌, List, ℕ, drop, length, ap, sym, ◌∙◌, subst, arith}
+use Rattle.std.proofs.Common.{◌+◌, ◌++◌, ◌<◌, List, ℕ, drop, length, ap, sym, ◌∙◌, subst, arith}
 use Rattle.std.proofs.lemmas.Result.{err_from_is_err_and}
 use Rattle.mako_script.specs.Written.{lines_text}
 use Rattle.mako_script.proofs.Progress.{Progress, starts, goes_on, stops, done, lines_more, lines_none}

@@ -1,4 +1,4 @@
-use Rattle.std.proofs.Common.{◌≡◌, ◌++◌, List, ℕ, length, map, ap, sym, ◌∙◌, subst, arith, Ok, Err, Vec, Global}
+use Rattle.std.proofs.Common.{◌≡◌, ◌++◌, List, ℕ, length, map, ap, ◌∙◌, arith, Ok, Err, Vec, Global}
 use Rattle.std.specs.List.{flat_map, range_with_len, enumerate_from}
 use Rattle.std.proofs.lemmas.Result.{err_from_is_err_and}
 use Rattle.mako_model.specs.declared.reply.Reply.{Reply}
@@ -6,7 +6,7 @@ use Rattle.mako_script.specs.Programs.{ProgramView}
 use Rattle.mako_script.specs.Scripts.{ScriptView}
 use Rattle.mako_script.specs.Outputs.{mutator_text, cycle_text, last_line}
 use Rattle.mako_script.specs.Written.{sections_text}
-use Rattle.mako_script.proofs.Progress.{both, first, output_sections, fit_programs}
+use Rattle.mako_script.proofs.Progress.{both, first, output_sections}
 use Rattle.mako_script.proofs.output.write_output.Goals as goal
 
 pub returns-in_err-sections-clause-went : goal.returns-in_err-sections-clause-went

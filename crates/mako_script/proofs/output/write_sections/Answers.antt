@@ -1,11 +1,11 @@
-use Rattle.std.proofs.Common.{◌≡◌, ◌+◌, ◌++◌, [], List, ℕ, drop, map, get_or, length, ap, sym, ◌∙◌, subst, arith, Vec, Global}
+use Rattle.std.proofs.Common.{◌≡◌, ◌++◌, [], List, ℕ, map, get_or, ap, sym, ◌∙◌, subst, arith, Vec, Global}
 use Rattle.std.proofs.lemmas.Result.{err_from_is_err_and}
 use Rattle.std.proofs.lemmas.List.{get_or-map, length-map}
 use Rattle.mako_model.specs.declared.reply.Reply.{Reply}
 use Rattle.mako_script.specs.Programs.{ProgramView}
 use Rattle.mako_script.specs.Outputs.{mutator_line}
 use Rattle.mako_script.specs.Written.{sections_text, lines_text}
-use Rattle.mako_script.proofs.Progress.{Progress, starts, goes_on, stops, done, sections_more, sections_none}
+use Rattle.mako_script.proofs.Progress.{Progress, goes_on, stops, done, sections_more, sections_none}
 use Rattle.mako_script.proofs.output.write_sections.Goals as goal
 
 pub write_section-requires : goal.write_section-requires

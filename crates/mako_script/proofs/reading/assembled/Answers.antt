@@ -3,7 +3,7 @@ use Rattle.std.specs.Prelude.{slice_index}
 use Rattle.mako_shape.specs.declared.numbers.Numbers.{Numbers}
 use Rattle.mako_shape.specs.Limits.{IsShape}
 use Rattle.mako_shape.proofs.Ranges.{no_fault}
-use Rattle.mako_script.specs.Forms.{IsFirstForm, IsAccepted}
+use Rattle.mako_script.specs.Forms.{IsAccepted}
 use Rattle.mako_script.specs.Reading.{numbers_in, has_form}
 use Rattle.mako_script.proofs.Accepted.{form_from, form_has, proper_from}
 use Rattle.mako_script.proofs.reading.assembled.Goals as goal

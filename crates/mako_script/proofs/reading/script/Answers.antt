@@ -1,4 +1,4 @@
-use Rattle.std.proofs.Common.{◌≡◌, ◌≤◌, List, ℕ, sym, ap, subst, ◌∙◌, get_or}
+use Rattle.std.proofs.Common.{◌≡◌, ◌≤◌, List, ℕ, sym, subst, ◌∙◌, get_or}
 use Rattle.mako_script.specs.Reading.{AreProper, lines_of}
 use Rattle.mako_script.proofs.Spelled.{are_proper}
 use Rattle.mako_script.proofs.reading.script.Goals as goal

@@ -1,7 +1,7 @@
-use Rattle.std.proofs.Common.{◌≡◌, ◌∷◌, [], ◌++◌, ◌+◌, ◌≤◌, length, arith, sym, ap, ◌∙◌}
+use Rattle.std.proofs.Common.{length, arith, ap, ◌∙◌}
 use Rattle.std.proofs.lemmas.Result.{err_from_is_err_and}
 use Rattle.std.proofs.lemmas.List.{length_push}
-use Rattle.mako_script.specs.Reading.{texts, lines_of, calls_at}
+use Rattle.mako_script.specs.Reading.{texts, lines_of}
 use Rattle.mako_script.proofs.Sections.{calls_stop, calls_end, calls_more, calls_full, step_few}
 use Rattle.mako_script.proofs.section.program.Goals as goal
 

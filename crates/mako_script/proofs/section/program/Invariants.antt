@@ -1,4 +1,4 @@
-use Rattle.std.proofs.Common.{◌≡◌, ◌≤◌, ◌<◌, ◌+◌, ◌∷◌, [], length}
+use Rattle.std.proofs.Common.{◌≡◌, ◌≤◌, ◌+◌, ◌∷◌, [], length}
 use Rattle.mako_script.specs.Names.{board_name}
 use Rattle.mako_script.specs.Reading.{texts, lines_of, calls_at}
 use Rattle.mako_script.proofs.Sections.{with_calls}
