@@ -1,5 +1,5 @@
 -- Steps of worked examples: points that are plainly next, and what was lost at the first snapshot.
-use Rattle.std.proofs.Common.{◌≡◌, ℕ, zero, suc, ◌+◌, ◌<◌, ◌≤◌, ◌⊎◌, inl, inr, ⊎_elim, List, [], ◌∷◌, ◌++◌, length, slice_get, get_or, Contains, Some, None, sym, ap, subst, refl, ◌∙◌, arith, append-nil}
+use Rattle.std.proofs.Common.{◌≡◌, ℕ, zero, suc, ◌+◌, ◌<◌, ◌≤◌, ⊎_elim, List, [], ◌∷◌, ◌++◌, length, slice_get, get_or, Contains, Some, sym, ap, subst, refl, ◌∙◌, arith, append-nil}
 use Rattle.std.proofs.lemmas.List.Elements.{Contains-push_cases}
 use Rattle.std.proofs.lemmas.Option.{same_Some, none-some}
 use Rattle.mako_words.specs.declared.name.Name.{Name}
@@ -12,7 +12,7 @@ use Rattle.mako_model.specs.declared.reply.Reply.TheVariants as reply
 use Rattle.mako_model.specs.declared.point.Point.{Point}
 use Rattle.mako_model.specs.declared.point.Point.TheVariants.{Did, Snap}
 use Rattle.mako_model.specs.Fronts.{Seen, calls_by, FollowsPrograms}
-use Rattle.mako_model.specs.Heaps.{Heap, board_name, fields_of, root_of}
+use Rattle.mako_model.specs.Heaps.{Heap, board_name, fields_of}
 use Rattle.mako_model.specs.Lawful.{IsLawful, heap_after}
 use Rattle.mako_model.specs.Legal.{Workload, state_of}
 use Rattle.mako_model.specs.Reachable.{StandsInField, LeadsTo, IsReachable}

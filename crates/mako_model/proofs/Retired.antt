@@ -1,33 +1,26 @@
 -- An entry is retired after its last generation.
-use Rattle.std.proofs.Common.{◌≡◌, ℕ, zero, suc, ◌+◌, ◌<◌, ◌≤◌, ◌⊎◌, inl, inr, ⊎_elim, List, [], ◌∷◌, ◌++◌, length, set, drop, unwrap_or, slice_get, get_or, Contains, Some, None, sym, ap, subst, refl, ◌∙◌, arith}
+use Rattle.std.proofs.Common.{◌≡◌, ℕ, zero, suc, ◌<◌, inl, inr, ⊎_elim, List, [], ◌∷◌, ◌++◌, drop, slice_get, Contains, Some, subst, refl, arith}
 use Rattle.std.specs.FinMap as finite
 use Rattle.std.specs.List.Sorted.{IsStrictlySortedBy}
-use Rattle.std.proofs.lemmas.List.Elements.{Contains-append_cases, Contains-append_left, Contains-append_right, Contains-push, Contains-push_cases}
+use Rattle.std.proofs.lemmas.List.Elements.{Contains-append_cases, Contains-push_cases}
 use Rattle.std.proofs.lemmas.Option.{same_Some, none-some}
 use Rattle.mako_words.specs.declared.name.Name.{Name}
 use Rattle.mako_words.specs.declared.value.Value.{Value}
 use Rattle.mako_words.specs.declared.value.Value.TheVariants as value
-use Rattle.mako_words.specs.Names.{name_cmp}
 use Rattle.mako_words.proofs.NamesInOrder.{names_total}
 use Rattle.mako_model.specs.declared.call.Call.{Call}
 use Rattle.mako_model.specs.declared.call.Call.TheVariants as call
-use Rattle.mako_model.specs.declared.reply.Reply.{Reply}
 use Rattle.mako_model.specs.declared.reply.Reply.TheVariants as reply
 use Rattle.mako_model.specs.declared.point.Point.{Point}
 use Rattle.mako_model.specs.declared.point.Point.TheVariants.{Did, Snap}
-use Rattle.mako_model.specs.Fronts.{Seen, calls_by, FollowsPrograms}
-use Rattle.mako_model.specs.Heaps.{Heap, board_name, fields_of, root_of}
-use Rattle.mako_model.specs.Lawful.{IsLawful, heap_after}
-use Rattle.mako_model.specs.Legal.{Workload, state_of, IsLegal}
-use Rattle.mako_model.specs.Reachable.{StandsInField, LeadsTo, IsReachable}
-use Rattle.mako_model.specs.Dead.{made_by, names_made, IsDead, AreFreed}
-use Rattle.mako_model.specs.LawfulFronts.{since, IsInRange}
+use Rattle.mako_model.specs.Fronts.{Seen, calls_by}
+use Rattle.mako_model.specs.Heaps.{Heap, board_name, fields_of}
+use Rattle.mako_model.specs.Legal.{state_of}
+use Rattle.mako_model.specs.Reachable.{IsReachable}
+use Rattle.mako_model.specs.Dead.{IsDead, AreFreed}
 use Rattle.mako_model.specs.Starved.{IsStarved}
 use Rattle.mako_model.specs.Answering.{Answers, AnswersToEnd}
-use Rattle.mako_model.proofs.Lists.{get_replicate}
-use Rattle.mako_model.proofs.Closed.{no_null_ref}
-use Rattle.mako_model.proofs.DeadApart.{snap_number}
-use Rattle.mako_model.proofs.Growth.{IsNext, IsStarvedIfFull, with_point, with_cycle, answers_push, answers_finish, answers_opening, opening_front, last_or_before, snaps_stay}
+use Rattle.mako_model.proofs.Growth.{IsNext, IsStarvedIfFull, with_point, with_cycle, answers_push, answers_finish, answers_opening, opening_front}
 use Rattle.mako_model.specs.Starved.{IsEntryTaken}
 use Rattle.mako_model.specs.Examples.{one, remaking, retiring, before_retiring_snap, retiring_history, retired_front, hasty_front}
 use Rattle.mako_model.proofs.Following.{same_reply, no_snap_did, in_none, plain_next, plain_full, made_next, made_full, follows, lost_at_snap, board_reached, other_not_reached}
