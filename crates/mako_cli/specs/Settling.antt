@@ -1,7 +1,7 @@
 -- What a command comes to, from what was read, and what is told of it.
-use Rattle.std.specs.Prelude.{ℕ, ◌≡◌, ◌≤◌, ◌<◌, ◌⊎◌, Bool, true, List, [], ◌∷◌, length, take, map, string_bytes, codes, Some, IfSome}
+use Rattle.std.specs.Prelude.{ℕ, ◌≡◌, ◌≤◌, ◌<◌, ◌⊎◌, true, List, [], ◌∷◌, length, take, map, codes, Some, IfSome}
 use Rattle.std.specs.declared.option.Option.{Option}
-use Rattle.std.specs.Io.KnownBytes.{Appends, Keeps}
+use Rattle.std.specs.Io.KnownBytes.{Appends}
 use Rattle.mako_io.specs.Streams.{TakesMore}
 use Rattle.mako_model.specs.Answering.{AnswersToEnd}
 use Rattle.mako_model.specs.Fronts.{Seen, FollowsPrograms}
@@ -110,3 +110,14 @@ Commands words old new rose (Done script outcome) = (words ≡ command) × Settl
 Commands words old new rose NoScript = (words ≡ command) × Settles old new rose NoScript
 Commands words old new rose ReadFault = (words ≡ command) × Settles old new rose ReadFault
 Commands words old new rose Memory = (words ≡ command) × Settles old new rose Memory
+
+-- A script was read and carried out: its front answers it to the end, and the output of the front was written.
+pub record IsDone (old new taken_old taken_new : Option (List ℕ)) (front : Seen) : Type 0 where
+  pub script : ScriptView
+  pub answered : IsAnswered old new script front
+  pub written : Appends taken_old taken_new (output_text (length script.programs) front true)
+
+-- No accepted script was read, or too many bytes, and its line was written.
+pub record IsRefused (old new taken_old taken_new : Option (List ℕ)) : Type 0 where
+  pub unread : TakesMore max_bytes old new ⊎ IsUnaccepted old new
+  pub written : Appends taken_old taken_new (codes "script form 0\n")

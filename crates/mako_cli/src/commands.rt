@@ -1,11 +1,11 @@
 //! The top call, and the call of the command that it knows.
 
-ghost use Rattle.std.specs.Prelude.{◌≡◌, ◌≤◌, ◌↔◌, [], true, IsTrue, length, map, string_bytes};
+ghost use Rattle.std.specs.Prelude.{◌≡◌, ◌≤◌, ◌↔◌, ◌⊎◌, [], true, IsTrue, length, map, string_bytes};
 ghost use Rattle.mako_io.specs.Causes.{Rose};
 ghost use Rattle.mako_model.specs.Fronts.{FollowsPrograms};
 ghost use Rattle.mako_model.specs.Outcomes as outcomes;
 ghost use Rattle.mako_script.specs.Outputs.{output_text};
-ghost use Rattle.mako_cli.specs.Settling.{Commands, IsTellable, IsTold, IsWritten, Settles, command};
+ghost use Rattle.mako_cli.specs.Settling.{Commands, IsDone, IsRefused, IsTellable, IsTold, IsWritten, Settles, command};
 ghost use Rattle.mako_cli.specs.declared.settled.Settled.{Settled};
 
 use crate::ended::Ended;
@@ -103,6 +103,13 @@ pub fn replay_top<S: Source, K: Sink>(
     sink: &mut K,
 ) -> Ended
     requires { steps ≤ 1000000000 }
+    // Each status has its cause.
+    ensures done { result.status ≡ 0 → IsDone (S.left source.old) (S.left source.new) (K.taken sink.old) (K.taken sink.new) result.front }
+    ensures refused { result.status ≡ 2 → IsRefused (S.left source.old) (S.left source.new) (K.taken sink.old) (K.taken sink.new) }
+    ensures read { result.status ≡ 3 → Rose (S.faults source.old) (S.faults source.new) }
+    ensures write { result.status ≡ 4 → Rose (K.faults sink.old) (K.faults sink.new) }
+
+    // And at the status of a write fault too the front is the one that another status would have.
     ensures settled { (settled : Settled) × Settles (S.left source.old) (S.left source.new) (Rose (S.faults source.old) (S.faults source.new)) settled
         × IsTold settled (K.taken sink.old) (K.taken sink.new) (Rose (K.faults sink.old) (K.faults sink.new)) result }
 {
@@ -140,6 +147,17 @@ pub fn top<S: Source, K: Sink>(
     source: &mut S,
     sink: &mut K,
 ) -> Ended
+    // The words are no command exactly where the status is that of usage, or that of a write fault.
+    ensures usage { result.status ≡ 1 → ¬ (map string_bytes words.now ≡ command) }
+    ensures other { ¬ (map string_bytes words.now ≡ command) → (result.status ≡ 1) ⊎ (result.status ≡ 4) }
+
+    // Each status has its cause.
+    ensures done { result.status ≡ 0 → IsDone (S.left source.old) (S.left source.new) (K.taken sink.old) (K.taken sink.new) result.front }
+    ensures refused { result.status ≡ 2 → IsRefused (S.left source.old) (S.left source.new) (K.taken sink.old) (K.taken sink.new) }
+    ensures read { result.status ≡ 3 → Rose (S.faults source.old) (S.faults source.new) }
+    ensures write { result.status ≡ 4 → Rose (K.faults sink.old) (K.faults sink.new) }
+
+    // And at the status of a write fault too the front is the one that another status would have.
     ensures settled { (settled : Settled) × Commands (map string_bytes words.now) (S.left source.old) (S.left source.new) (Rose (S.faults source.old) (S.faults source.new)) settled
         × IsTold settled (K.taken sink.old) (K.taken sink.new) (Rose (K.faults sink.old) (K.faults sink.new)) result }
 {

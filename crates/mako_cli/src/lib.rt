@@ -9,3 +9,6 @@ mod settled;
 pub use commands::{replay_top, top};
 pub use ended::Ended;
 pub use settled::Settled;
+
+#[cfg(test)]
+mod tests;

@@ -21,7 +21,9 @@ use Rattle.mako_model.specs.Lawful.{RefersTo, IsNoRef, with_field}
 use Rattle.std.specs.Option.{unwrap_or, is_some}
 use Rattle.mako_core.proofs.AreaOrder.{AreaOrder, area_order}
 use Rattle.mako_core.proofs.Frames.{Grows, named_grown, shows_grown, StaysAt, stands_same}
-use Rattle.mako_core.proofs.HeapLaws.{is_none_or_some, get_replicate, get_set, root_changed, root_stays, fields_here, fields_changed, fields_stay}
+use Rattle.mako_core.proofs.HeapLaws.{is_none_or_some, root_changed, root_stays, fields_stay}
+use Rattle.mako_model.proofs.Lists.{get_set_cases, get_replicate}
+use Rattle.mako_model.proofs.Lookups.{fields_same, fields_cases}
 
 module _ (n : Numbers) (ws : List ℕ) (h : Heap) (order : AreaOrder n) (s : StandsFor n ws h) where
   -- a root becomes a value
@@ -83,9 +85,9 @@ module _ (n : Numbers) (ws : List ℕ) (h : Heap) (order : AreaOrder n) (s : Sta
       let grows : Grows h kh = λ other is. fields_stay h name (set fields i v) other is in
       let addresses : address_at n us name.entry ≡ a = ap (λ w. w % 2 ^ 23) (entry_same name.entry t.within) in
       let each : (j : ℕ) (w : Value) → slice_get (set fields i v) j ≡ Some w → Shows kh (get_or us (a + 1 + j) 0) w = λ j w at.
-      elim (get_set fields i v j w at) [
+      elim (get_set_cases fields i j v w at) [
         | inl p ↦ (let P : Value → Type 0 = λ y. Shows kh (get_or us (a + 1 + j) 0) y in
-            subst P (sym p.1) (record { fits = fits; packed = rw p.0 (sym (get_or-set_same ws k (value_word v) 0 inside)); named = named_grown h kh v grows named }))
+            subst P p.1 (record { fits = fits; packed = rw p.0 (sym (get_or-set_same ws k (value_word v) 0 inside)); named = named_grown h kh v grows named }))
         | inr p ↦ shows_grown h kh (get_or ws (a + 1 + j) 0) (get_or us (a + 1 + j) 0) w grows (others (a + 1 + j) (λ e. p.0 (omega arith))) (t.whole.each j w p.1)
       ] in
       let own : Stands n us kh name (set fields i v) = record {
@@ -97,8 +99,8 @@ module _ (n : Numbers) (ws : List ℕ) (h : Heap) (order : AreaOrder n) (s : Sta
         whole = rw addresses (record { header = rw (others a (λ e. omega arith), length-set fields i v) t.whole.header; each = each });
       } in
       let was : (other : Name) (gs : List Value) → fields_of kh other ≡ Some gs → (fs : List Value) × (fields_of h other ≡ Some fs) × (length gs ≡ length fs) = λ other gs at.
-      elim (fields_changed h name (set fields i v) other gs at) [
-        | inl p ↦ (fields, ap (fields_of h) p.0 ∙ here, ap length p.1 ∙ length-set fields i v)
+      elim (fields_cases h name (set fields i v) other gs at) [
+        | inl p ↦ (fields, ap (fields_of h) p.0 ∙ here, ap length (sym p.1) ∙ length-set fields i v)
         | inr p ↦ (gs, p.1, refl)
       ] in
       record {
@@ -108,10 +110,10 @@ module _ (n : Numbers) (ws : List ℕ) (h : Heap) (order : AreaOrder n) (s : Sta
         has_roots = s.has_roots;
         rooted = s.rooted;
         roots = λ r w e. shows_grown h kh _ _ w grows (others (index n (root 0 r)) (λ same. omega (arith, order.root_below r (s.rooted r w e), order.top_below, order.entry_end))) (s.roots r w e);
-        objects = λ other gs at. elim (fields_changed h name (set fields i v) other gs at) [
+        objects = λ other gs at. elim (fields_cases h name (set fields i v) other gs at) [
           | inl p ↦ (let P : Name → Type 0 = λ o. Stands n us kh o gs in
               let Q : List Value → Type 0 = λ g. Stands n us kh name g in
-              subst P (sym p.0) (subst Q (sym p.1) own))
+              subst P (sym p.0) (subst Q p.1 own))
           | inr p ↦ (let u = s.objects other gs p.1 in
               let ne : other.entry ≢ name.entry = λ same. p.0 (one_entry other name gs fields u t same) in
               let clear : StaysAt ws us (address_at n ws other.entry) (address_at n ws other.entry + 1 + length gs) = λ j low high.
@@ -161,7 +163,7 @@ module _ (n : Numbers) (ws : List ℕ) (h : Heap) (order : AreaOrder n) (s : Sta
         whole = rw addressed (record {
           header = rw (length-replicate fields Null) made.header;
           each = λ i v at.
-              let is_null : v ≡ Null = get_replicate fields Null i v at in
+              let is_null : v ≡ Null = sym (get_replicate fields i Null v at) in
               let inside : i < length (replicate fields Null) = slice_get_within (replicate fields Null) i v at in
               let P : Value → Type 0 = λ y. Shows kh (get_or us (a + 1 + i) 0) y in
               subst P (sym is_null) (record { fits = tt; packed = sym (made.nulls i (omega (arith, length-replicate fields Null))); named = tt });
@@ -185,18 +187,18 @@ module _ (n : Numbers) (ws : List ℕ) (h : Heap) (order : AreaOrder n) (s : Sta
         roots = λ r w e. shows_grown h kh _ _ w grows (made.others (index n (root 0 r))
             (λ same. omega (arith, order.root_below r (s.rooted r w e))) (λ same. omega (arith, order.root_below r (s.rooted r w e), order.top_below, order.entry_next name.entry))
             (inl (omega (arith, order.root_below r (s.rooted r w e), order.top_below, order.entry_end)))) (s.roots r w e);
-        objects = λ other gs at. elim (fields_changed h name (replicate fields Null) other gs at) [
+        objects = λ other gs at. elim (fields_cases h name (replicate fields Null) other gs at) [
           | inl p ↦ (let P : Name → Type 0 = λ o. Stands n us kh o gs in
               let Q : List Value → Type 0 = λ g. Stands n us kh name g in
-              subst P (sym p.0) (subst Q (sym p.1) own))
+              subst P (sym p.0) (subst Q p.1 own))
           | inr p ↦ clear other gs p.1
         ];
-        apart = λ x y fs gs at bt ne. elim (fields_changed h name (replicate fields Null) x fs at) [
-          | inl p ↦ elim (fields_changed h name (replicate fields Null) y gs bt) [
+        apart = λ x y fs gs at bt ne. elim (fields_cases h name (replicate fields Null) x fs at) [
+          | inl p ↦ elim (fields_cases h name (replicate fields Null) y gs bt) [
             | inl q ↦ absurd (ne (ap (λ (o : Name). o.entry) (p.0 ∙ sym q.0)))
             | inr q ↦ (let P : Name → Type 0 = λ o. Apart n us o.entry (length fs) y.entry (length gs) in subst P (sym p.0) (inr (apart_own y gs q.1)))
           ]
-          | inr p ↦ elim (fields_changed h name (replicate fields Null) y gs bt) [
+          | inr p ↦ elim (fields_cases h name (replicate fields Null) y gs bt) [
             | inl q ↦ (let P : Name → Type 0 = λ o. Apart n us x.entry (length fs) o.entry (length gs) in subst P (sym q.0) (inl (apart_own x fs p.1)))
             | inr q ↦ (let tx = s.objects x fs p.1 in
                 let ty = s.objects y gs q.1 in
@@ -329,7 +331,7 @@ object_named n ws us h shape s q name fields made filled small within low free f
     let next : name.entry ≡ made = one_free n ws made name.entry filled (omega arith) free first in
     let stands : StandsFor n us kh = object_made n ws h order s us name fields is_made inside low free words order.small in
     let fits : FitsValue (Ref name) = (omega (arith, shape.entries), low) in
-    let named : IsNamed kh (Ref name) = ap is_some (fields_here h name (replicate fields Null)) in
+    let named : IsNamed kh (Ref name) = ap is_some (fields_same h name (replicate fields Null)) in
     let k : ℕ = index n (root 0 q) in
     let keeps = table_root n us q (value_word (Ref name)) order small in
     let taken_word : 2 ^ 63 ≤ word_at n us (entry name.entry) = omega (arith, is_made.taken) in

@@ -2,7 +2,6 @@ mod AnswerLaws
 mod AreaOrder
 mod Frames
 mod HeapLaws
-mod Indexes
 mod Laws
 mod MadeLaws
 mod Openings

@@ -20,17 +20,12 @@ use Rattle.mako_script.specs.Scripts.{ScriptView}
 use Rattle.mako_script.specs.Workloads.{workload_of}
 use Rattle.mako_core.specs.StandsFor.{StandsFor, IsFilled, Shows}
 use Rattle.mako_core.specs.Runs.{IsRun, blank}
-use Rattle.mako_core.proofs.HeapLaws.{get_replicate}
+use Rattle.mako_model.proofs.Lists.{get_replicate, get_replicate_within}
 
 zero_word : (k i : ℕ) → get_or {A = ℕ} (replicate k 0) i 0 ≡ 0
 zero_word zero i = refl
 zero_word (suc k) zero = refl
 zero_word (suc k) (suc i) = zero_word k i
-
-replicated : {A : Type 0} (k : ℕ) (a : A) (i : ℕ) → i < k → slice_get (replicate k a) i ≡ Some a
-replicated zero a i h = absurd (omega arith)
-replicated (suc k) a zero h = refl
-replicated (suc k) a (suc i) h = replicated k a i (omega arith)
 
 first_roots : (m : ℕ) (roots : List Value) → 1 ≤ m → get_or (replicate m roots) 0 [] ≡ roots
 first_roots zero roots h = absurd (omega arith)
@@ -48,10 +43,10 @@ module _ (n : Numbers) (some : 1 ≤ n.mutators) where
     size = length-replicate (total n) 0;
     below = omega (arith, zero_word (total n) (index n (top 0)));
     home = zero_word (total n) (index n (home 0));
-    has_roots = λ q small. (Null, blank_root q ∙ replicated n.roots Null q small);
+    has_roots = λ q small. (Null, blank_root q ∙ get_replicate_within n.roots q Null small);
     rooted = λ q v at. omega (arith, slice_get_within (replicate n.roots Null) q v (sym (blank_root q) ∙ at), length-replicate n.roots Null);
     roots = λ q v at.
-        let is_null : v ≡ Null = get_replicate n.roots Null q v (sym (blank_root q) ∙ at) in
+        let is_null : v ≡ Null = sym (get_replicate n.roots q Null v (sym (blank_root q) ∙ at)) in
         let P : Value → Type 0 = λ y. Shows (blank n) (word_at n (replicate (total n) 0) (root 0 q)) y in
         subst P (sym is_null) (record { fits = tt; packed = sym (zero_word (total n) (index n (root 0 q))); named = tt });
     objects = λ name fields at. absurd (no_object name fields at);

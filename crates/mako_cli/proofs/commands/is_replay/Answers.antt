@@ -1,4 +1,4 @@
-use Rattle.std.proofs.Common.{◌≡◌, ap, sym, ◌∙◌, ◌∷◌, [], List, ℕ, string_bytes, map, get_or}
+use Rattle.std.proofs.Common.{◌≡◌, ap, sym, ◌∙◌, ◌∷◌, [], string_bytes, map, get_or}
 use Rattle.mako_cli.specs.Settling.{command}
 use Rattle.mako_cli.proofs.ThreeWords.{three_words}
 use Rattle.mako_cli.proofs.commands.is_replay.Goals as goal

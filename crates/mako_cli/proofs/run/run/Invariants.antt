@@ -1,4 +1,4 @@
-use Rattle.std.proofs.Common.{◌≡◌, ◌-◌, ◌≤◌, length}
+use Rattle.std.proofs.Common.{◌≡◌, ◌-◌, length}
 use Rattle.mako_script.specs.Forms.{all_calls}
 use Rattle.mako_cli.proofs.run.run.Given as goal
 

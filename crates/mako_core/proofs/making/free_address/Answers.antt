@@ -2,14 +2,7 @@ use Rattle.std.proofs.Common.{◌≡◌, ap, get_or, ◌∙◌, arith}
 use Rattle.mako_shape.specs.Places as places
 use Rattle.mako_shape.specs.Places.{index, word_at}
 use Rattle.mako_core.proofs.AreaOrder.{area_order}
-use Rattle.mako_core.proofs.Indexes.{top_index, home_index}
 use Rattle.mako_core.proofs.making.free_address.Goals as goal
-
-pub word-home-requires : goal.word-home-requires
-word-home-requires c = omega (arith, home_index c.args.shape.now c.requires.shape)
-
-pub word-top-requires : goal.word-top-requires
-word-top-requires c = omega (arith, top_index c.args.shape.now c.requires.shape)
 
 pub overflow_add-result : goal.overflow_add-result
 overflow_add-result c =

@@ -5,20 +5,13 @@ use Rattle.mako_words.specs.Entries.{entry_word}
 use Rattle.mako_core.specs.StandsFor as stands
 use Rattle.mako_core.specs.StandsFor.{IsMade, IsWritten, taken_entry}
 use Rattle.mako_core.proofs.AreaOrder.{area_order}
-use Rattle.mako_core.proofs.Indexes.{top_index, entry_index}
 use Rattle.mako_core.proofs.MadeLaws.{made_by_stores}
 use Rattle.mako_core.proofs.making.make_object.Goals as goal
-
-pub word-requires : goal.word-requires
-word-requires c = omega (arith, top_index c.args.shape.now c.requires.shape)
 
 pub write_record-requires-clause-inside : goal.write_record-requires-clause-inside
 write_record-requires-clause-inside c =
     let order = area_order c.args.shape.now c.requires.shape in
     omega (arith, order.region_below, c.requires.room, c.free_address-address.ensures)
-
-pub store-requires : goal.store-requires
-store-requires c = omega (arith, top_index c.args.shape.now c.requires.shape)
 
 pub pack-requires : goal.pack-requires
 pack-requires c =
@@ -27,8 +20,7 @@ pack-requires c =
 
 pub store-requires-2 : goal.store-requires-2
 store-requires-2 c =
-    let order = area_order c.args.shape.now c.requires.shape in
-    omega (arith, entry_index c.args.shape.now c.args.name.entry (omega (arith, order.first_tablet, c.requires.entry)), ap length c.store.ensures, c.write_record.ensures.size, length-set c.write_record.new.words c.top-2.result (c.word.result + c.from.result + 1))
+    omega (arith, c.entry.ensures.below, ap length c.store.ensures, c.write_record.ensures.size, length-set c.write_record.new.words c.top-2.result (c.word.result + c.from.result + 1))
 
 pub returns : goal.returns
 returns c =

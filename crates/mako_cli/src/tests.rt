@@ -1,0 +1,93 @@
+use super::*;
+use mako_core::Order;
+use mako_io::{MemSink, MemSource, SoundSink, SoundSource};
+use std::alloc::{AllocError, Global};
+use std::test::Fail;
+
+const HEADER: &[u8] =
+    b"mako 1\nservers 1\ntablets 1\nentries 4\nwords 16\nspare 1\nring 2\nroots 4\ncycles 10\ngens 8\nboard 1\n";
+
+const READS_BACK: &[u8] = b"mutator\nnew a 1\nnum n 7\nput a 0 n\nget b a 0\nend\n";
+
+/// A script with the usual header.
+fn script(alloc: Global, section: &[u8]) -> Result<Vec<u8>, AllocError> {
+    let mut text = Vec::from_slice(alloc, HEADER)?;
+    text.extend_from_slice(section)?;
+    Ok(text)
+}
+
+fn words(alloc: Global, texts: &[&str]) -> Result<Vec<String>, AllocError> {
+    let mut words = Vec::new(alloc);
+    for text in texts {
+        words.push(String::from_str(alloc, text)?)?;
+    }
+    Ok(words)
+}
+
+#[test]
+fn carries_out_scripts(rt: HostRuntime) -> Result<(), Fail> {
+    let alloc = rt.alloc();
+    let cases: [(&[u8], u8, &[u8]); 4] = [
+        (
+            READS_BACK,
+            0,
+            b"mutator 0\nnew 1#0\nnum 7\nput\nget 7\nend\n",
+        ),
+        (b"mutator\nend\n", 0, b"mutator 0\nend\n"),
+        (
+            b"mutator\nnew a 1\nget b a 0\nget c b 0\nend\n",
+            0,
+            b"mutator 0\nnew 1#0\nget null\nget noref\nend\n",
+        ),
+        (b"mutator\n", 2, b"script form 0\n"),
+    ];
+    let command = words(alloc, &["replay", "turns", "1000"])?;
+    for (section, status, output) in &cases {
+        let mut source = SoundSource::new(script(alloc, section)?);
+        let mut sink = SoundSink::new(alloc, 100)?;
+        let ended = top(alloc, &command, &mut source, &mut sink);
+        assert_eq!(rt; ended.status, *status);
+        assert_eq!(rt; sink.bytes(), *output);
+    }
+    Ok(())
+}
+
+#[test]
+fn reports_faults_of_streams(rt: HostRuntime) -> Result<(), Fail> {
+    let alloc = rt.alloc();
+    let fails = Vec::from_slice(alloc, &[2])?;
+    let mut source = MemSource::new(script(alloc, READS_BACK)?, fails);
+    let mut sink = SoundSink::new(alloc, 100)?;
+    let ended = replay_top(alloc, Order::Turns, 1000, &mut source, &mut sink);
+    assert_eq!(rt; ended.status, 3);
+    assert_eq!(rt; sink.bytes(), b"read fault\n".as_slice());
+    let fails = Vec::from_slice(alloc, &[3])?;
+    let mut source = SoundSource::new(script(alloc, READS_BACK)?);
+    let mut sink = MemSink::new(alloc, 100, fails)?;
+    let ended = replay_top(alloc, Order::Seed(7), 0, &mut source, &mut sink);
+    assert_eq!(rt; ended.status, 4);
+    assert_eq!(rt; sink.bytes(), b"mutator 0\nnew 1#0\n".as_slice());
+    Ok(())
+}
+
+#[test]
+fn refuses_words(rt: HostRuntime) -> Result<(), Fail> {
+    let alloc = rt.alloc();
+    let cases: [&[&str]; 6] = [
+        &["replay", "fast", "5"],
+        &["replay", "turns"],
+        &["replay", "turns", "05"],
+        &["help"],
+        &["run", "--"],
+        &[],
+    ];
+    for texts in &cases {
+        let given = words(alloc, texts)?;
+        let mut source = SoundSource::new(Vec::new(alloc));
+        let mut sink = SoundSink::new(alloc, 100)?;
+        let ended = top(alloc, &given, &mut source, &mut sink);
+        assert_eq!(rt; ended.status, 1);
+        assert_eq!(rt; sink.bytes(), b"usage\n".as_slice());
+    }
+    Ok(())
+}
