@@ -1,6 +1,7 @@
 pub mod Beginnings
 pub mod Changes
 pub mod Closed
+pub mod Crowded
 pub mod DeadApart
 pub mod Following
 pub mod FreedLists

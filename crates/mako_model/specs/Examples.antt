@@ -1,5 +1,6 @@
--- Three worked examples: two objects that name each other, and that nothing else names, are freed together;
--- an entry that had its last object is no room; and the entry of a dead object is used again.
+-- Worked examples: two objects that name each other, and that nothing else names, are freed together;
+-- an entry that had its last object is no room; the entry of a dead object is used again; and objects
+-- that are in use leave no room.
 use Rattle.std.specs.Prelude.{List, [], ◌∷◌, ◌++◌}
 use Rattle.mako_words.specs.declared.name.Name.{Name}
 use Rattle.mako_words.specs.declared.value.Value.TheVariants.{Ref}
@@ -90,3 +91,25 @@ reused_front = record { history = reuse_history; cycles = (one ∷ []) ∷ [] }
 -- the same, but it is used again before a snapshot found its object dead
 abbrev pub reused_too_soon : Seen
 reused_too_soon = record { history = before_reuse_snap ++ Did 0 (New 3 6) (Made one_again) ∷ []; cycles = [] }
+
+-- a mutator makes two objects, and keeps the first
+abbrev pub filling : List Call
+filling = New 1 1 ∷ New 2 1 ∷ []
+
+-- there is one entry beside the board's
+abbrev pub crowded : Workload
+crowded = record { mutators = 1; roots = 4; board = 1; tablets = 1; entries = 2; words = 16; cycles = 10; generations = 8; programs = filling ∷ [] }
+
+abbrev pub before_crowded_snap : List Point
+before_crowded_snap = Did 0 (New 1 1) (Made one) ∷ []
+
+abbrev pub crowded_history : List Point
+crowded_history = Did 0 (New 1 1) (Made one) ∷ Snap 1 ∷ Did 0 (New 2 1) Full ∷ []
+
+-- the cycle frees nothing, so that there is no room for the second
+abbrev pub crowded_front : Seen
+crowded_front = record { history = crowded_history; cycles = [] ∷ [] }
+
+-- the same, but the cycle frees the first, which a root names
+abbrev pub used_freed_front : Seen
+used_freed_front = record { history = crowded_history; cycles = (one ∷ []) ∷ [] }

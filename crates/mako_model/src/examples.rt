@@ -1,8 +1,8 @@
 //! Worked examples: two objects that name each other, and that nothing else names; an entry that had
-//! its last object; and one that is used again.
+//! its last object; one that is used again; and entries whose objects are all in use.
 
 ghost use Rattle.mako_model.specs.Answering.{Answers, AnswersToEnd};
-ghost use Rattle.mako_model.specs.Examples.{tied, tied_front, half_freed_front, retiring, retired_front, hasty_front, roomy, reused_front, reused_too_soon};
+ghost use Rattle.mako_model.specs.Examples.{tied, tied_front, half_freed_front, retiring, retired_front, hasty_front, roomy, reused_front, reused_too_soon, crowded, crowded_front, used_freed_front};
 
 /// The front in which the cycle frees both answers the script to its end.
 pub fn objects_that_name_each_other_are_freed()
@@ -32,4 +32,14 @@ pub fn a_dead_entry_is_used_again()
 /// But it is not used again before.
 pub fn an_entry_is_used_again_after_a_snapshot()
     ensures { ¬ Answers roomy reused_too_soon }
+{}
+
+/// A new object finds no room where each entry has an object that is in use.
+pub fn objects_in_use_leave_no_room()
+    ensures { AnswersToEnd crowded crowded_front }
+{}
+
+/// No cycle makes room by freeing one of them.
+pub fn no_object_in_use_is_freed()
+    ensures { ¬ Answers crowded used_freed_front }
 {}
