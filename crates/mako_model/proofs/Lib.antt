@@ -9,6 +9,7 @@ pub mod Growth
 pub mod Histories
 pub mod Lists
 pub mod Lookups
+pub mod Looped
 pub mod ObjectsIn
 pub mod Pieces
 pub mod Retired

@@ -1,6 +1,6 @@
 -- Worked examples: two objects that name each other, and that nothing else names, are freed together;
--- an entry that had its last object is no room; the entry of a dead object is used again; and objects
--- that are in use leave no room.
+-- an entry that had its last object is no room; the entry of a dead object is used again; objects
+-- that are in use leave no room; and an object that names itself is freed once.
 use Rattle.std.specs.Prelude.{List, [], ◌∷◌, ◌++◌}
 use Rattle.mako_words.specs.declared.name.Name.{Name}
 use Rattle.mako_words.specs.declared.value.Value.TheVariants.{Ref}
@@ -113,3 +113,27 @@ crowded_front = record { history = crowded_history; cycles = [] ∷ [] }
 -- the same, but the cycle frees the first, which a root names
 abbrev pub used_freed_front : Seen
 used_freed_front = record { history = crowded_history; cycles = (one ∷ []) ∷ [] }
+
+-- a mutator makes an object, lets it name itself, drops it and waits for two cycles
+abbrev pub looping : List Call
+looping = New 1 1 ∷ Put 1 0 1 ∷ DropRoot 1 ∷ Collect ∷ Collect ∷ []
+
+abbrev pub looped : Workload
+looped = record { mutators = 1; roots = 4; board = 1; tablets = 1; entries = 4; words = 16; cycles = 10; generations = 8; programs = looping ∷ [] }
+
+abbrev pub before_looped_snap : List Point
+before_looped_snap = Did 0 (New 1 1) (Made one) ∷ Did 0 (Put 1 0 1) Done ∷ Did 0 (DropRoot 1) Done ∷ []
+
+abbrev pub before_second_snap : List Point
+before_second_snap = before_looped_snap ++ Snap 1 ∷ Did 0 Collect (Cycle 1) ∷ []
+
+abbrev pub looped_history : List Point
+looped_history = before_second_snap ++ Snap 2 ∷ Did 0 Collect (Cycle 2) ∷ []
+
+-- the first cycle frees the object, and the second frees nothing
+abbrev pub looped_front : Seen
+looped_front = record { history = looped_history; cycles = (one ∷ []) ∷ [] ∷ [] }
+
+-- the same, but the second frees it again
+abbrev pub twice_freed_front : Seen
+twice_freed_front = record { history = looped_history; cycles = (one ∷ []) ∷ (one ∷ []) ∷ [] }

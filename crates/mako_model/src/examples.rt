@@ -1,8 +1,9 @@
 //! Worked examples: two objects that name each other, and that nothing else names; an entry that had
-//! its last object; one that is used again; and entries whose objects are all in use.
+//! its last object; one that is used again; entries whose objects are all in use; and an object that
+//! names itself.
 
 ghost use Rattle.mako_model.specs.Answering.{Answers, AnswersToEnd};
-ghost use Rattle.mako_model.specs.Examples.{tied, tied_front, half_freed_front, retiring, retired_front, hasty_front, roomy, reused_front, reused_too_soon, crowded, crowded_front, used_freed_front};
+ghost use Rattle.mako_model.specs.Examples.{tied, tied_front, half_freed_front, retiring, retired_front, hasty_front, roomy, reused_front, reused_too_soon, crowded, crowded_front, used_freed_front, looped, looped_front, twice_freed_front};
 
 /// The front in which the cycle frees both answers the script to its end.
 pub fn objects_that_name_each_other_are_freed()
@@ -42,4 +43,14 @@ pub fn objects_in_use_leave_no_room()
 /// No cycle makes room by freeing one of them.
 pub fn no_object_in_use_is_freed()
     ensures { ¬ Answers crowded used_freed_front }
+{}
+
+/// An object that names itself is freed in the first cycle after it was dropped.
+pub fn an_object_that_names_itself_is_freed()
+    ensures { AnswersToEnd looped looped_front }
+{}
+
+/// The next cycle does not free it again.
+pub fn an_object_is_freed_once()
+    ensures { ¬ Answers looped twice_freed_front }
 {}
