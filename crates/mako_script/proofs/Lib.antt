@@ -8,3 +8,4 @@ pub mod Spelled
 pub mod Accepted
 pub mod Progress
 pub mod Again
+pub mod Examples

@@ -8,3 +8,4 @@ pub mod Answers
 pub mod Outputs
 pub mod Written
 pub mod Workloads
+pub mod Examples

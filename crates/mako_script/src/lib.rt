@@ -5,6 +5,7 @@ mod arguments;
 mod command;
 mod fault;
 mod form;
+pub mod laws;
 mod lines;
 mod names;
 mod numbers;
