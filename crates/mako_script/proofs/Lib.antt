@@ -9,3 +9,4 @@ pub mod Accepted
 pub mod Progress
 pub mod Again
 pub mod Examples
+pub mod Firsts

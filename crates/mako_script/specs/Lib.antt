@@ -8,4 +8,6 @@ pub mod Answers
 pub mod Outputs
 pub mod Written
 pub mod Workloads
+pub mod Lines
+pub mod Faults
 pub mod Examples

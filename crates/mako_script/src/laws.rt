@@ -1,8 +1,12 @@
-//! Worked examples of the grammar: a text with its script, and a text that is that of none.
+//! Laws and worked examples of the grammar: a text with its script, texts of none, and the first fault of a text.
 
+ghost use Rattle.std.specs.Prelude.{◌≡◌, [], ℕ, List};
+ghost use Rattle.mako_script.specs.declared.fault.Kind.{Kind};
+ghost use Rattle.mako_script.specs.declared.fault.Kind.TheVariants.{Unclosed};
 ghost use Rattle.mako_script.specs.Scripts.{ScriptView};
 ghost use Rattle.mako_script.specs.Forms.{IsAccepted};
 ghost use Rattle.mako_script.specs.Texts.{IsScript};
+ghost use Rattle.mako_script.specs.Faults.{IsFirstFault};
 ghost use Rattle.mako_script.specs.Examples.{storing, storing_text, spaced_text};
 
 /// The text that makes an object, stores a number in it and gets it back is that of its script, and
@@ -15,4 +19,14 @@ pub fn a_text_has_its_script()
 /// The same text with a second space before a number is that of no script.
 pub fn words_stand_one_space_apart()
     ensures { (s : ScriptView) → ¬ IsScript spaced_text s }
+{}
+
+/// A text has one first fault at most, and one line that is told for it.
+pub fn one_fault_is_the_first()
+    ensures { (text : List ℕ) → (kind other : Kind) → (line told : ℕ) → IsFirstFault text kind line → IsFirstFault text other told → (kind ≡ other) × (line ≡ told) }
+{}
+
+/// The empty text is not closed at line 1.
+pub fn an_empty_text_is_unclosed()
+    ensures { IsFirstFault [] Unclosed 1 }
 {}

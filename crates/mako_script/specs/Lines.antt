@@ -1,0 +1,97 @@
+-- Where a line stands in a text that may be no script. Lines are counted from 0; behind the last line feed there is one piece more.
+use Rattle.std.specs.Prelude.{◌≡◌, ◌≢◌, ℕ, ◌+◌, ◌-◌, ◌<◌, ◌≤◌, ◌&&◌, ◌⊎◌, true, not, List, [], length, take, drop, slice_get, slice_index, slice_index_or, count_by, Option, Some, None}
+use Rattle.std.specs.Fmt.{decimal}
+use Rattle.std.specs.Str.{bytes_eq}
+use Rattle.mako_script.specs.declared.command.Command.{Command}
+use Rattle.mako_script.specs.declared.command.Argument.{Argument}
+use Rattle.mako_script.specs.declared.command.Argument.TheVariants.{Defined, Read, Fields, Index, Number}
+use Rattle.mako_script.specs.Names.{is_name, name_of, board_name}
+use Rattle.mako_script.specs.Texts.{mutator_word, end_word}
+use Rattle.mako_script.specs.Reading.{words_of, command_named, kinds_of, keys}
+
+abbrev pub line_in : List (List ℕ) → ℕ → List ℕ
+line_in lines at = slice_index_or lines at []
+
+abbrev pub words_at : List (List ℕ) → ℕ → List (List ℕ)
+words_at lines at = words_of (line_in lines at)
+
+abbrev pub word_in : List (List ℕ) → ℕ → List ℕ
+word_in words place = slice_index_or words place []
+
+-- how many lines are ended
+abbrev pub ended : List (List ℕ) → ℕ
+ended lines = length lines - 1
+
+-- ---- settings
+
+-- the key of a line, and the range of its number
+abbrev pub key_at : ℕ → List ℕ × (ℕ × ℕ)
+key_at at = slice_index_or keys at ([], (0, 0))
+
+-- the word is this number: decimal, and ten digits at most
+abbrev pub IsNumber : List ℕ → ℕ → Type 0
+IsNumber word n = (word ≡ decimal n) × (length word ≤ 10)
+
+-- the numbers of the settings
+pub record AreSettings (lines : List (List ℕ)) (v : List ℕ) : Type 0 where
+  pub count : length v ≡ 11
+  pub each : (at : ℕ) → at < 11 → IsNumber (word_in (words_at lines at) 1) (slice_index v at)
+
+-- ---- sections
+
+-- line `from` opened a section that is open at line `at`
+pub record IsIn (lines : List (List ℕ)) (from at : ℕ) : Type 0 where
+  pub behind : 11 ≤ from
+  pub before : from < at
+  pub opened : line_in lines from ≡ mutator_word
+  pub unended : (k : ℕ) → from < k → k < at → line_in lines k ≢ end_word
+
+-- no section is open
+pub record IsBetween (lines : List (List ℕ)) (at : ℕ) : Type 0 where
+  pub behind : 11 ≤ at
+  pub closed : (from : ℕ) → ¬ IsIn lines from at
+
+-- the lines behind the settings, and before this one
+abbrev pub lines_before : List (List ℕ) → ℕ → List (List ℕ)
+lines_before lines at = drop 11 (take at lines)
+
+abbrev pub sections_before : List (List ℕ) → ℕ → ℕ
+sections_before lines at = count_by (bytes_eq mutator_word) (lines_before lines at)
+
+abbrev pub commands_before : List (List ℕ) → ℕ → ℕ
+commands_before lines at = count_by (λ l. not (bytes_eq mutator_word l) && not (bytes_eq end_word l)) (lines_before lines at)
+
+-- ---- commands
+
+-- the greatest number that may stand there, or none where there is a name
+abbrev pub greatest : Argument → Option ℕ
+greatest Defined = None
+greatest Read = None
+greatest Fields = Some 14
+greatest Index = Some 13
+greatest Number = Some 4294967295
+
+-- the words are those of this command, with names where there should be names
+pub record IsCommand (words : List (List ℕ)) (command : Command) : Type 0 where
+  pub named : command_named (word_in words 0) ≡ Some command
+  pub count : length words ≡ length (kinds_of command) + 1
+  pub names : (place : ℕ) → (kind : Argument) → slice_get (kinds_of command) place ≡ Some kind → greatest kind ≡ None → is_name (word_in words (place + 1)) ≡ true
+
+-- a command has this word as an argument of this kind
+abbrev pub HasArgument : List (List ℕ) → Argument → List ℕ → Type 0
+HasArgument words kind word =
+    (command : Command) × (place : ℕ) × IsCommand words command × (slice_get (kinds_of command) place ≡ Some kind) × (word ≡ word_in words (place + 1))
+
+-- ---- names
+
+-- the name is the board's, or a line of the section defines it before this one
+abbrev pub IsDefined : List (List ℕ) → ℕ → ℕ → List ℕ → Type 0
+IsDefined lines from at name =
+    (name ≡ board_name) ⊎ ((k : ℕ) × (from < k) × (k < at) × HasArgument (words_at lines k) Defined name)
+
+-- so many names are defined
+pub record AreDefined (lines : List (List ℕ)) (from at count : ℕ) : Type 0 where
+  pub names : List (List ℕ)
+  pub many : length names ≡ count
+  pub distinct : (a b : ℕ) → a < b → b < length names → name_of names a ≢ name_of names b
+  pub each : (a : ℕ) → a < length names → IsDefined lines from at (name_of names a)
