@@ -10,3 +10,4 @@ pub mod Progress
 pub mod Again
 pub mod Examples
 pub mod Firsts
+pub mod Spaced

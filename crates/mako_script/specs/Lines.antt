@@ -28,9 +28,9 @@ ended lines = length lines - 1
 abbrev pub key_at : ℕ → List ℕ × (ℕ × ℕ)
 key_at at = slice_index_or keys at ([], (0, 0))
 
--- the word is this number: decimal, and ten digits at most
+-- the word is this number, which has at most ten digits
 abbrev pub IsNumber : List ℕ → ℕ → Type 0
-IsNumber word n = (word ≡ decimal n) × (length word ≤ 10)
+IsNumber word n = (word ≡ decimal n) × (n < 10000000000)
 
 -- the numbers of the settings
 pub record AreSettings (lines : List (List ℕ)) (v : List ℕ) : Type 0 where

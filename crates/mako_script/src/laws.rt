@@ -2,7 +2,7 @@
 
 ghost use Rattle.std.specs.Prelude.{◌≡◌, [], ℕ, List};
 ghost use Rattle.mako_script.specs.declared.fault.Kind.{Kind};
-ghost use Rattle.mako_script.specs.declared.fault.Kind.TheVariants.{Unclosed};
+ghost use Rattle.mako_script.specs.declared.fault.Kind.TheVariants.{Unclosed, Word};
 ghost use Rattle.mako_script.specs.Scripts.{ScriptView};
 ghost use Rattle.mako_script.specs.Forms.{IsAccepted};
 ghost use Rattle.mako_script.specs.Texts.{IsScript};
@@ -29,4 +29,9 @@ pub fn one_fault_is_the_first()
 /// The empty text is not closed at line 1.
 pub fn an_empty_text_is_unclosed()
     ensures { IsFirstFault [] Unclosed 1 }
+{}
+
+/// That with a second space between two words has a wrong word at line 13.
+pub fn a_second_space_is_a_wrong_word()
+    ensures { IsFirstFault spaced_text Word 13 }
 {}
