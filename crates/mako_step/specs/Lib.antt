@@ -1,0 +1,4 @@
+pub mod Acts
+pub mod Machines
+pub mod Stepping
+pub mod Trails
