@@ -1,1 +1,5 @@
 pub mod Arriving
+pub mod Bits
+pub mod Leaving
+pub mod Reopening
+pub mod Shutting

@@ -2,5 +2,11 @@
 #![tactic(auto)]
 
 mod arrive;
+mod leave;
+mod reopen;
+mod shutter;
 
 pub use arrive::{Arrive, ArriveStage, Arrived};
+pub use leave::{Leave, LeaveStage};
+pub use reopen::{Reopen, ReopenStage};
+pub use shutter::{ShutStage, Shutter};
