@@ -1,5 +1,5 @@
 -- The machine that shuts a gate, and waits until nobody is counted there.
-use Rattle.std.specs.Prelude.{ℕ, Bool, true, false, nat_lt, if◌then◌else◌}
+use Rattle.std.specs.Prelude.{ℕ, Bool, false, nat_lt, if◌then◌else◌}
 use Rattle.mako_words.specs.Gates.{IsPackedGate, count_of}
 use Rattle.mako_step.specs.Acts.{does}
 use Rattle.mako_step.specs.declared.act.Op.TheVariants.{Load, Or}

@@ -2,6 +2,7 @@
 #![tactic(auto)]
 
 mod arrive;
+pub mod laws;
 mod leave;
 mod reopen;
 mod shutter;
