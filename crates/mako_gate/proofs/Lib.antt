@@ -1,5 +1,13 @@
-pub mod Trails
-pub mod ArrivalRuns
-pub mod DepartureRuns
-pub mod ReopeningRuns
-pub mod ShutdownRuns
+mod Trails
+mod ArrivalRuns
+mod DepartureRuns
+mod ReopeningRuns
+mod ShutdownRuns
+pub mod Lists
+pub mod Numbers
+pub mod GatesKept
+pub mod GateKinds
+pub mod Found
+pub mod ActionSteps
+pub mod GatesTell
+pub mod GatesHold

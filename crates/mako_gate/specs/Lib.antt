@@ -1,6 +1,13 @@
 pub mod Arriving
 pub mod Bits
+pub mod Changes
+pub mod Gates
+pub mod GateActions
+pub mod GateLaws
+pub mod GateSteps
 pub mod Leaving
 pub mod Reopening
 pub mod Runs
 pub mod Shutting
+pub mod Standings
+pub mod Sums
