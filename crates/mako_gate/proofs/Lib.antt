@@ -3,6 +3,7 @@ mod ArrivalRuns
 mod DepartureRuns
 mod ReopeningRuns
 mod ShutdownRuns
+pub mod Changes
 pub mod Lists
 pub mod Numbers
 pub mod GatesKept

@@ -4,6 +4,7 @@ ghost use Rattle.std.specs.Prelude.{ℕ, List};
 ghost use Rattle.mako_shape.specs.declared.numbers.Numbers.{Numbers};
 ghost use Rattle.mako_shape.specs.Places.{Place};
 ghost use Rattle.mako_gate.specs.Runs.{ArrivalsRun, DeparturesRun, ShutdownsRun, ReopeningsRun};
+ghost use Rattle.mako_gate.specs.Changes.{ActsMake};
 ghost use Rattle.mako_gate.specs.Standings.{GateFacet};
 ghost use Rattle.mako_gate.specs.Gates.{Gates};
 ghost use Rattle.mako_gate.specs.GateLaws.{StepsKeepGates, ActionsAreSteps, OpeningsHaveGates, ReachedHaveGates, GatesTell};
@@ -14,6 +15,11 @@ pub fn runs()
     ensures departures { DeparturesRun }
     ensures shuttings { ShutdownsRun }
     ensures reopenings { ReopeningsRun }
+{}
+
+/// An act on the word of a place changes the words, read by place, as the law of gates has it.
+pub fn acts_by_place()
+    ensures { ActsMake }
 {}
 
 /// Gates and turns are kept by each step of one view that has the general form, and each act has that form:

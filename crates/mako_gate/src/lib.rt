@@ -11,3 +11,6 @@ pub use arrive::{Arrive, ArriveStage, Arrived};
 pub use leave::{Leave, LeaveStage};
 pub use reopen::{Reopen, ReopenStage};
 pub use shutter::{ShutStage, Shutter};
+
+#[cfg(test)]
+mod tests;

@@ -15,3 +15,6 @@ pub use machine::Machine;
 pub use step::Step;
 pub use stepping::{Stepped, make_step};
 pub use words::Words;
+
+#[cfg(test)]
+mod tests;
