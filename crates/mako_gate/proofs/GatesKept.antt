@@ -14,7 +14,7 @@ use Rattle.mako_gate.proofs.Lists.{at_set, sum_at, le_sum, sum_seated}
 use Rattle.mako_gate.proofs.Numbers.{counted_le, counted_mono, arrived_le, arrived_own_le, admitted_le, holds_le, own_le, drained_le, drained_own_le, holds_named}
 
 -- the numbers of one gate after the step
-gate_moved : (M W V A B I O S U D E a b m o s u d e : ℕ) → M < shut_bit → Gate M W A I S D → Moves W V a b m o s u d e →
+pub gate_moved : (M W V A B I O S U D E a b m o s u d e : ℕ) → M < shut_bit → Gate M W A I S D → Moves W V a b m o s u d e →
     B + a ≡ A + b → O + m ≡ I + o → U + s ≡ S + u → E + d ≡ D + e → O ≤ B → E ≤ U → B ≤ M →
     a ≤ A → m ≤ I → s ≤ S → d ≤ D → Gate M V B O U E
 gate_moved M W V A B I O S U D E a b m o s u d e many g p ha hm hs hd hob heu few la lm ls ld = record {

@@ -12,3 +12,4 @@ pub mod Found
 pub mod ActionSteps
 pub mod GatesTell
 pub mod GatesHold
+mod SingleGates

@@ -9,5 +9,6 @@ pub mod Leaving
 pub mod Reopening
 pub mod Runs
 pub mod Shutting
+pub mod SingleGates
 pub mod Standings
 pub mod Sums

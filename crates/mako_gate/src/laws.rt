@@ -5,6 +5,7 @@ ghost use Rattle.mako_shape.specs.declared.numbers.Numbers.{Numbers};
 ghost use Rattle.mako_shape.specs.Places.{Place};
 ghost use Rattle.mako_gate.specs.Runs.{ArrivalsRun, DeparturesRun, ShutdownsRun, ReopeningsRun};
 ghost use Rattle.mako_gate.specs.Changes.{ActsMake};
+ghost use Rattle.mako_gate.specs.SingleGates.{SinglesTell};
 ghost use Rattle.mako_gate.specs.Standings.{GateFacet};
 ghost use Rattle.mako_gate.specs.Gates.{Gates};
 ghost use Rattle.mako_gate.specs.GateLaws.{StepsKeepGates, ActionsAreSteps, OpeningsHaveGates, ReachedHaveGates, GatesTell};
@@ -43,4 +44,10 @@ pub fn gates_hold_always()
 /// shut and has nobody inside; a turn word names its holder; one view at most writes in a tablet.
 pub fn gates_tell()
     ensures { (n : Numbers) (W : Place → ℕ) (gs : List GateFacet) → Gates n W gs → GatesTell n W gs }
+{}
+
+/// What the word of one gate says after any list of arrivals, departures, shuts, looks and reopenings there, in
+/// whatever order and whatever the views do at other gates.
+pub fn single_gates_tell()
+    ensures { SinglesTell }
 {}
