@@ -13,3 +13,4 @@ pub mod ActionSteps
 pub mod GatesTell
 pub mod GatesHold
 mod SingleGates
+mod Examples

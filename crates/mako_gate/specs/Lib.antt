@@ -1,6 +1,7 @@
 pub mod Arriving
 pub mod Bits
 pub mod Changes
+pub mod Examples
 pub mod Gates
 pub mod GateActions
 pub mod GateLaws

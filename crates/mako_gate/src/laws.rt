@@ -5,6 +5,7 @@ ghost use Rattle.mako_shape.specs.declared.numbers.Numbers.{Numbers};
 ghost use Rattle.mako_shape.specs.Places.{Place};
 ghost use Rattle.mako_gate.specs.Runs.{ArrivalsRun, DeparturesRun, ShutdownsRun, ReopeningsRun};
 ghost use Rattle.mako_gate.specs.Changes.{ActsMake};
+ghost use Rattle.mako_gate.specs.Examples.{WorkedRun};
 ghost use Rattle.mako_gate.specs.SingleGates.{SinglesTell};
 ghost use Rattle.mako_gate.specs.Standings.{GateFacet};
 ghost use Rattle.mako_gate.specs.Gates.{Gates};
@@ -50,4 +51,9 @@ pub fn gates_tell()
 /// whatever order and whatever the views do at other gates.
 pub fn single_gates_tell()
     ensures { SinglesTell }
+{}
+
+/// A worked run of the acts: a mutator's gate is entered, shut, left, drained and reopened.
+pub fn worked_run()
+    ensures { WorkedRun }
 {}
