@@ -1,7 +1,7 @@
 -- The worked run.
 use Rattle.std.proofs.Common.{◌≡◌, ◌≢◌, ℕ, zero, suc, slice_get, Some, refl, sym, ap, arith}
 use Rattle.std.proofs.lemmas.Option.{same_Some, none-some}
-use Rattle.mako_shape.specs.Places.{Place, phase, demand, finished, mutator_gate, root, barrier, flags, work, ghost, notice, tablet_gate, turn, home, top, leaving, live, entry, region_word, Within}
+use Rattle.mako_shape.specs.Places.{Place, mutator_gate, Within}
 use Rattle.mako_gate.specs.Changes.{Sets, LeavesGates}
 use Rattle.mako_gate.specs.Standings.{away, refused, inside, rests, pauses, GateFacet, mutator_at, shutter_at}
 use Rattle.mako_gate.specs.GateActions.{Reached, opens, goes_on, arrives, is_refused, departs, steps_back, pause_begins, pause_shuts, pause_looks, pause_reopens, pause_ends}
@@ -12,23 +12,7 @@ use Rattle.mako_gate.proofs.GatesTell.{gates_tell}
 -- the one gate is the place of the one word that changes
 others : (x y : ℕ) (q : Place) → Within one q → q ≢ mutator_gate 0 → only y q ≡ only x q
 others x y (mutator_gate m) h d = absurd (d (ap mutator_gate (let e : m ≡ 0 = omega arith in e)))
-others x y phase h d = refl
-others x y demand h d = refl
-others x y finished h d = refl
-others x y (root m q) h d = refl
-others x y (barrier m slot) h d = refl
-others x y (flags s) h d = refl
-others x y (work s slot) h d = refl
-others x y (ghost sender receiver slot) h d = refl
-others x y (notice s slot) h d = refl
-others x y (tablet_gate t) h d = refl
-others x y (turn t) h d = refl
-others x y (home t) h d = refl
-others x y (top t) h d = refl
-others x y (leaving t) h d = refl
-others x y (live t) h d = refl
-others x y (entry e) h d = refl
-others x y (region_word r w) h d = refl
+others x y q h d = refl
 
 sets : (x y : ℕ) → Sets one (only x) (only y) (mutator_gate 0) y
 sets x y = record { here = refl; others = others x y }

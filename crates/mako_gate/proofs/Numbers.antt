@@ -4,7 +4,7 @@ use Rattle.std.proofs.lemmas.Bool.{cases_eq, cases_lt}
 use Rattle.std.proofs.lemmas.Bool.Decides.{nat_tests}
 use Rattle.mako_gate.specs.Bits.{shut_bit}
 use Rattle.mako_gate.specs.Sums.{counted}
-use Rattle.mako_gate.specs.Standings.{Standing, away, refused, inside, turned_away, at_tablet, with_turn, Watch, rests, keeps_shut, has_drained, pauses, GateFacet, arrived, admitted, holds_turn, shut_by, drained_by, arrived_own, admitted_own, shut_own, drained_own}
+use Rattle.mako_gate.specs.Standings.{Standing, away, turned_away, at_tablet, with_turn, Watch, rests, pauses, GateFacet, arrived, admitted, holds_turn, shut_by, drained_by, arrived_own, admitted_own, shut_own, drained_own}
 
 pub counted_le : (b : Bool) (z : ℕ) → counted b z ≤ z
 counted_le true z = omega arith
@@ -35,65 +35,40 @@ count_off a b z d = ap (λ q. counted q z) (ne_eqb a b d)
 -- ---- standings and watches
 
 pub arrived_le : (t : ℕ) (s : Standing) → arrived t s ≤ arrived_own s
-arrived_le t away = omega arith
-arrived_le t refused = omega arith
-arrived_le t inside = omega arith
 arrived_le t (turned_away u) = counted_le (u == t) 1
 arrived_le t (at_tablet u) = counted_le (u == t) 1
 arrived_le t (with_turn u) = counted_le (u == t) 1
+arrived_le t s = omega arith
 
 pub arrived_own_le : (s : Standing) → arrived_own s ≤ 1
 arrived_own_le away = omega arith
-arrived_own_le refused = omega arith
-arrived_own_le inside = omega arith
-arrived_own_le (turned_away u) = omega arith
-arrived_own_le (at_tablet u) = omega arith
-arrived_own_le (with_turn u) = omega arith
+arrived_own_le s = omega arith
 
 pub admitted_le : (t : ℕ) (s : Standing) → admitted t s ≤ arrived t s
 admitted_le t away = omega arith
-admitted_le t refused = omega arith
-admitted_le t inside = omega arith
-admitted_le t (turned_away u) = omega arith
-admitted_le t (at_tablet u) = omega arith
-admitted_le t (with_turn u) = omega arith
+admitted_le t s = omega arith
 
 pub holds_le : (t : ℕ) (s : Standing) → holds_turn t s ≤ admitted t s
 holds_le t away = omega arith
-holds_le t refused = omega arith
-holds_le t inside = omega arith
-holds_le t (turned_away u) = omega arith
-holds_le t (at_tablet u) = omega arith
-holds_le t (with_turn u) = omega arith
+holds_le t s = omega arith
 
 pub own_le : (s : Standing) → admitted_own s ≤ arrived_own s
 own_le away = omega arith
-own_le refused = omega arith
-own_le inside = omega arith
-own_le (turned_away u) = omega arith
-own_le (at_tablet u) = omega arith
-own_le (with_turn u) = omega arith
+own_le s = omega arith
 
 -- who is admitted at a tablet is admitted at its own gate
 pub admitted_own_le : (t : ℕ) (s : Standing) → admitted t s ≤ admitted_own s
-admitted_own_le t away = omega arith
-admitted_own_le t refused = omega arith
-admitted_own_le t inside = omega arith
-admitted_own_le t (turned_away u) = omega arith
 admitted_own_le t (at_tablet u) = counted_le (u == t) 1
 admitted_own_le t (with_turn u) = counted_le (u == t) 1
+admitted_own_le t s = omega arith
 
 pub drained_le : (t : ℕ) (w : Watch) → drained_by t w ≤ shut_by t w
 drained_le t rests = omega arith
-drained_le t (keeps_shut u) = omega arith
-drained_le t (has_drained u b) = omega arith
-drained_le t (pauses low high drained) = omega arith
+drained_le t w = omega arith
 
 pub drained_own_le : (k : ℕ) (w : Watch) → drained_own k w ≤ shut_own k w
-drained_own_le k rests = omega arith
-drained_own_le k (keeps_shut u) = omega arith
-drained_own_le k (has_drained u b) = omega arith
 drained_own_le k (pauses low high drained) = counted_le (nat_lt k drained) (counted (nat_le low k && nat_lt k high) 1)
+drained_own_le k w = omega arith
 
 pub holds_named : (t : ℕ) (g : GateFacet) → holds_turn t g.standing ≤ holds_turn t g.standing * (g.number + 1)
 holds_named t g = grind arith

@@ -18,18 +18,15 @@ record Holds (g : SingleGate) : Type 0 where
 
 there_one : (p : Presence) → is_there p ≤ 1
 there_one outside = omega arith
-there_one rejected = omega arith
-there_one present = omega arith
+there_one p = omega arith
 
 admitted_there : (p : Presence) → is_admitted p ≤ is_there p
 admitted_there outside = omega arith
-admitted_there rejected = omega arith
-admitted_there present = omega arith
+admitted_there p = omega arith
 
 drained_shut : (k : Keeping) → drained_of k ≤ shut_of k
 drained_shut is_open = omega arith
-drained_shut is_shutting = omega arith
-drained_shut is_drained = omega arith
+drained_shut k = omega arith
 
 there_few : (views : List Presence) → sum_by is_there views ≤ length views
 there_few views = sum_seated is_there views (length views) there_one (λ i p e one. slice_get_within views i p e)

@@ -1,4 +1,4 @@
--- A worked run: one mutator arrives at its gate and leaves, while the collector shuts the gate, drains and reopens it.
+-- A worked run: one mutator arrives at its gate and leaves, while the collector shuts, drains and reopens the gate.
 use Rattle.std.specs.Prelude.{ℕ, List, [], ◌∷◌}
 use Rattle.mako_shape.specs.declared.numbers.Numbers.{Numbers}
 use Rattle.mako_shape.specs.Places.{Place, mutator_gate}
@@ -7,7 +7,18 @@ use Rattle.mako_gate.specs.GateActions.{Reached}
 
 -- one of everything
 abbrev pub one : Numbers
-one = record { mutators = 1; servers = 1; tablets = 1; entries = 1; words = 16; spare = 1; ring = 1; roots = 1; cycles = 1; generations = 1 }
+one = record {
+  mutators = 1;
+  servers = 1;
+  tablets = 1;
+  entries = 1;
+  words = 16;
+  spare = 1;
+  ring = 1;
+  roots = 1;
+  cycles = 1;
+  generations = 1;
+}
 
 -- the mutators' gates have this word, and all other words are 0
 abbrev pub only : ℕ → Place → ℕ

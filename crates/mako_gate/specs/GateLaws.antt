@@ -22,11 +22,13 @@ ActionsAreSteps = (n : Numbers) (W V : Place → ℕ) (gs : List GateFacet) (i :
 
 -- they hold at the opening
 abbrev pub OpeningsHaveGates : Type 0
-OpeningsHaveGates = (n : Numbers) (W : Place → ℕ) (gs : List GateFacet) → n.mutators < 2 ^ 16 → OpensGates n W gs → Gates n W gs
+OpeningsHaveGates = (n : Numbers) (W : Place → ℕ) (gs : List GateFacet) → n.mutators < 2 ^ 16 →
+    OpensGates n W gs → Gates n W gs
 
 -- and after any list of acts
 abbrev pub ReachedHaveGates : Type 0
-ReachedHaveGates = (n : Numbers) (W : Place → ℕ) (gs : List GateFacet) → n.mutators < 2 ^ 16 → Reached n W gs → Gates n W gs
+ReachedHaveGates = (n : Numbers) (W : Place → ℕ) (gs : List GateFacet) → n.mutators < 2 ^ 16 → Reached n W gs →
+    Gates n W gs
 
 -- a gate's count is the number of views that arrived there and have not left, one for each mutator at most
 pub record CountsArrivals (n : Numbers) (W : Place → ℕ) (gs : List GateFacet) : Type 0 where
@@ -38,17 +40,17 @@ pub record CountsArrivals (n : Numbers) (W : Place → ℕ) (gs : List GateFacet
 
 -- from the look of a seat that found the count 0 until it reopens, the shut bit stands and nobody is admitted
 pub record DrainedIsEmpty (n : Numbers) (W : Place → ℕ) (gs : List GateFacet) : Type 0 where
-  pub tablets_shut : (t i : ℕ) (f : GateFacet) → t < tablets_of n → slice_get gs i ≡ Some f → 1 ≤ drained_by t f.watch →
-      is_shut (W (tablet_gate t)) ≡ true
-  pub tablets_empty : (t i j : ℕ) (f g : GateFacet) → t < tablets_of n → slice_get gs i ≡ Some f → 1 ≤ drained_by t f.watch →
-      slice_get gs j ≡ Some g → admitted t g.standing ≡ 0
+  pub tablets_shut : (t i : ℕ) (f : GateFacet) → t < tablets_of n → slice_get gs i ≡ Some f →
+      1 ≤ drained_by t f.watch → is_shut (W (tablet_gate t)) ≡ true
+  pub tablets_empty : (t i j : ℕ) (f g : GateFacet) → t < tablets_of n → slice_get gs i ≡ Some f →
+      1 ≤ drained_by t f.watch → slice_get gs j ≡ Some g → admitted t g.standing ≡ 0
   pub owns_shut : (m i : ℕ) (f : GateFacet) → m < n.mutators → slice_get gs i ≡ Some f → 1 ≤ drained_own m f.watch →
       is_shut (W (mutator_gate m)) ≡ true
-  pub owns_empty : (m i : ℕ) (f g : GateFacet) → m < n.mutators → slice_get gs i ≡ Some f → 1 ≤ drained_own m f.watch →
-      slice_get gs m ≡ Some g → admitted_own g.standing ≡ 0
+  pub owns_empty : (m i : ℕ) (f g : GateFacet) → m < n.mutators → slice_get gs i ≡ Some f →
+      1 ≤ drained_own m f.watch → slice_get gs m ≡ Some g → admitted_own g.standing ≡ 0
   -- with the gates of all mutators drained nobody is admitted anywhere
-  pub all_empty : (i j : ℕ) (f g : GateFacet) → slice_get gs i ≡ Some f → ((m : ℕ) → m < n.mutators → 1 ≤ drained_own m f.watch) →
-      slice_get gs j ≡ Some g → admitted_own g.standing ≡ 0
+  pub all_empty : (i j : ℕ) (f g : GateFacet) → slice_get gs i ≡ Some f →
+      ((m : ℕ) → m < n.mutators → 1 ≤ drained_own m f.watch) → slice_get gs j ≡ Some g → admitted_own g.standing ≡ 0
 
 -- a turn word is m + 1 exactly where mutator m holds the turn, and who holds it is admitted at the tablet and at its own gate
 pub record TurnsNameHolders (n : Numbers) (W : Place → ℕ) (gs : List GateFacet) : Type 0 where
@@ -61,8 +63,8 @@ pub record TurnsNameHolders (n : Numbers) (W : Place → ℕ) (gs : List GateFac
 
 -- of two seats one at most may write in a tablet
 pub record OneWrites (n : Numbers) (gs : List GateFacet) : Type 0 where
-  pub one : (t i j : ℕ) (f g : GateFacet) → t < tablets_of n → i ≢ j → slice_get gs i ≡ Some f → slice_get gs j ≡ Some g →
-      1 ≤ writes t f → writes t g ≡ 0
+  pub one : (t i j : ℕ) (f g : GateFacet) → t < tablets_of n → i ≢ j → slice_get gs i ≡ Some f →
+      slice_get gs j ≡ Some g → 1 ≤ writes t f → writes t g ≡ 0
 
 -- what gates and turns say
 pub record GatesTell (n : Numbers) (W : Place → ℕ) (gs : List GateFacet) : Type 0 where

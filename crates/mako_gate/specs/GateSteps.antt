@@ -8,9 +8,9 @@ use Rattle.mako_gate.specs.Sums.{counted}
 use Rattle.mako_gate.specs.Changes.{tablets_of}
 use Rattle.mako_gate.specs.Standings.{GateFacet, arrived, admitted, holds_turn, shut_by, drained_by, arrived_own, admitted_own, shut_own, drained_own}
 
--- At one gate: the word goes from W to V, and the view's part of each number from a to b (arrived), m to o (admitted),
--- s to u (shut) and d to e (drained). It shuts and is admitted only where the shut bit is clear, and drains only where the
--- count is 0.
+-- At one gate: the word goes from W to V, and the view's part of each number from a to b (arrived), m to o (admitted), s to u
+-- (shut) and d to e (drained). A view shuts the gate and is admitted only where the shut bit is clear, and drains it only
+-- where the count is 0.
 pub record Moves (W V a b m o s u d e : ℕ) : Type 0 where
   pub word : V + a + shut_bit * s ≡ W + b + shut_bit * u
   pub shut : (u ≤ s) ⊎ ((W < shut_bit) × (u ≤ 1))
@@ -19,7 +19,8 @@ pub record Moves (W V a b m o s u d e : ℕ) : Type 0 where
 
 -- at a tablet's gate
 abbrev pub TabletMoves : ℕ → ℕ → ℕ → GateFacet → GateFacet → Type 0
-TabletMoves t W V f g = Moves W V (arrived t f.standing) (arrived t g.standing) (admitted t f.standing) (admitted t g.standing)
+TabletMoves t W V f g = Moves W V
+    (arrived t f.standing) (arrived t g.standing) (admitted t f.standing) (admitted t g.standing)
     (shut_by t f.watch) (shut_by t g.watch) (drained_by t f.watch) (drained_by t g.watch)
 
 -- at a mutator's gate

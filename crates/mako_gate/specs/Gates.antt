@@ -8,8 +8,8 @@ use Rattle.mako_gate.specs.Sums.{counted}
 use Rattle.mako_gate.specs.Changes.{tablets_of}
 use Rattle.mako_gate.specs.Standings.{GateFacet, arrived, admitted, holds_turn, shut_by, drained_by, arrived_own, admitted_own, shut_own, drained_own}
 
--- The numbers of one gate: the most that may arrive, its word, and how many views arrived, are admitted, keep it shut and
--- have drained it. While it is drained nobody is admitted.
+-- The numbers of one gate: the most views that may be there, its word, and how many views arrived, are admitted, keep it
+-- shut and have drained it. While it is drained nobody is admitted.
 pub record Gate (most word arrivals inside shut drained : ℕ) : Type 0 where
   pub word_is : word ≡ arrivals + shut_bit * shut
   pub few : arrivals ≤ most
@@ -46,4 +46,5 @@ pub record Gates (n : Numbers) (W : Place → ℕ) (gs : List GateFacet) : Type 
   -- a tablet's gate is shut by its server alone, and a mutator's by the collector
   pub shutter : (i t : ℕ) (g : GateFacet) → slice_get gs i ≡ Some g → 1 ≤ shut_by t g.watch →
       i ≡ n.mutators + server_of_tablet n t
-  pub pauser : (i m : ℕ) (g : GateFacet) → slice_get gs i ≡ Some g → 1 ≤ shut_own m g.watch → i ≡ n.mutators + n.servers
+  pub pauser : (i m : ℕ) (g : GateFacet) → slice_get gs i ≡ Some g → 1 ≤ shut_own m g.watch →
+      i ≡ n.mutators + n.servers

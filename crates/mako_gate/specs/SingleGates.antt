@@ -1,5 +1,5 @@
--- One gate on its own: any views arrive and leave, and one seat shuts, looks and reopens whenever it likes, whatever either
--- does at other gates.
+-- One gate on its own: any views arrive and leave, and one seat shuts, looks and reopens in whatever order, whatever they
+-- do at other gates.
 use Rattle.std.specs.Prelude.{ℕ, true, false, ◌≡◌, ◌<◌, ◌≤◌, ◌^◌, List, length, slice_get, slice_set, Some, sum_by}
 use Rattle.mako_words.specs.Gates.{is_shut, count_of}
 use Rattle.mako_words.specs.Words.{all_but}
@@ -58,7 +58,8 @@ pub data SingleAct (g : SingleGate) : SingleGate → Type 0 where
       SingleAct g (record g { word = after_op (Sub 1) g.word; views = slice_set g.views i outside })
   shuts : g.keeping ≡ is_open → SingleAct g (record g { word = after_op (Or shut_bit) g.word; keeping = is_shutting })
   drains : g.keeping ≡ is_shutting → count_of g.word ≡ 0 → SingleAct g (record g { keeping = is_drained })
-  reopens : shut_of g.keeping ≡ 1 → SingleAct g (record g { word = after_op (And (all_but shut_bit)) g.word; keeping = is_open })
+  reopens : shut_of g.keeping ≡ 1 →
+      SingleAct g (record g { word = after_op (And (all_but shut_bit)) g.word; keeping = is_open })
 
 -- what any list of acts leads to
 pub data SingleReached : SingleGate → Type 0 where

@@ -2,7 +2,7 @@
 use Rattle.std.specs.Prelude.{ℕ, ◌+◌, ◌==◌, ◌&&◌, nat_le, nat_lt}
 use Rattle.mako_gate.specs.Sums.{counted}
 
--- Where a mutator's view stands: at its own gate, where it was refused or is inside, and from there at one tablet's gate,
+-- Where a mutator's view stands: at its own gate, where it was refused or is inside, and from inside at one tablet's gate,
 -- where it was turned away, is admitted, or is admitted and holds the tablet's turn.
 pub data Standing : Type 0 where
   away : Standing
@@ -12,8 +12,9 @@ pub data Standing : Type 0 where
   at_tablet : ℕ → Standing
   with_turn : ℕ → Standing
 
--- Which gates a view keeps shut. A server keeps one tablet's; once it is drained, the server has passed the entries of the
--- tablet below a number. The collector keeps those of the mutators from low on below high, and has drained those below a third.
+-- Which gates a view keeps shut. A server keeps one tablet's; once it is drained, the server has passed the entries of
+-- the tablet below a number. The collector keeps those of the mutators from low on below high, and has drained those
+-- below a third number.
 pub data Watch : Type 0 where
   rests : Watch
   keeps_shut : ℕ → Watch
