@@ -47,12 +47,7 @@ impl Leave {
     pub fn result(&self)
         requires { next_of self.now ≡ Ended }
         ensures { self.now.stage ≡ stages.Ended }
-    {
-        match self.stage {
-            LeaveStage::Ended => {}
-            LeaveStage::Leaving => unreachable!(),
-        }
-    }
+    {}
 }
 
 impl Machine for Leave {

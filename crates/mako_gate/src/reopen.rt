@@ -48,12 +48,7 @@ impl Reopen {
     pub fn result(&self)
         requires { next_of self.now ≡ Ended }
         ensures { self.now.stage ≡ stages.Ended }
-    {
-        match self.stage {
-            ReopenStage::Ended => {}
-            ReopenStage::Clearing => unreachable!(),
-        }
-    }
+    {}
 }
 
 impl Machine for Reopen {

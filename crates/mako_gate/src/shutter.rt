@@ -58,12 +58,7 @@ impl Shutter {
     pub fn result(&self)
         requires { next_of self.now ≡ Ended }
         ensures { self.now.stage ≡ stages.Ended }
-    {
-        match self.stage {
-            ShutStage::Ended => {}
-            _ => unreachable!(),
-        }
-    }
+    {}
 }
 
 impl Machine for Shutter {
