@@ -1,0 +1,4 @@
+pub mod Turns
+pub mod Contents
+pub mod Over
+pub mod RingLaws

@@ -1,0 +1,5 @@
+pub mod Contents
+pub mod Puts
+pub mod Rings
+pub mod Takes
+pub mod Windows

@@ -1,0 +1,14 @@
+//! Rings of slots, the machines that put into them and take out of them, and what they are for:
+//! the flags of servers and the polls for completion.
+#![tactic(auto)]
+
+pub mod laws;
+mod put;
+mod ring;
+mod take;
+mod window;
+
+pub use put::{Put, PutStage, Putting};
+pub use ring::{Ring, next_place};
+pub use take::{Take, TakeStage, Taking};
+pub use window::Window;
