@@ -6,9 +6,13 @@ pub mod laws;
 mod put;
 mod ring;
 mod take;
+mod tracing;
 mod window;
 
 pub use put::{Put, PutStage, Putting};
 pub use ring::{Ring, next_place};
 pub use take::{Take, TakeStage, Taking};
+pub use tracing::{
+    MarkStage, ReceiveStage, RestStage, Scan, ScanStage, SendStage, Source, TraceStage,
+};
 pub use window::Window;
