@@ -1,6 +1,11 @@
 pub mod Contents
+pub mod Facets
+pub mod Polling
 pub mod Puts
 pub mod Rings
+pub mod Shades
 pub mod Takes
+pub mod TraceFacets
+pub mod TracerFacets
 pub mod Tracing
 pub mod Windows

@@ -1,0 +1,3 @@
+pub mod Laws
+pub mod Polls
+pub mod Steps
