@@ -1,5 +1,5 @@
 -- Each kind of step of a server keeps the law.
-use Rattle.std.proofs.Common.{◌≡◌, ◌≢◌, ℕ, ◌+◌, ◌%◌, ◌<◌, true, false, inl, inr, ap, sym, subst, refl, ◌∙◌, arith}
+use Rattle.std.proofs.Common.{◌≡◌, ◌≢◌, ℕ, ◌+◌, ◌%◌, ◌<◌, ◌≤◌, true, false, inl, inr, ap, sym, subst, refl, ◌∙◌, arith}
 use Rattle.std.specs.Prelude.{bit_and, bit_or}
 use Rattle.std.proofs.lemmas.Bool.{cases_eq}
 use Rattle.mako_words.specs.declared.flag_word.FlagWord.{FlagWord}
@@ -261,8 +261,8 @@ module _ (n : Numbers) (s after : Scene) (i : ℕ) (g : Serving) (h : PollingSta
       same_is : g ≡ f → SameRings n f g
       same_is is = record { work_at = ap (λ (x : Serving). x.work_at) is; ghost_at = λ a la. ap (λ (x : Serving). x.ghost_at a) is; window = λ r lr. ap (λ (x : Serving). x.window r) is }
 
-  -- with all windows empty, all slots that it fills are
-  shows_lowered_ghost : Wrote n s.word after.word (flags i) (bit_and (s.word (flags i)) (all_but 2)) → ((r : ℕ) → r < n.servers → r ≢ i → (f.window r).tail ≡ (f.window r).head) → f.doing ≡ resting → g ≡ f → Shows n s after i g
+  -- with no window open, all slots that it fills are
+  shows_lowered_ghost : Wrote n s.word after.word (flags i) (bit_and (s.word (flags i)) (all_but 2)) → ((r : ℕ) → r < n.servers → r ≢ i → (f.window r).head ≤ (f.window r).tail) → f.doing ≡ resting → g ≡ f → Shows n s after i g
   shows_lowered_ghost w empty rest is =
       let doing : g.doing ≡ resting = ap (λ (x : Serving). x.doing) is ∙ rest in
       shows_flags (bit_and (s.word (flags i)) (all_but 2)) w (record (flags_of s.word i) { ghost_ = false }) (seen_off s.word after.word i old.packed w.there)
@@ -277,7 +277,7 @@ module _ (n : Numbers) (s after : Scene) (i : ℕ) (g : Serving) (h : PollingSta
       all_empty : (r k : ℕ) → r < n.servers → k < n.ring → s.word (ghost i r k) ≡ 0
       all_empty r k lr lk = elim (cases_eq r i) [
         | inl e ↦ subst (λ (x : ℕ). s.word (ghost i x k) ≡ 0) (sym e) (old.own k lk)
-        | inr d ↦ ring_empty n.ring (slots_of s.word (Ghost i r)) ((s.server r).ghost_at i) (f.window r) (ring_to r lr d) (empty r lr d) k lk
+        | inr d ↦ ring_empty n.ring (slots_of s.word (Ghost i r)) ((s.server r).ghost_at i) (f.window r) (ring_to r lr d) (let o = (ring_to r lr d).window.ordered in let e = empty r lr d in omega arith) k lk
       ]
 
   -- ---- a put

@@ -4,7 +4,7 @@ use Rattle.mako_shape.specs.declared.numbers.Numbers.{Numbers}
 use Rattle.mako_shape.specs.Places.{Place, work, ghost, Within, index, total, word_at}
 use Rattle.mako_ring.specs.Facets.{Serving, Poll, elsewhere, forwarding, polling, reading, Scene, resting, flags_of, IsPolled}
 use Rattle.mako_ring.specs.Polling.{PollingHolds, SceneIsQuiet, GhostStands, WorkStands, PollingStands}
-use Rattle.mako_poll.specs.Steps.{Wrote, Turns, ServerStep, PollStep, Chain, end_of}
+use Rattle.mako_poll.specs.Steps.{Wrote, Turns, ServerStep, PollStep, Chain, end_by}
 
 -- the opening state: words of rings and flags, positions and counts are 0, and nobody has anything
 pub record IsOpening (n : Numbers) (s : Scene) : Type 0 where
@@ -22,7 +22,7 @@ abbrev pub StepsHold : Type 0
 StepsHold = (n : Numbers) (s after : Scene) → PollingStands n s → PollStep n s after → PollingStands n after
 
 abbrev pub ChainsHold : Type 0
-ChainsHold = (n : Numbers) (s : Scene) (steps : List Scene) → PollingStands n s → Chain n s steps → PollingStands n (end_of s steps)
+ChainsHold = (n : Numbers) (s : Scene) (steps : List Scene) → PollingStands n s → Chain n s steps → PollingStands n (end_by s steps)
 
 -- completion is told only where the heap is quiet
 abbrev pub ToldIsQuiet : Type 0

@@ -1,3 +1,4 @@
 pub mod Laws
 pub mod Polls
 pub mod Steps
+pub mod Worlds

@@ -1,5 +1,5 @@
 -- The kinds of step, as far as rings, flags and polls read them. A step names what it found and what it leaves.
-use Rattle.std.specs.Prelude.{ℕ, true, false, ◌≡◌, ◌≢◌, ◌+◌, ◌%◌, ◌<◌, List, [], ◌∷◌, bit_and, bit_or}
+use Rattle.std.specs.Prelude.{ℕ, true, false, ◌≡◌, ◌≢◌, ◌+◌, ◌%◌, ◌<◌, ◌≤◌, List, [], ◌∷◌, bit_and, bit_or}
 use Rattle.mako_words.specs.Words.{all_but}
 use Rattle.mako_shape.specs.declared.numbers.Numbers.{Numbers}
 use Rattle.mako_shape.specs.Places.{Place, flags, work, ghost, Within}
@@ -81,8 +81,8 @@ pub data ServerStep (n : Numbers) (word after : Place → ℕ) (i : ℕ) (f g : 
   SeesEmptied : (r : ℕ) → Untouched n word after → r < n.servers → r ≢ i → (f.window r).tail < (f.window r).head
       → word (ghost i r ((f.window r).tail % n.ring)) ≡ 0 → SetsWindow n f g r (tail_up n.ring (f.window r)) → g.doing ≡ resting
       → (f.working ≡ false → g.working ≡ false) → ServerStep n word after i f g
-  -- with all windows empty it lowers ghost
-  LowersGhost : Wrote n word after (flags i) (bit_and (word (flags i)) (all_but 2)) → ((r : ℕ) → r < n.servers → r ≢ i → (f.window r).tail ≡ (f.window r).head)
+  -- with no window open it lowers ghost
+  LowersGhost : Wrote n word after (flags i) (bit_and (word (flags i)) (all_but 2)) → ((r : ℕ) → r < n.servers → r ≢ i → (f.window r).head ≤ (f.window r).tail)
       → f.doing ≡ resting → g ≡ f → ServerStep n word after i f g
 
 -- the collector's windows stay
@@ -131,7 +131,7 @@ abbrev pub Chain : Numbers → Scene → List Scene → Type 0
 Chain n s [] = Unit {0}
 Chain n s (t ∷ ts) = PollStep n s t × Chain n t ts
 
--- where it ends
-abbrev pub end_of : Scene → List Scene → Scene
-end_of s [] = s
-end_of s (t ∷ ts) = end_of t ts
+-- where a list of steps from a state ends
+abbrev pub end_by : {S : Type 0} → S → List S → S
+end_by s [] = s
+end_by s (t ∷ ts) = end_by t ts

@@ -7,5 +7,6 @@ pub mod Shades
 pub mod Takes
 pub mod TraceFacets
 pub mod TracerFacets
+pub mod TracerFacts
 pub mod Tracing
 pub mod Windows
