@@ -4,3 +4,6 @@ pub mod Serving
 pub mod ServerKinds
 pub mod CollectorKinds
 pub mod AllSteps
+pub mod Acting
+pub mod Parts
+pub mod Stages
