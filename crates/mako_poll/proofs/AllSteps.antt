@@ -2,15 +2,15 @@
 use Rattle.std.proofs.Common.{◌≡◌, ℕ, zero, suc, ◌+◌, ◌-◌, ◌%◌, ◌<◌, ◌≤◌, ◌⊎◌, true, false, inl, inr, List, [], ◌∷◌, length, ap, sym, subst, refl, ◌∙◌, arith}
 use Rattle.std.proofs.lemmas.Bool.{cases_eq, cases_lt, cases_Bool}
 use Rattle.mako_shape.specs.declared.numbers.Numbers.{Numbers}
-use Rattle.mako_shape.specs.Places.{flags, work, ghost}
+use Rattle.mako_shape.specs.Places.{Place, flags, work, ghost}
 use Rattle.mako_ring.specs.Contents.{RingStands}
 use Rattle.mako_ring.specs.declared.window.Window.{Window}
 use Rattle.mako_ring.specs.Facets.{Serving, Poll, elsewhere, forwarding, polling, reading, Scene, flags_of, IsClearing, IsStoring}
 use Rattle.mako_ring.specs.Rings.{slots_of}
 use Rattle.mako_ring.specs.declared.ring.Ring.TheVariants.{Work, Ghost}
 use Rattle.mako_ring.specs.Polling.{PollSays, DoingStands, NoChange, PollStands, PollingStands}
-use Rattle.mako_poll.specs.Steps.{ServerStep, Serves, Collected}
-use Rattle.mako_poll.specs.Laws.{OpeningHolds, StepsHold, ChainsHold, ToldIsQuiet, UnrestShows, QuietStays, LawIsPolling, WritesAreOne}
+use Rattle.mako_poll.specs.Steps.{ServerStep, Waits, Serves, Collected}
+use Rattle.mako_poll.specs.Laws.{OpeningHolds, StepsHold, ChainsHold, ToldIsQuiet, UnrestShows, QuietStays, StandsSaysHolds, WritesAreOne}
 use Rattle.mako_ring.proofs.Contents.{Holds, holds_content, holds_others}
 use Rattle.mako_poll.proofs.ServerKinds.{server_holds, server_quiet}
 use Rattle.mako_poll.proofs.CollectorKinds.{collector_holds}
@@ -22,6 +22,10 @@ use Rattle.mako_shape.proofs.PlaceLaws.{word_same, word_other}
 pub steps_hold : StepsHold
 steps_hold n s after h (Serves i f g is turn step) = server_holds n s after i g h turn (subst (λ (x : Serving). ServerStep n s.word after.word i x g) (sym is) step)
 steps_hold n s after h (Collected d turn step) = collector_holds n s after d h turn step
+
+-- where a state reads the same, the same is true of it
+pub same_scene : (n : Numbers) (s after : Scene) → PollingStands n s → ((p : Place) → after.word p ≡ s.word p) → ((j : ℕ) → j < n.servers → after.server j ≡ s.server j) → after.collector ≡ s.collector → PollingStands n after
+same_scene n s after h words servers collector = steps_hold n s after h (Collected s.collector (record { here = collector; servers = servers }) (Waits (λ p is within. words p) refl))
 
 pub chains_hold : ChainsHold
 chains_hold n s [] h chain = h
@@ -100,8 +104,8 @@ law_poll n s h (reading k) is stands = (
   unrest_shows n s k h is,
 )
 
-pub law_is_polling : LawIsPolling
-law_is_polling n s h = record {
+pub stands_says_holds : StandsSaysHolds
+stands_says_holds n s h = record {
   busy = λ j lt working. elim (cases_Bool (flags_of s.word j).busy) [ inl up ↦ up | inr down ↦ absurd (false_true (s.server j).working ((h.flags j lt).busy down).0 working) ];
   sent = λ j r k lj lr lk filled. elim (cases_Bool (flags_of s.word j).ghost_) [ inl up ↦ up | inr down ↦ absurd (filled (((h.flags j lj).sent down).1 r k lr lk)) ];
   ghosts = h.ghosts;

@@ -7,3 +7,5 @@ pub mod AllSteps
 pub mod Acting
 pub mod Parts
 pub mod Stages
+pub mod Asking
+pub mod Worlds

@@ -37,9 +37,9 @@ UnrestShows = (n : Numbers) (s : Scene) (k : ℕ) → PollingStands n s → s.co
 abbrev pub QuietStays : Type 0
 QuietStays = (n : Numbers) (s after : Scene) (i : ℕ) (f g : Serving) → PollingStands n s → s.server i ≡ f → Turns n s after i g → ServerStep n s.word after.word i f g → SceneIsQuiet n s → SceneIsQuiet n after
 
--- it is what the law says
-abbrev pub LawIsPolling : Type 0
-LawIsPolling = (n : Numbers) (s : Scene) → PollingStands n s → PollingHolds n s
+-- what is kept says the polling invariant in words
+abbrev pub StandsSaysHolds : Type 0
+StandsSaysHolds = (n : Numbers) (s : Scene) → PollingStands n s → PollingHolds n s
 
 -- a write into the list of all words is the write of one word by place
 abbrev pub WritesAreOne : Type 0

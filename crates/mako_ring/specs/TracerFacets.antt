@@ -1,5 +1,5 @@
 -- What tracing, and rings, flags and polls, read of a server's tracing machine.
-use Rattle.std.specs.Prelude.{ℕ, slice_index}
+use Rattle.std.specs.Prelude.{slice_index}
 use Rattle.mako_words.specs.Names.{name_word}
 use Rattle.mako_ring.specs.Facets.{Doing, resting, sending, storing, taking, clearing, Serving}
 use Rattle.mako_ring.specs.TraceFacets.{Hand, empty, considering, marking, pushing, Off, nothing, popped, located, Work, is_working}

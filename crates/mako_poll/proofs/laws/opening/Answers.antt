@@ -1,5 +1,6 @@
 use Rattle.mako_poll.proofs.AllSteps.{opening_holds}
+use Rattle.mako_poll.proofs.Worlds.{opening_stands}
 use Rattle.mako_poll.proofs.laws.opening.Goals as goal
 
 pub returns : goal.returns
-returns c = opening_holds
+returns c = record { scene = opening_holds; world = opening_stands }
