@@ -1,5 +1,5 @@
 -- What an act on the list of all words leaves of the words by place.
-use Rattle.std.proofs.Common.{◌≡◌, ◌≢◌, ℕ, ◌<◌, List, length, slice_index, slice_set, ap, sym, subst, refl, ◌∙◌, length-set}
+use Rattle.std.proofs.Common.{◌≡◌, ℕ, List, length, slice_index, ap, sym, subst, refl, ◌∙◌, length-set}
 use Rattle.std.proofs.lemmas.List.{set-get_or}
 use Rattle.mako_shape.specs.declared.numbers.Numbers.{Numbers}
 use Rattle.mako_shape.specs.Places.{Place, Within, index, total, word_at}

@@ -7,7 +7,7 @@ use Rattle.mako_ring.specs.Contents.{RingStands}
 use Rattle.mako_ring.specs.declared.window.Window.{Window}
 use Rattle.mako_ring.specs.Facets.{Serving, Poll, elsewhere, forwarding, polling, reading, Scene, flags_of, IsClearing, IsStoring}
 use Rattle.mako_ring.specs.Rings.{slots_of}
-use Rattle.mako_ring.specs.declared.ring.Ring.TheVariants.{Work, Ghost}
+use Rattle.mako_ring.specs.declared.ring.Ring.TheVariants.{Work}
 use Rattle.mako_ring.specs.Polling.{PollSays, DoingStands, NoChange, PollStands, PollingStands}
 use Rattle.mako_poll.specs.Steps.{ServerStep, Waits, Serves, Collected}
 use Rattle.mako_poll.specs.Laws.{OpeningHolds, StepsHold, ChainsHold, ToldIsQuiet, UnrestShows, QuietStays, StandsSaysHolds, WritesAreOne}

@@ -1,5 +1,5 @@
 -- The acts of a poll are steps of the polling invariant.
-use Rattle.std.proofs.Common.{◌≡◌, ℕ, ◌+◌, ◌<◌, ◌==◌, if◌then◌else◌, Bool, true, false, List, length, ap, sym, subst, refl, ◌∙◌, arith}
+use Rattle.std.proofs.Common.{◌≡◌, ℕ, ◌+◌, ◌<◌, ◌==◌, if◌then◌else◌, Bool, true, false, List, length, ap, subst, refl, arith}
 use Rattle.std.proofs.lemmas.Bool.{or_parts}
 use Rattle.std.proofs.lemmas.Bool.Decides.{nat_tests}
 use Rattle.mako_words.specs.Words.{all_but}
@@ -8,10 +8,10 @@ use Rattle.mako_shape.specs.Places.{flags, total, word_at}
 use Rattle.mako_step.specs.Acts.{words_stepped, finds}
 use Rattle.mako_step.specs.Machines.{IsAct}
 use Rattle.mako_step.specs.declared.act.Op.TheVariants.{And}
-use Rattle.mako_ring.specs.Facets.{Serving, Collecting, Scene, Poll, polling, reading, elsewhere, flags_of}
+use Rattle.mako_ring.specs.Facets.{Serving, Collecting, polling, reading, flags_of}
 use Rattle.mako_ring.specs.Polling.{PollingStands}
 use Rattle.mako_poll.specs.Polls.{stage_next, stage_fed, has_work, asking_from, reading_from, IsKnown}
-use Rattle.mako_poll.specs.Steps.{CollectorStep, Leaves, FindsWork, FindsClean, TurnsToRead, ReadsZero, Collected, Untouched}
+use Rattle.mako_poll.specs.Steps.{CollectorStep, Leaves, FindsWork, FindsClean, TurnsToRead, ReadsZero, Collected}
 use Rattle.mako_poll.specs.Worlds.{CollectorView, polls, collecting_of, CollectorStands}
 use Rattle.mako_poll.specs.declared.poller.Polled.TheVariants.{Told, NotYet}
 use Rattle.mako_poll.specs.declared.poller.PollStage.{PollStage}

@@ -1,9 +1,8 @@
 -- Where the parts of tracing lead.
-use Rattle.std.proofs.Common.{◌≡◌, ◌≢◌, ℕ, zero, suc, ◌+◌, ◌-◌, ◌<◌, ◌≤◌, ◌==◌, ◌&&◌, ◌||◌, nat_lt, if◌then◌else◌, Bool, true, false, Option, Some, None, is_some, is_none, List, [], ◌∷◌, length, take, drop, slice_index, slice_index_or, get_or, ap, sym, subst, refl, ◌∙◌, arith}
+use Rattle.std.proofs.Common.{◌≡◌, ℕ, suc, ◌+◌, ◌-◌, ◌<◌, ◌≤◌, ◌==◌, ◌&&◌, ◌||◌, nat_lt, if◌then◌else◌, Bool, true, false, Option, Some, None, is_some, is_none, List, [], ◌∷◌, length, take, drop, slice_index, slice_index_or, get_or, ap, sym, subst, refl, ◌∙◌, arith}
 use Rattle.std.specs.List.{position, position_or_len}
 use Rattle.std.proofs.lemmas.Bool.{and_parts}
 use Rattle.std.proofs.lemmas.Bool.Decides.{nat_tests}
-use Rattle.std.proofs.lemmas.Grind.{common_steps}
 use Rattle.std.proofs.lemmas.List.{get_or-drop, length-drop}
 use Rattle.std.proofs.lemmas.List.Quantifiers.{position-Some}
 use Rattle.std.proofs.lemmas.List.Sums.{fails_before_first}
@@ -12,14 +11,14 @@ use Rattle.mako_shape.specs.declared.numbers.Numbers.{Numbers}
 use Rattle.mako_ring.specs.Facets.{resting, Serving}
 use Rattle.mako_ring.specs.TraceFacets.{is_filled}
 use Rattle.mako_ring.specs.TracerFacets.{serving_of}
-use Rattle.mako_ring.specs.TracerFacts.{holds, TracerKeeps, TracerStands, StageStands}
+use Rattle.mako_ring.specs.TracerFacts.{holds, TracerKeeps, TracerStands}
 use Rattle.mako_ring.specs.Tracing.{TracerView, no_window, window_of, is_open, at_stage, work_on, next_work, past_windows, windows_from, rest}
 use Rattle.mako_ring.specs.declared.window.Window.{Window}
 use Rattle.mako_ring.specs.declared.tracing.Scan.{Scan}
 use Rattle.mako_ring.specs.declared.tracing.Source.TheVariants.{Collector}
 use Rattle.mako_ring.specs.declared.tracing.ScanStage.TheVariants.{EntryLoad}
 use Rattle.mako_ring.specs.declared.tracing.ReceiveStage.TheVariants.{SlotLook}
-use Rattle.mako_ring.specs.declared.tracing.RestStage.TheVariants.{BusyLower, TailLook, GhostLower}
+use Rattle.mako_ring.specs.declared.tracing.RestStage.TheVariants.{BusyLower, GhostLower}
 use Rattle.mako_ring.specs.declared.tracing.TraceStage.TheVariants.{Scanning, Receiving, Resting, Ended}
 use Rattle.mako_poll.proofs.Flagging.{false_true}
 

@@ -1,8 +1,8 @@
 -- Each stage of a tracing machine makes a step of the polling invariant, and what is kept of the machine goes on.
-use Rattle.std.proofs.Common.{◌≡◌, ◌≢◌, ℕ, zero, suc, ◌+◌, ◌-◌, ◌*◌, ◌%◌, ◌^◌, ◌<◌, ◌≤◌, ◌==◌, ◌⊎◌, inl, inr, nat_lt, if◌then◌else◌, Bool, true, false, Option, Some, None, is_some, List, ◌∷◌, [], ◌++◌, length, slice_index, slice_index_or, slice_set, replicate, ap, sym, subst, refl, ◌∙◌, arith, length-set}
+use Rattle.std.proofs.Common.{◌≡◌, ◌≢◌, ℕ, ◌+◌, ◌%◌, ◌<◌, ◌==◌, ◌⊎◌, inl, inr, nat_lt, if◌then◌else◌, Bool, true, false, Option, Some, None, is_some, List, ◌∷◌, [], ◌++◌, length, slice_index, slice_index_or, slice_set, replicate, ap, sym, subst, refl, ◌∙◌, arith, length-set}
 use Rattle.std.proofs.lemmas.Bool.Decides.{nat_tests}
 use Rattle.std.proofs.lemmas.List.{get_or-set_same, get_or-set_other}
-use Rattle.mako_words.specs.Entries.{entry_word, entry_at}
+use Rattle.mako_words.specs.Entries.{entry_word}
 use Rattle.mako_words.specs.Lives.{live_word}
 use Rattle.mako_words.specs.Words.{all_but}
 use Rattle.mako_words.specs.Names.{name_word, name_at, IsPackedName}
@@ -13,14 +13,13 @@ use Rattle.mako_words.specs.declared.value.Value.{Value}
 use Rattle.mako_words.specs.declared.value.Value.TheVariants.{Null, Num, Ref}
 use Rattle.mako_shape.specs.declared.numbers.Numbers.{Numbers}
 use Rattle.mako_shape.specs.Belongings.{tablet_of_entry}
-use Rattle.mako_shape.specs.Limits.{all_entries}
-use Rattle.mako_shape.specs.Places.{Place, flags, work, ghost, entry, live, Within, total, word_at}
+use Rattle.mako_shape.specs.Places.{Place, flags, ghost, entry, live, Within, total, word_at}
 use Rattle.mako_shape.proofs.BelongingLaws.{belongings_in_range}
 use Rattle.mako_step.specs.Acts.{words_stepped, finds}
 use Rattle.mako_step.specs.Machines.{IsAct}
 use Rattle.mako_step.specs.declared.act.Op.TheVariants.{Store, Or, And}
 use Rattle.mako_ring.specs.Contents.{after_place}
-use Rattle.mako_ring.specs.Facets.{Serving, incoming, IsSource, IsPolled}
+use Rattle.mako_ring.specs.Facets.{Serving, incoming, IsSource}
 use Rattle.mako_ring.specs.TracerFacets.{serving_of}
 use Rattle.mako_ring.specs.TracerFacts.{holds, OutgoingStands, TracerKeeps, TracerStands}
 use Rattle.mako_ring.specs.Tracing.{TracerView, owner, no_window, window_of, set_window, slot_of, head_slot, own_tablet, live_of, at_stage, next_work, windows_from, rest, past_rings, after_source, rings_from, advanced, scan_of, behind_field, field_found, stage_next, stage_fed, IsNamed, IsOwnName, FieldFits, StageFits, begun}
@@ -42,7 +41,7 @@ use Rattle.mako_ring.specs.declared.tracing.RestStage.{RestStage}
 use Rattle.mako_ring.specs.declared.tracing.RestStage.TheVariants.{BusyLower, TailLook, GhostLower}
 use Rattle.mako_ring.specs.declared.tracing.TraceStage.{TraceStage}
 use Rattle.mako_ring.specs.declared.tracing.TraceStage.TheVariants.{Sending, Scanning, Receiving, Marking, Resting, Ended}
-use Rattle.mako_poll.specs.Steps.{Untouched, Wrote, SameRings, SetsWindow, Advances, ServerStep, Works, FindsRoom, RaisesGhost, Stores, FindsName, RaisesBusy, Clears, LowersBusy, SeesEmptied, LowersGhost}
+use Rattle.mako_poll.specs.Steps.{Untouched, Wrote, SameRings, SetsWindow, ServerStep, Works, FindsRoom, RaisesGhost, Stores, FindsName, RaisesBusy, Clears, LowersBusy, SeesEmptied, LowersGhost}
 use Rattle.mako_poll.proofs.Acting.{untouched_load, untouched_at, wrote_at}
 use Rattle.mako_poll.proofs.Flagging.{false_true}
 use Rattle.mako_poll.proofs.Parts.{outgoing_holds, scan_holds, rested, next_work_facet, windows_facet, rest_facet, Kept, next_work_stands, windows_stand, rest_stands, none_open}

@@ -1,29 +1,25 @@
 -- Every list of steps of any number of servers and a collector.
-use Rattle.std.proofs.Common.{◌≡◌, ◌≢◌, ℕ, zero, suc, ◌+◌, ◌<◌, ◌==◌, ◌||◌, Bool, true, false, Option, Some, None, is_some, inl, inr, List, [], ◌∷◌, length, replicate, slice_get, slice_index, slice_index_or, ap, sym, subst, refl, ◌∙◌, arith}
+use Rattle.std.proofs.Common.{◌≡◌, ℕ, zero, suc, ◌<◌, ◌||◌, true, false, Option, Some, None, is_some, inl, inr, List, [], ◌∷◌, length, replicate, slice_index, slice_index_or, ap, sym, subst, refl, ◌∙◌, arith}
 use Rattle.std.proofs.lemmas.Bool.{cases_eq, or_parts}
 use Rattle.std.proofs.lemmas.List.{length-replicate}
-use Rattle.mako_words.specs.declared.name.Name.{Name}
 use Rattle.mako_shape.specs.declared.numbers.Numbers.{Numbers}
-use Rattle.mako_shape.specs.Places.{Place, flags, work, ghost, Within, total, word_at}
+use Rattle.mako_shape.specs.Places.{Within, total, word_at}
 use Rattle.mako_step.specs.Acts.{words_stepped, finds}
 use Rattle.mako_step.specs.Machines.{IsAct}
-use Rattle.mako_ring.specs.Facets.{Serving, Collecting, Scene, IsSource}
+use Rattle.mako_ring.specs.Facets.{IsSource}
 use Rattle.mako_ring.specs.Polling.{PollingStands, SceneIsQuiet}
 use Rattle.mako_ring.specs.TraceFacets.{Hand, empty, considering, marking, pushing, Off, nothing, popped, located, Work, TraceFacet, apart, looking, storing, expecting, swapping, serving, collecting, has_hand, has_off, is_filled, is_working, IsIdle}
 use Rattle.mako_ring.specs.TracerFacets.{work_of, serving_of}
 use Rattle.mako_ring.specs.TracerFacts.{TracerStands}
-use Rattle.mako_ring.specs.Tracing.{TracerView, no_window, slot_of, stage_next, next_of, fed, Fits, begun, new_tracer}
+use Rattle.mako_ring.specs.Tracing.{TracerView, no_window, slot_of, next_of, fed, Fits, begun, new_tracer}
 use Rattle.mako_ring.specs.declared.window.Window.{Window}
 use Rattle.mako_ring.specs.declared.tracing.Source.{Source}
 use Rattle.mako_ring.specs.declared.tracing.Source.TheVariants.{Collector, Server}
-use Rattle.mako_ring.specs.declared.tracing.TraceStage.{TraceStage}
 use Rattle.mako_ring.specs.declared.tracing.TraceStage.TheVariants.{Ended as AtEnd}
 use Rattle.mako_poll.specs.Steps.{ServerStep, CollectorStep, PollStep, Waits, end_by}
 use Rattle.mako_poll.specs.Steps as kind
 use Rattle.mako_poll.specs.Polls as poll
 use Rattle.mako_poll.specs.Worlds.{CollectorStage, away, putting, polls, CollectorView, World, poll_of, collecting_of, scene_of, Serves, Collects, IsOutside, WorldStep, Traces, Begins, Polls, Collected, Apart, CollectorStands, WorldStands, OpeningStands, WorldsStand, IsFacetOf, ToldImpliesQuiet}
-use Rattle.mako_poll.specs.declared.poller.Polled.TheVariants.{Told}
-use Rattle.mako_poll.specs.declared.poller.PollStage.{PollStage}
 use Rattle.mako_poll.specs.declared.poller.PollStage.TheVariants.{Asking, Reading, Ended}
 use Rattle.mako_poll.proofs.Acting.{same_length, untouched_same}
 use Rattle.mako_poll.proofs.AllSteps as scenes

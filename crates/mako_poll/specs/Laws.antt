@@ -1,9 +1,9 @@
 -- What is true of rings, flags and polls.
-use Rattle.std.specs.Prelude.{ℕ, true, false, ◌≡◌, ◌≢◌, ◌<◌, ◌≤◌, ◌⊎◌, List, length, slice_set}
+use Rattle.std.specs.Prelude.{ℕ, true, false, ◌≡◌, ◌<◌, ◌≤◌, ◌⊎◌, List, length, slice_set}
 use Rattle.mako_shape.specs.declared.numbers.Numbers.{Numbers}
-use Rattle.mako_shape.specs.Places.{Place, work, ghost, Within, index, total, word_at}
-use Rattle.mako_ring.specs.Facets.{Serving, Poll, elsewhere, forwarding, polling, reading, Scene, resting, flags_of, IsPolled}
-use Rattle.mako_ring.specs.Polling.{PollingHolds, SceneIsQuiet, GhostStands, WorkStands, PollingStands}
+use Rattle.mako_shape.specs.Places.{Place, Within, index, total, word_at}
+use Rattle.mako_ring.specs.Facets.{Serving, elsewhere, reading, Scene, resting, flags_of, IsPolled}
+use Rattle.mako_ring.specs.Polling.{PollingHolds, SceneIsQuiet, PollingStands}
 use Rattle.mako_poll.specs.Steps.{Wrote, Turns, ServerStep, PollStep, Chain, end_by}
 
 -- the opening state: words of rings and flags, positions and counts are 0, and nobody has anything

@@ -1,5 +1,5 @@
 -- Any number of servers that trace and one collector that polls, on one list of words.
-use Rattle.std.specs.Prelude.{ℕ, ◌≡◌, ◌≢◌, ◌+◌, ◌<◌, List, [], ◌∷◌, length, slice_get, Some}
+use Rattle.std.specs.Prelude.{ℕ, ◌≡◌, ◌≢◌, ◌<◌, List, [], ◌∷◌, length, slice_get, Some}
 use Rattle.mako_words.specs.declared.name.Name.{Name}
 use Rattle.mako_shape.specs.declared.numbers.Numbers.{Numbers}
 use Rattle.mako_shape.specs.Places.{Place, Within, total, word_at}
@@ -8,7 +8,7 @@ use Rattle.mako_step.specs.Machines.{IsAct}
 use Rattle.mako_ring.specs.Facets.{Poll, elsewhere, forwarding, polling, reading, Collecting, Scene, IsPolled}
 use Rattle.mako_ring.specs.Polling.{PollingStands}
 use Rattle.mako_ring.specs.Shades.{IsQuiet}
-use Rattle.mako_ring.specs.TraceFacets.{Work, TraceFacet, apart, looking, storing, expecting, swapping, serving, collecting, is_filled}
+use Rattle.mako_ring.specs.TraceFacets.{TraceFacet, serving, collecting, is_filled}
 use Rattle.mako_ring.specs.TracerFacets.{work_of, serving_of}
 use Rattle.mako_ring.specs.TracerFacts.{TracerStands}
 use Rattle.mako_ring.specs.Tracing.{TracerView, next_of, fed, Fits, new_tracer, begun}

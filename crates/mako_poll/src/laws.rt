@@ -23,7 +23,7 @@ pub fn steps()
 /// Told implies quiet: a poll that has ended with `Told`, after any list of steps of any number of
 /// servers and the collector, has found the heap quiet.
 pub fn told()
-    ensures quiet { ToldImpliesQuiet }
+    ensures { ToldImpliesQuiet }
 {}
 
 /// What a poll knows on the way. Of the servers that pass 1 found clean, each shows a change or still
