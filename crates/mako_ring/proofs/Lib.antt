@@ -2,3 +2,5 @@ pub mod Turns
 pub mod Contents
 pub mod Over
 pub mod RingLaws
+pub mod Words
+pub mod Answering

@@ -1,7 +1,9 @@
 pub mod Contents
+pub mod Examples
 pub mod Facets
 pub mod Polling
 pub mod Puts
+pub mod RingWords
 pub mod Rings
 pub mod Shades
 pub mod Takes

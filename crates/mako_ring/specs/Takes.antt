@@ -1,8 +1,9 @@
 -- The machine that takes a word out of a ring.
-use Rattle.std.specs.Prelude.{ℕ, ◌<◌, ◌==◌, if◌then◌else◌}
+use Rattle.std.specs.Prelude.{◌≡◌, ◌≢◌, ◌↔◌, List, ◌∷◌, ℕ, ◌<◌, ◌==◌, if◌then◌else◌}
 use Rattle.mako_shape.specs.declared.numbers.Numbers.{Numbers}
 use Rattle.mako_shape.specs.Places.{flags, index}
 use Rattle.mako_step.specs.Acts.{does}
+use Rattle.mako_step.specs.Trails.{Observation, Goes}
 use Rattle.mako_step.specs.declared.act.Op.TheVariants.{Load, Store, Or}
 use Rattle.mako_step.specs.declared.step.Step.{Step}
 use Rattle.mako_step.specs.declared.step.Step.TheVariants.{Ended as NoStep}
@@ -73,3 +74,13 @@ pub record IsKnown (n : Numbers) (r : Ring) (at : ℕ) (s : TakeStage) : Type 0 
   pub ring : IsRing n r
   pub position : at < n.ring
   pub stage : IsStage n s
+
+-- ---- its answers
+-- the trail begins with the look, which found this word
+abbrev pub LookFound : TakeView → ℕ → List Observation → Type 0
+LookFound t w trail = (more : List Observation) × (trail ≡ record { act = record { word = own_slot t; op = Load }; found = w } ∷ more)
+
+-- what a take that begins comes to: `Empty` exactly where its look found 0; and else, at its end, `Got` with the word found
+pub record TakesAnswer : Type 0 where
+  pub empty : (t l : TakeView) (trail : List Observation) → t.stage ≡ Looking → Goes next_of Fits fed t trail l → (l.stage ≡ Ended Empty) ↔ LookFound t 0 trail
+  pub got : (t l : TakeView) (trail : List Observation) (w : ℕ) → t.stage ≡ Looking → Goes next_of Fits fed t trail l → l.stage ≡ Ended (Got w) → LookFound t w trail × (w ≢ 0)
