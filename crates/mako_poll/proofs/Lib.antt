@@ -9,3 +9,4 @@ pub mod Parts
 pub mod Stages
 pub mod Asking
 pub mod Worlds
+pub mod Answering

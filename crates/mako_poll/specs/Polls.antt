@@ -1,10 +1,11 @@
 -- The machine that polls for completion.
-use Rattle.std.specs.Prelude.{ℕ, Bool, ◌+◌, ◌-◌, ◌*◌, ◌<◌, ◌==◌, ◌||◌, if◌then◌else◌}
+use Rattle.std.specs.Prelude.{◌≡◌, ◌≢◌, ◌↔◌, ◌⊎◌, zero, suc, true, false, List, [], ◌∷◌, ◌++◌, ℕ, Bool, ◌+◌, ◌-◌, ◌*◌, ◌<◌, ◌==◌, ◌||◌, if◌then◌else◌}
 use Rattle.mako_words.specs.Flags.{flag_at, IsPackedFlags}
 use Rattle.mako_words.specs.Words.{all_but}
 use Rattle.mako_shape.specs.declared.numbers.Numbers.{Numbers}
 use Rattle.mako_shape.specs.Places.{flags, index}
 use Rattle.mako_step.specs.Acts.{does}
+use Rattle.mako_step.specs.Trails.{Observation, Goes}
 use Rattle.mako_step.specs.declared.act.Op.TheVariants.{Load, And}
 use Rattle.mako_step.specs.declared.step.Step.{Step}
 use Rattle.mako_step.specs.declared.step.Step.TheVariants.{Ended as NoStep}
@@ -66,3 +67,32 @@ abbrev pub IsKnown : Numbers → PollStage → Type 0
 IsKnown n (Asking server) = server < n.servers
 IsKnown n (Reading server) = server < n.servers
 IsKnown n (Ended polled) = Unit {0}
+
+-- ---- its answers
+-- an act of pass 1 and one of pass 2, with the word found
+abbrev pub asked : Numbers → ℕ → ℕ → Observation
+asked n server w = record { act = record { word = index n (flags server); op = And (all_but 4) }; found = w }
+
+abbrev pub read : Numbers → ℕ → ℕ → Observation
+read n server w = record { act = record { word = index n (flags server); op = Load }; found = w }
+
+-- the trail asks the servers below this one, and finds each without busy and ghost
+abbrev pub FoundClean : Numbers → ℕ → List Observation → Type 0
+FoundClean n zero trail = trail ≡ []
+FoundClean n (suc k) trail = (before : List Observation) × ((w : ℕ) × (FoundClean n k before × (has_work w ≡ false) × (trail ≡ before ++ asked n k w ∷ [])))
+
+-- past pass 1, the trail reads the servers below this one, and finds the flags of each to be 0
+abbrev pub FoundZero : Numbers → ℕ → List Observation → Type 0
+FoundZero n zero trail = FoundClean n n.servers trail
+FoundZero n (suc k) trail = (before : List Observation) × (FoundZero n k before × (trail ≡ before ++ read n k 0 ∷ []))
+
+-- the last act of the trail is one of pass 1 that found busy or ghost, or one of pass 2 that found a word other than 0
+abbrev pub FoundWork : Numbers → ℕ → ℕ → List Observation → Type 0
+FoundWork n k w trail = (before : List Observation)
+    × ((FoundClean n k before × (has_work w ≡ true) × (trail ≡ before ++ asked n k w ∷ [])) ⊎ (FoundZero n k before × (w ≢ 0) × (trail ≡ before ++ read n k w ∷ [])))
+
+-- What a poll that begins comes to: `Told` exactly where pass 1 found no server with busy or ghost and pass 2 found all
+-- flags 0; `NotYet` with the server and the word at which a pass found otherwise.
+pub record PollsAnswer : Type 0 where
+  pub told : (p l : PollView) (trail : List Observation) → 0 < p.shape.servers → p.stage ≡ Asking 0 → Goes next_of Fits fed p trail l → (l.stage ≡ Ended Told) ↔ FoundZero p.shape p.shape.servers trail
+  pub not_yet : (p l : PollView) (trail : List Observation) (k w : ℕ) → 0 < p.shape.servers → p.stage ≡ Asking 0 → Goes next_of Fits fed p trail l → l.stage ≡ Ended (NotYet k w) → (k < p.shape.servers) × FoundWork p.shape k w trail

@@ -4,6 +4,7 @@
 //! one list of words. Each law is for any number of servers and every size of rings from 1.
 
 ghost use Rattle.mako_poll.specs.Laws.{ChainsHold, OpeningHolds, QuietStays, StandsSaysHolds, StepsHold, ToldIsQuiet, UnrestShows, WritesAreOne};
+ghost use Rattle.mako_poll.specs.Polls.{PollsAnswer};
 ghost use Rattle.mako_poll.specs.Worlds.{OpeningStands, ToldImpliesQuiet, WorldsStand};
 
 /// The polling invariant with its further facts holds in the opening state, of scenes and of worlds.
@@ -34,6 +35,11 @@ pub fn passes()
     ensures second { UnrestShows }
     ensures past { ToldIsQuiet }
     ensures stays { QuietStays }
+{}
+
+/// When a poll gives each of its answers.
+pub fn answers()
+    ensures { PollsAnswer }
 {}
 
 /// A write into the list of all words is the write of one word by place.
