@@ -6,6 +6,8 @@ pub mod laws;
 mod put;
 mod ring;
 mod take;
+#[cfg(test)]
+mod tests;
 mod tracing;
 mod window;
 
