@@ -3,5 +3,7 @@
 
 pub mod laws;
 mod poller;
+#[cfg(test)]
+mod tests;
 
 pub use poller::{PollStage, Polled, Poller};

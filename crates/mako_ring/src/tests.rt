@@ -94,7 +94,10 @@ fn a_server_puts_and_takes_with_flags(rt: HostRuntime) -> Result<(), Fail> {
     let take = run_take(&mut words, Take::new(shape, ring, 0));
     assert_eq!(rt; take, Some(Taking::Got(77)));
     assert_eq!(rt; (words.word(GHOST), words.word(8)), (0, 5));
-    assert_eq!(rt; run_take(&mut words, Take::new(shape, ring, 0)), Some(Taking::Empty));
+    assert_eq!(rt;
+        run_take(&mut words, Take::new(shape, ring, 0)),
+        Some(Taking::Empty)
+    );
     // the full window sees by the empty slot that its word was taken
     let third = run_put(&mut words, Put::new(shape, ring, ONE_PUT, 79));
     assert_eq!(rt; third, Some(Putting::Stored(ONE_PUT)));
