@@ -1,0 +1,4 @@
+pub mod Tests
+pub mod Bounds
+pub mod Frees
+pub mod Going

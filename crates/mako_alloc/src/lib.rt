@@ -1,0 +1,12 @@
+//! How an object is made: the machine of `new`, from the gate of the first tablet to the store of the entry.
+#![tactic(auto)]
+
+mod found;
+mod job;
+mod machine;
+mod progress;
+
+pub use found::Found;
+pub use job::Job;
+pub use machine::NewMachine;
+pub use progress::{NewRecord, NewStage, Part, Progress};
