@@ -1,5 +1,7 @@
 -- The numbers of a job stay in their ranges.
-use Rattle.std.proofs.Common.{◌≡◌, ℕ, ◌+◌, ◌*◌, ◌<◌, ◌≤◌, mul-pos, arith}
+use Rattle.std.proofs.Common.{◌≡◌, ℕ, zero, suc, ◌+◌, ◌*◌, ◌-◌, ◌<◌, ◌≤◌, mul-pos, arith}
+use Rattle.std.proofs.Math.Nat.{suc-mul}
+use Rattle.mako_alloc.specs.Causes.{RankIsSmall}
 use Rattle.std.proofs.lemmas.Nat.{mod_below}
 use Rattle.mako_shape.specs.declared.numbers.Numbers.{Numbers}
 use Rattle.mako_shape.specs.Limits.{IsShape, all_entries}
@@ -32,3 +34,14 @@ record_word_index n made place = omega (arith, word_after n made.home (made.top 
 pub record_word-below : (job : Job) (made : NewRecord) (place : ℕ) → IsRecord job made → place ≤ job.fields →
     record_word job.shape made place < total job.shape
 record_word-below job made place h k = index_below job.shape (region_word made.home (made.top + place)) (h.home, omega (arith, h.room))
+
+tablets_apart : (tablets entries fields : ℕ) → 0 < tablets → fields ≤ 14 →
+    (tablets - 1) * (entries + 6) + (entries + fields + 8) ≤ tablets * (entries + 6) + 20
+tablets_apart zero entries fields some few = absurd (omega arith)
+tablets_apart (suc rest) entries fields some few =
+    let one_less : suc rest - 1 ≡ rest = omega arith in
+    rw one_less (omega (arith, suc-mul rest (entries + 6)))
+
+-- from the beginning it takes few steps
+pub rank_is_small : RankIsSmall
+rank_is_small job h = tablets_apart (all_tablets job.shape) job.shape.entries job.fields (some_tablet job.shape h.shape) h.fields

@@ -2,3 +2,8 @@ pub mod Tests
 pub mod Bounds
 pub mod Frees
 pub mod Going
+pub mod Trails
+pub mod NoteLaws
+pub mod Evidence
+pub mod Shown
+pub mod Caused

@@ -1,2 +1,4 @@
 pub mod Allocating
+pub mod Causes
+pub mod Notes
 pub mod Seen

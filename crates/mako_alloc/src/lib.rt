@@ -3,6 +3,7 @@
 
 mod found;
 mod job;
+pub mod laws;
 mod machine;
 mod progress;
 
