@@ -56,7 +56,7 @@ caused job trail l found ev same ended =
     subst (λ (s : NewStage). StageShows l.job (tablet_at l.job l.progress.passed) l.progress.note s trail) ended ev.stage in
     subst (λ (j : Job). IsCaused j trail found) same (end_caused l.job l.progress.note found trail ev.notes shown)
 
-opening_known : (job : Job) → IsJob job → IsKnown job (opening job).progress
+pub opening_known : (job : Job) → IsJob job → IsKnown job (opening job).progress
 opening_known job h = record { numbers = h; passed = some_tablet job.shape h.shape; stage = tt }
 
 opening_shows : (job : Job) → Evidence job (opening job).progress []

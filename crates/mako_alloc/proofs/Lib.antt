@@ -7,3 +7,4 @@ pub mod NoteLaws
 pub mod Evidence
 pub mod Shown
 pub mod Caused
+pub mod StandingLaws

@@ -2,3 +2,4 @@ pub mod Allocating
 pub mod Causes
 pub mod Notes
 pub mod Seen
+pub mod Standings
