@@ -15,7 +15,7 @@ use Rattle.mako_alloc.specs.declared.progress.Part.TheVariants.{Header, Field, T
 use Rattle.mako_alloc.specs.declared.progress.Progress.{Progress}
 use Rattle.mako_alloc.specs.Allocating.{IsKnown, HasRoom, IsRecord, IsStageKnown, FitsBy, all_tablets, tablet_at, stage_next, stage_fed, stage_rank, part_fed, rank_by, next_by, progress_fed, passed_on, outcome, seeking, entry_fed, field_or_top, at, noted, first}
 use Rattle.mako_alloc.proofs.Bounds.{entry_below, tablet_below}
-use Rattle.mako_alloc.proofs.Tests.{by_lt, by_le, by_bool}
+use Rattle.mako_alloc.proofs.Cases.{by_lt, by_le, by_bool}
 use Rattle.mako_alloc.proofs.Frees.{by_entry}
 
 -- what is known holds after the step, and its rank is lower

@@ -1,4 +1,4 @@
-pub mod Tests
+pub mod Cases
 pub mod Bounds
 pub mod Frees
 pub mod Going

@@ -6,6 +6,8 @@ mod job;
 pub mod laws;
 mod machine;
 mod progress;
+#[cfg(test)]
+mod tests;
 
 pub use found::Found;
 pub use job::Job;

@@ -14,8 +14,8 @@ use std::marker::Model;
 /// left the last tablet.
 #[derive(Drop)]
 pub struct NewMachine {
-    job: Job,
-    progress: Progress,
+    pub(crate) job: Job,
+    pub(crate) progress: Progress,
 }
 
 impl Model for NewMachine {
