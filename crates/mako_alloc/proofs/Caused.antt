@@ -3,15 +3,15 @@ use Rattle.std.proofs.Common.{◌≡◌, ℕ, ◌+◌, ◌*◌, ◌-◌, ◌/◌
 use Rattle.std.proofs.lemmas.Bool.{cases_lt}
 use Rattle.std.proofs.lemmas.Nat.{mod_below, mod-mul-add, div-add-mod'}
 use Rattle.std.proofs.Math.Nat.{add-mul, one-mul}
-use Rattle.mako_step.specs.Trails.{Observation}
+use Rattle.mako_step.specs.Trails.{Observation, Goes}
 use Rattle.mako_model.specs.declared.attempt.Pause.{Pause as Reason}
 use Rattle.mako_alloc.specs.declared.found.Found.{Found}
 use Rattle.mako_alloc.specs.declared.found.Found.TheVariants.{Made, Full, Pause}
 use Rattle.mako_alloc.specs.declared.job.Job.{Job}
 use Rattle.mako_alloc.specs.declared.progress.NewStage.{NewStage}
 use Rattle.mako_alloc.specs.declared.progress.NewStage.TheVariants.{Ended}
-use Rattle.mako_alloc.specs.Allocating.{Allocation, IsJob, IsKnown, all_tablets, tablet_at, opening}
-use Rattle.mako_alloc.specs.Causes.{IsCaused, ResultsAreCaused}
+use Rattle.mako_alloc.specs.Allocating.{Allocation, Fits, IsJob, IsKnown, all_tablets, fed, next_of, opening, tablet_at}
+use Rattle.mako_alloc.specs.Causes.{IsCaused, ResultsAreCaused, PassedAreFull}
 use Rattle.mako_alloc.specs.Seen.{IsFullTablet}
 use Rattle.mako_alloc.proofs.Bounds.{some_tablet}
 use Rattle.mako_alloc.proofs.Trails.{Along, along}
@@ -66,8 +66,16 @@ opening_shows job = record {
   stage = tt;
 }
 
+at_end : (job : Job) (trail : List Observation) (l : Allocation) → IsJob job → Goes next_of Fits fed (opening job) trail l →
+    Along (λ m trail. Evidence m.job m.progress trail) (opening job) trail l
+at_end job trail l h goes = along (λ m trail. Evidence m.job m.progress trail) (opening job) trail l goes (opening_known job h) shows (opening_shows job)
+
 pub results_are_caused : ResultsAreCaused
 results_are_caused job trail l found h goes ended =
-    let end : Along (λ m trail. Evidence m.job m.progress trail) (opening job) trail l =
-    along (λ m trail. Evidence m.job m.progress trail) (opening job) trail l goes (opening_known job h) shows (opening_shows job) in
+    let end : Along (λ m trail. Evidence m.job m.progress trail) (opening job) trail l = at_end job trail l h goes in
     caused job trail l found end.holds end.same ended
+
+pub passed_are_full : PassedAreFull
+passed_are_full job trail l h goes none j below =
+    let end : Along (λ m trail. Evidence m.job m.progress trail) (opening job) trail l = at_end job trail l h goes in
+    subst (λ (k : Job). IsFullTablet k trail (tablet_at k j)) end.same (end.holds.gone none j below)

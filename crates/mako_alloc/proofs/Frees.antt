@@ -1,8 +1,9 @@
 -- An entry that is found is used or free.
-use Rattle.std.proofs.Common.{◌≡◌, ℕ, inl, inr, true, false, not, ◌&&◌, nat_lt, Option, Some, None, if◌then◌else◌, refl}
+use Rattle.std.proofs.Common.{◌≡◌, ℕ, inl, inr, true, false, not, ◌&&◌, nat_lt, Option, Some, None, if◌then◌else◌, subst, refl}
 use Rattle.mako_words.specs.Entries.{entry_at}
 use Rattle.mako_shape.specs.declared.numbers.Numbers.{Numbers}
 use Rattle.mako_alloc.specs.Allocating.{free_generation}
+use Rattle.mako_alloc.specs.Causes.{EntriesTell}
 use Rattle.mako_alloc.specs.Seen.{IsUsed, IsFree}
 use Rattle.mako_alloc.proofs.Cases.{by_lt}
 
@@ -20,3 +21,12 @@ by_entry P n w used free = elim ((entry_at w).taken) as
           (λ h. free (entry_at w).generation (record { free = e; generation_is = refl; left = h }))
           (λ h. used (inr h))
     ] refl
+
+-- what the search takes a word for is what its entry is
+pub entries_tell : EntriesTell
+entries_tell = record {
+  used = λ n w. by_entry (λ o. o ≡ None → IsUsed n w) n w (λ used e. used) (λ g free e. cc);
+  free = λ n w generation. by_entry (λ o. o ≡ Some generation → IsFree n w generation) n w
+      (λ used e. cc)
+      (λ g free e. let same : g ≡ generation = cc in subst (λ (x : ℕ). IsFree n w x) same free);
+}

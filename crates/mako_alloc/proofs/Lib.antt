@@ -8,3 +8,4 @@ pub mod Evidence
 pub mod Shown
 pub mod Caused
 pub mod StandingLaws
+pub mod Worked

@@ -1,5 +1,5 @@
 -- What each result of a `new` rests on.
-use Rattle.std.specs.Prelude.{◌≡◌, ℕ, suc, zero, ◌+◌, ◌*◌, ◌<◌, ◌≤◌, List, [], ◌∷◌, ◌++◌, map}
+use Rattle.std.specs.Prelude.{◌≡◌, ℕ, suc, zero, ◌+◌, ◌*◌, ◌<◌, ◌≤◌, List, [], ◌∷◌, ◌++◌, map, None, Some}
 use Rattle.std.specs.List.{All, Contains}
 use Rattle.mako_words.specs.declared.name.Name.{Name}
 use Rattle.mako_shape.specs.declared.numbers.Numbers.{Numbers}
@@ -12,9 +12,9 @@ use Rattle.mako_alloc.specs.declared.found.Found.TheVariants.{Made, Full, Pause}
 use Rattle.mako_alloc.specs.declared.job.Job.{Job}
 use Rattle.mako_alloc.specs.declared.progress.NewRecord.{NewRecord}
 use Rattle.mako_alloc.specs.declared.progress.NewStage.TheVariants.{Ended}
-use Rattle.mako_alloc.specs.Allocating.{Allocation, IsJob, HasRoom, Fits, all_tablets, fed, next_of, opening, published, record_word, rank}
+use Rattle.mako_alloc.specs.Allocating.{Allocation, IsJob, HasRoom, Fits, all_tablets, fed, free_generation, next_of, opening, tablet_at, published, record_word, rank}
 use Rattle.mako_alloc.specs.Notes.{IsNoNote, IsFirstNote}
-use Rattle.mako_alloc.specs.Seen.{IsEntered, IsFree, IsFullTablet, sees}
+use Rattle.mako_alloc.specs.Seen.{IsEntered, IsFree, IsUsed, IsFullTablet, sees}
 
 -- the store of a word
 abbrev pub stores : ℕ → ℕ → Act
@@ -74,6 +74,17 @@ IsCaused job trail (Pause reason) = IsFirstNote job trail reason
 abbrev pub ResultsAreCaused : Type 0
 ResultsAreCaused = (job : Job) (trail : List Observation) (l : Allocation) (found : Found) → IsJob job →
     Goes next_of Fits fed (opening job) trail l → l.progress.stage ≡ Ended found → IsCaused job trail found
+
+-- as long as there is no note, each tablet that it passed on from was full
+abbrev pub PassedAreFull : Type 0
+PassedAreFull = (job : Job) (trail : List Observation) (l : Allocation) → IsJob job →
+    Goes next_of Fits fed (opening job) trail l → l.progress.note ≡ None →
+    (j : ℕ) → j < l.progress.passed → IsFullTablet job trail (tablet_at job j)
+
+-- what the search for a free entry takes a word for is what its entry is
+pub record EntriesTell : Type 0 where
+  pub used : (n : Numbers) (w : ℕ) → free_generation n.generations w ≡ None → IsUsed n w
+  pub free : (n : Numbers) (w generation : ℕ) → free_generation n.generations w ≡ Some generation → IsFree n w generation
 
 -- from the beginning it takes few steps
 abbrev pub RankIsSmall : Type 0

@@ -3,3 +3,4 @@ pub mod Causes
 pub mod Notes
 pub mod Seen
 pub mod Standings
+pub mod Examples

@@ -23,8 +23,8 @@ pub struct Job {
     pub cycle: u32,
 }
 
-#[tactic(auto, unfolding(crate::specs::Allocating::free_generation))]
 /// The generation of the entry with this word, if the entry is free and has a generation left.
+#[tactic(auto, unfolding(crate::specs::Allocating::free_generation))]
 fn free_generation(word: u64, generations: u32) -> Option<u32>
     ensures { result ≡ allocating.free_generation generations word }
 {
@@ -67,8 +67,8 @@ impl Job {
         tablet * self.shape.numbers().entries + place
     }
 
-    #[tactic(auto, using(crate::proofs::Bounds::record_word_index))]
     /// The index of a word of the record, by its place behind the header.
+    #[tactic(auto, using(crate::proofs::Bounds::record_word_index))]
     fn record_word(&self, made: NewRecord, place: u8) -> u32
         requires job { IsJob self.now }
         requires made { IsRecord self.now made }

@@ -1,6 +1,7 @@
 //! How an object is made: the machine of `new`, from the gate of the first tablet to the store of the entry.
 #![tactic(auto)]
 
+pub mod examples;
 mod found;
 mod job;
 pub mod laws;
