@@ -173,7 +173,7 @@ impl Job {
             NewStage::Making(made, part) => progress.at(self.after_part(tablet, made, part)),
             NewStage::GivingTurn => progress.at(NewStage::Leaving),
             NewStage::TurnedAway | NewStage::Leaving => self.passed_on(progress),
-            NewStage::Ended(found) => progress.at(NewStage::Ended(found)),
+            NewStage::Ended(_) => *progress,
         }
     }
 

@@ -51,7 +51,7 @@ pub enum NewStage {
 /// How far a `new` has come.
 #[derive(Clone, Copy)]
 pub struct Progress {
-    /// How many tablets it passed on from.
+    /// How many tablets it passed on from. At its end it is still at the last one that it was at.
     pub passed: u32,
     /// Why the first tablet that could not be tried could not.
     pub note: Option<Pause>,
