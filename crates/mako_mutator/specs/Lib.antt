@@ -1,0 +1,12 @@
+pub mod Callers
+pub mod Objects
+pub mod Leaving
+pub mod Rooting
+pub mod Entering
+pub mod Moving
+pub mod Getting
+pub mod Putting
+pub mod Asking
+pub mod Allocating
+pub mod Agreeing
+pub mod Calls
