@@ -45,7 +45,7 @@ alloc_goes k (Put to field from) s w caller known agrees fits = absurd agrees
 alloc_goes k (Show root) s w caller known agrees fits = absurd agrees
 alloc_goes k Collect s w caller known agrees fits = absurd agrees
 
-stage_goes : (k : Caller) (call : Call) (last : Bool) (slot : ℕ) (s : CallStage) (w : ℕ) → IsCaller k → CallFits k.shape call → StageIsKnown k s → StageOf call s → StageFits k.shape s w →
+stage_goes : (k : Caller) (call : Call) (last : Bool) (slot : ℕ) (s : CallStage) (w : ℕ) → IsCaller k → CallFits k.shape call → StageIsKnown k s → StageOf k.shape call s → StageFits k.shape s w →
     IsAct (stage_next k slot s) → GoesOn k call (stage_rank k.shape s) (stage_fed k call last slot s w)
 stage_goes k call last slot Arriving w caller small known agrees fits acts = arrives_goes k call w (is_shut w) small agrees
 stage_goes k call last slot (Rooting s) w caller small known agrees fits acts = root_goes k call s w known agrees fits

@@ -9,8 +9,9 @@ use Rattle.mako_alloc.specs.Allocating as allocating
 use Rattle.mako_alloc.specs.declared.job.Job.{Job}
 use Rattle.mako_alloc.proofs.Bounds.{some_tablet}
 use Rattle.mako_model.specs.declared.call.Call.{Call}
-use Rattle.mako_model.specs.declared.call.Call.TheVariants.{Get, Put}
+use Rattle.mako_model.specs.declared.call.Call.TheVariants.{New, Num, CopyRoot, DropRoot, Get, Put, Show, Collect}
 use Rattle.mako_model.specs.declared.attempt.Attempt.{Attempt}
+use Rattle.mako_shape.specs.declared.numbers.Numbers.{Numbers}
 use Rattle.mako_shape.proofs.BelongingLaws.{belongings_in_range}
 use Rattle.mako_mutator.specs.declared.caller.Caller.{Caller}
 use Rattle.mako_mutator.specs.declared.object.Access.{Access}
@@ -18,7 +19,7 @@ use Rattle.mako_mutator.specs.declared.object.Access.TheVariants.{Get as Gets, P
 use Rattle.mako_mutator.specs.declared.object.Errand.{Errand}
 use Rattle.mako_mutator.specs.declared.object.Located.{Located}
 use Rattle.mako_mutator.specs.declared.call_stage.CallStage.{CallStage}
-use Rattle.mako_mutator.specs.Agreeing.{Arrives, AccessOf, StageOf}
+use Rattle.mako_mutator.specs.Agreeing.{Arrives, AccessOf, IsCollect, outcome_asked, asked_of, AskedFits, StageOf}
 use Rattle.mako_mutator.specs.Objects.{tablet_of, at_record, AccessIsKnown, ErrandIsKnown, LocatedIsKnown}
 use Rattle.mako_mutator.specs.Callers.{IsCaller}
 use Rattle.mako_mutator.specs.Allocating.{opening_search, search_bound}
@@ -28,7 +29,7 @@ use Rattle.mako_mutator.specs.Calls.{StageIsKnown, stage_rank}
 -- a stage of the call that is known, and of a rank below this
 pub record GoesOn (k : Caller) (call : Call) (r : ℕ) (stage : CallStage) : Type 0 where
   pub known : StageIsKnown k stage
-  pub agrees : StageOf call stage
+  pub agrees : StageOf k.shape call stage
   pub lower : stage_rank k.shape stage < r
 
 -- it leaves its own gate
@@ -89,3 +90,19 @@ opening_rank k fields cycle caller few =
 -- a number that is not the next one is beyond it
 pub one_more : (a b : ℕ) → a < b → (a + 1 ≡ b → ⊥) → a + 1 < b
 one_more a b h d = elim (cases_lt (a + 1) b) [ inl l ↦ l | inr g ↦ absurd (d (omega (arith, h, g))) ]
+
+-- a call that arrives at the own gate has asked for no cycle, nor has one that is answered
+pub arrives_asked : (n : Numbers) (call : Call) (outcome : Attempt) → Arrives call → AskedFits n (asked_of call outcome)
+arrives_asked n (New root fields) outcome h = tt
+arrives_asked n (Num root number) outcome h = tt
+arrives_asked n (CopyRoot to from) outcome h = tt
+arrives_asked n (DropRoot root) outcome h = tt
+arrives_asked n (Get to from field) outcome h = tt
+arrives_asked n (Put to field from) outcome h = tt
+arrives_asked n (Show root) outcome h = tt
+arrives_asked n Collect outcome h = absurd h
+
+-- what a collect comes to, that has asked for a cycle of the geometry if it has to wait
+pub collect_asked : (n : Numbers) (call : Call) (outcome : Attempt) → IsCollect call → AskedFits n (outcome_asked outcome) → AskedFits n (asked_of call outcome)
+collect_asked n Collect outcome h fits = fits
+collect_asked n _ outcome h fits = absurd h

@@ -15,7 +15,7 @@ use Rattle.mako_model.specs.declared.call.Call.{Call}
 use Rattle.mako_model.specs.declared.call.Call.TheVariants.{New, Num, CopyRoot, DropRoot, Get, Put, Show}
 use Rattle.mako_model.specs.declared.attempt.Attempt.TheVariants.{Answer, Pause as Paused}
 use Rattle.mako_model.specs.declared.reply.Reply.TheVariants.{NoField, Cycle, Spent}
-use Rattle.mako_model.specs.declared.attempt.Pause.TheVariants.{Busy, Barrier, Cycle as NotYet}
+use Rattle.mako_model.specs.declared.attempt.Pause.TheVariants.{Stopped, Busy, Barrier, Cycle as NotYet}
 use Rattle.mako_record.specs.Regions.{is_in_region}
 use Rattle.mako_record.specs.Copying as copying
 use Rattle.mako_record.specs.Copying.{Copying}
@@ -65,8 +65,8 @@ use Rattle.mako_mutator.specs.Getting.{get_fed, GetFits, get_rank, GetIsKnown}
 use Rattle.mako_mutator.specs.Putting.{before_store, old_fed, put_fed, PutFits, put_rank, PutIsKnown}
 use Rattle.mako_mutator.specs.Allocating.{found_fed, search_fed, new_fed, NewFits, new_rank, SearchGoesOn, NewIsKnown}
 use Rattle.mako_mutator.specs.Asking.{finished_cycles, ask_fed, AskFits, ask_rank, AskIsKnown}
-use Rattle.mako_mutator.specs.Leaving.{leave_fed, leave_rank, LeaveIsKnown, leaving_tablet, answered_at}
-use Rattle.mako_mutator.proofs.Going.{GoesOn, leaves_tablet, tablet_known, located_tablet, access_arrives, at_goes, entry_fits, one_more, named_fits, opening_known, opening_rank}
+use Rattle.mako_mutator.specs.Leaving.{outcome_of, leave_fed, leave_rank, LeaveIsKnown, leaving_tablet, answered_at}
+use Rattle.mako_mutator.proofs.Going.{GoesOn, leaves_tablet, tablet_known, located_tablet, access_arrives, at_goes, entry_fits, one_more, arrives_asked, collect_asked, named_fits, opening_known, opening_rank}
 
 source_goes : (k : Caller) (to from field : ℕ) (v : Value) → to < k.shape.roots → FitsValue v → ValueIsKnown k.shape v → GoesOn k (Get to from field) 47 (source_fed to field v)
 source_goes k to from field Null h fits known = record { known = tt; agrees = tt; lower = omega arith }
@@ -192,10 +192,10 @@ put_goes k call slot at put StoringField w located known agrees fits =
     record { known = located_tablet k at located; agrees = access_arrives call (Puts put) agrees; lower = omega arith }
 
 pub leave_goes : (k : Caller) (call : Call) (last : Bool) (s : LeaveStage) → LeaveIsKnown k.shape s → Arrives call → GoesOn k call (leave_rank s) (leave_fed last s)
-leave_goes k call last (Refused word) known arrives = record { known = tt; agrees = tt; lower = omega arith }
+leave_goes k call last (Refused word) known arrives = record { known = tt; agrees = arrives_asked k.shape call (Paused (Stopped word)) arrives; lower = omega arith }
 leave_goes k call last (TurnedAway tablet word) known arrives = record { known = tt; agrees = arrives; lower = omega arith }
 leave_goes k call last (FromTablet tablet outcome) known arrives = record { known = tt; agrees = arrives; lower = omega arith }
-leave_goes k call last (FromOwn outcome) known arrives = record { known = tt; agrees = tt; lower = omega arith }
+leave_goes k call last (FromOwn outcome) known arrives = record { known = tt; agrees = arrives_asked k.shape call (outcome_of last outcome) arrives; lower = omega arith }
 
 -- a number that is not the last is before it
 not_last : (a b : ℕ) → a ≤ b → (a ≡ b → ⊥) → a + 1 ≤ b
@@ -204,13 +204,13 @@ not_last a b h d = let more = one_more a (b + 1) (omega (arith, h)) (λ e. d (om
 pub ask_goes : (k : Caller) (call : Call) (s : AskStage) (w : ℕ) → AskIsKnown k.shape s → IsCollect call → AskFits k.shape s w → GoesOn k call (ask_rank s) (ask_fed k.shape s w)
 ask_goes k call AskPhase w known agrees fits =
     by_eq (λ b. GoesOn k call 3 (if b then Ended (Answer Spent) else Asking (RaisingDemand (cycle_of (phase_at w) + 1)))) (cycle_of (phase_at w)) k.shape.cycles
-    (λ _. record { known = tt; agrees = tt; lower = omega arith })
+    (λ _. record { known = tt; agrees = collect_asked k.shape call (Answer Spent) agrees tt; lower = omega arith })
     (λ d. record { known = (omega arith, not_last (cycle_of (phase_at w)) k.shape.cycles fits.1 d); agrees = agrees; lower = omega arith })
 ask_goes k call (RaisingDemand cycle) w known agrees fits = record { known = known; agrees = agrees; lower = omega arith }
 ask_goes k call (Awaiting cycle) w known agrees fits =
     by_bool (λ b. GoesOn k call 1 (if b then Ended (Answer (Cycle cycle)) else Ended (Paused (NotYet cycle w)))) (nat_le cycle (finished_cycles (phase_at w)))
-    (λ _. record { known = tt; agrees = tt; lower = omega arith })
-    (λ _. record { known = tt; agrees = tt; lower = omega arith })
+    (λ _. record { known = tt; agrees = collect_asked k.shape call (Answer (Cycle cycle)) agrees tt; lower = omega arith })
+    (λ _. record { known = tt; agrees = collect_asked k.shape call (Paused (NotYet cycle w)) agrees known; lower = omega arith })
 
 -- what the search found: the name of an object fits
 found_goes : (k : Caller) (root fields q r : ℕ) (job : Job) (found : Found) → q < k.shape.roots → q ≡ root → job.shape ≡ k.shape → allocating.IsJob job → allocating.IsFoundKnown job found → 0 < r →

@@ -1,3 +1,6 @@
 pub mod Going
 pub mod GroupGoing
 pub mod CallGoing
+pub mod Deciding
+pub mod ProgramCalls
+pub mod DriverGoing

@@ -1,5 +1,10 @@
 -- Which stages are those of a call.
-use Rattle.std.specs.Prelude.{◌≡◌}
+use Rattle.std.specs.Prelude.{◌≡◌, ℕ, ◌≤◌, Option, Some, None}
+use Rattle.mako_shape.specs.declared.numbers.Numbers.{Numbers}
+use Rattle.mako_model.specs.declared.attempt.Attempt.{Attempt}
+use Rattle.mako_model.specs.declared.attempt.Attempt.TheVariants.{Answer, Full, Pause as Paused}
+use Rattle.mako_model.specs.declared.attempt.Pause.{Pause}
+use Rattle.mako_model.specs.declared.attempt.Pause.TheVariants.{Stopped, Shut, Busy, Moving as BeingMoved, Barrier, Cycle as NotYet}
 use Rattle.mako_model.specs.declared.call.Call.{Call}
 use Rattle.mako_model.specs.declared.call.Call.TheVariants.{New, Num, CopyRoot, DropRoot, Get, Put, Show, Collect}
 use Rattle.mako_mutator.specs.declared.object.Access.{Access}
@@ -52,14 +57,45 @@ abbrev pub IsCollect : Call → Type 0
 IsCollect Collect = Unit {0}
 IsCollect call = ⊥
 
-abbrev pub StageOf : Call → CallStage → Type 0
-StageOf call Arriving = Arrives call
-StageOf call (Rooting s) = RootStageOf call s
-StageOf call (Entering e s) = AccessOf call e.access
-StageOf call (Moving e s) = AccessOf call e.access
-StageOf call (Getting at get s) = AccessOf call (Gets get)
-StageOf call (Putting at put s) = AccessOf call (Puts put)
-StageOf call (Allocating s) = AllocStageOf call s
-StageOf call (Asking s) = IsCollect call
-StageOf call (Leaving s) = Arrives call
-StageOf call (Ended outcome) = Unit {0}
+-- the cycle that a pause waits for
+abbrev pub pause_asked : Pause → Option ℕ
+pause_asked (Stopped word) = None
+pause_asked (Shut tablet word) = None
+pause_asked (Busy tablet word) = None
+pause_asked (BeingMoved tablet word) = None
+pause_asked (Barrier slot word) = None
+pause_asked (NotYet wanted word) = Some wanted
+
+abbrev pub outcome_asked : Attempt → Option ℕ
+outcome_asked (Answer reply) = None
+outcome_asked Full = None
+outcome_asked (Paused pause) = pause_asked pause
+
+-- the cycle that a collect has asked for and waits for; every other call forgets what was asked
+abbrev pub asked_of : Call → Attempt → Option ℕ
+asked_of (New root fields) outcome = None
+asked_of (Num root number) outcome = None
+asked_of (CopyRoot to from) outcome = None
+asked_of (DropRoot root) outcome = None
+asked_of (Get to from field) outcome = None
+asked_of (Put to field from) outcome = None
+asked_of (Show root) outcome = None
+asked_of Collect outcome = outcome_asked outcome
+
+-- a cycle that was asked for is one of the geometry
+abbrev pub AskedFits : Numbers → Option ℕ → Type 0
+AskedFits n None = Unit {0}
+AskedFits n (Some cycle) = (1 ≤ cycle) × (cycle ≤ n.cycles)
+
+-- the stage is one of the call
+abbrev pub StageOf : Numbers → Call → CallStage → Type 0
+StageOf n call Arriving = Arrives call
+StageOf n call (Rooting s) = RootStageOf call s
+StageOf n call (Entering e s) = AccessOf call e.access
+StageOf n call (Moving e s) = AccessOf call e.access
+StageOf n call (Getting at get s) = AccessOf call (Gets get)
+StageOf n call (Putting at put s) = AccessOf call (Puts put)
+StageOf n call (Allocating s) = AllocStageOf call s
+StageOf n call (Asking s) = IsCollect call
+StageOf n call (Leaving s) = Arrives call
+StageOf n call (Ended outcome) = AskedFits n (asked_of call outcome)

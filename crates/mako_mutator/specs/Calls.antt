@@ -16,9 +16,8 @@ use Rattle.mako_model.specs.declared.event.Event.{Event}
 use Rattle.mako_model.specs.declared.event.Event.TheVariants.{Nothing, Answered}
 use Rattle.mako_model.specs.declared.attempt.Attempt.{Attempt}
 use Rattle.mako_model.specs.declared.attempt.Attempt.TheVariants.{Answer, Full, Pause as Paused}
-use Rattle.mako_model.specs.declared.attempt.Pause.{Pause}
-use Rattle.mako_model.specs.declared.attempt.Pause.TheVariants.{Stopped, Shut, Busy, Moving as BeingMoved, Barrier, Cycle as NotYet}
 use Rattle.mako_mutator.specs.declared.caller.Caller.{Caller}
+use Rattle.mako_mutator.specs.declared.call_machine.Keep.{Keep}
 use Rattle.mako_mutator.specs.declared.call_stage.CallStage.{CallStage}
 use Rattle.mako_mutator.specs.declared.call_stage.CallStage.TheVariants.{Arriving, Rooting, Entering, Moving, Getting, Putting, Allocating, Asking, Leaving, Ended}
 use Rattle.mako_mutator.specs.declared.rooting.RootStage.TheVariants.{StoringNumber, StoringNull, LoadingCopied, LoadingShown, LoadingSource, LoadingTarget}
@@ -39,7 +38,7 @@ use Rattle.mako_mutator.specs.Putting.{put_next, put_fed, slot_fed, PutFits, put
 use Rattle.mako_mutator.specs.Allocating.{new_next, new_fed, NewFits, new_rank, NewIsKnown}
 use Rattle.mako_mutator.specs.Asking.{ask_next, ask_fed, AskFits, ask_rank, AskIsKnown}
 use Rattle.mako_mutator.specs.Leaving.{leave_next, leave_fed, leave_rank, LeaveIsKnown}
-use Rattle.mako_mutator.specs.Agreeing.{StageOf}
+use Rattle.mako_mutator.specs.Agreeing.{asked_of, StageOf}
 
 -- who makes which call, whether it is the last attempt, the barrier slot for the next name, and the stage
 pub record Calling : Type 0 where
@@ -159,6 +158,23 @@ decided (Asking s) = None
 decided (Leaving s) = leave_decided s
 decided (Ended outcome) = reply_of outcome
 
+-- what an attempt that has ended came to
+abbrev pub outcome_in : CallStage → Option Attempt
+outcome_in Arriving = None
+outcome_in (Rooting s) = None
+outcome_in (Entering e s) = None
+outcome_in (Moving e s) = None
+outcome_in (Getting at get s) = None
+outcome_in (Putting at put s) = None
+outcome_in (Allocating s) = None
+outcome_in (Asking s) = None
+outcome_in (Leaving s) = None
+outcome_in (Ended outcome) = Some outcome
+
+-- what is kept for the next attempt
+abbrev pub kept : Calling → Attempt → Keep
+kept v outcome = record { asked = asked_of v.call outcome; barrier_at = v.slot }
+
 -- the deciding step is the one with which a reply comes to stand: its point enters the history
 abbrev pub event_by : ℕ → Call → Option Reply → Option Reply → Event
 event_by m call None None = Nothing
@@ -199,20 +215,6 @@ stage_rank n (Ended outcome) = 0
 abbrev pub rank : Calling → ℕ
 rank v = stage_rank v.caller.shape v.stage
 
--- the cycle that a pause waits for
-abbrev pub pause_asked : Pause → Option ℕ
-pause_asked (Stopped word) = None
-pause_asked (Shut tablet word) = None
-pause_asked (Busy tablet word) = None
-pause_asked (BeingMoved tablet word) = None
-pause_asked (Barrier slot word) = None
-pause_asked (NotYet wanted word) = Some wanted
-
-abbrev pub outcome_asked : Attempt → Option ℕ
-outcome_asked (Answer reply) = None
-outcome_asked Full = None
-outcome_asked (Paused pause) = pause_asked pause
-
 abbrev pub StageIsKnown : Caller → CallStage → Type 0
 StageIsKnown k Arriving = Unit {0}
 StageIsKnown k (Rooting s) = RootIsKnown k.shape s
@@ -231,4 +233,4 @@ pub record IsKnown (v : Calling) : Type 0 where
   pub call : CallFits v.caller.shape v.call
   pub slot : v.slot < v.caller.shape.ring
   pub stage : StageIsKnown v.caller v.stage
-  pub agrees : StageOf v.call v.stage
+  pub agrees : StageOf v.caller.shape v.call v.stage

@@ -10,3 +10,6 @@ pub mod Asking
 pub mod Allocating
 pub mod Agreeing
 pub mod Calls
+pub mod Keeping
+pub mod Drivers
+pub mod DriverHolds

@@ -1,10 +1,11 @@
 //! An attempt of a call, as a machine.
 
-ghost use Rattle.std.specs.Prelude.{◌≡◌, ◌<◌, ◌≤◌, false, IfSome};
+ghost use Rattle.std.specs.Prelude.{◌≡◌, ◌<◌, ◌≤◌, false, IfSome, Some, None};
 ghost use Rattle.mako_shape.specs.Places.{total};
 ghost use Rattle.mako_step.specs.Acts.{IsWithin};
 ghost use Rattle.mako_step.specs.declared.step.Step.TheVariants as steps;
-ghost use Rattle.mako_mutator.specs.Agreeing.{Arrives};
+ghost use Rattle.mako_mutator.specs.Agreeing.{Arrives, AskedFits};
+ghost use Rattle.mako_mutator.specs.Keeping.{KeepFits};
 ghost use Rattle.mako_mutator.specs.Callers.{CallFits};
 ghost use Rattle.mako_mutator.specs.Calls as calls;
 
@@ -60,7 +61,7 @@ impl CallMachine {
     pub fn new(shape: Shape, mutator: u32, call: Call, last: bool, keep: Keep) -> CallMachine
         requires mutator { mutator < shape.mutators }
         requires call { CallFits shape call }
-        requires asked { IfSome keep.asked (λ cycle. (1 ≤ cycle) × (cycle ≤ shape.cycles)) }
+        requires asked { AskedFits shape keep.asked }
         requires barrier { keep.barrier_at < shape.ring }
         ensures { result ≡ calls.opening (record { shape = shape; mutator = mutator }) call last keep.asked keep.barrier_at }
     {
@@ -83,21 +84,46 @@ impl CallMachine {
     pub fn result(&self) -> (Attempt, Keep)
         requires { calls.next_of self.now ≡ steps.Ended }
         ensures outcome { self.now.stage ≡ stages.Ended result.0 }
-        ensures asked { result.1.asked ≡ calls.outcome_asked result.0 }
-        ensures barrier { result.1.barrier_at ≡ self.now.slot }
+        ensures keep { result.1 ≡ calls.kept self.now result.0 }
+        ensures asked { AskedFits self.now.caller.shape result.1.asked }
+        ensures barrier { result.1.barrier_at < self.now.caller.shape.ring }
     {
         let CallStage::Ended(outcome) = self.stage else {
             unreachable!()
         };
-        let asked = match outcome {
-            Attempt::Pause(Pause::Cycle { wanted, .. }) => Some(wanted),
+        (outcome, self.keep(outcome))
+    }
+
+    /// What it came to and keeps, where it has ended.
+    pub(crate) fn outcome(&self) -> Option<(Attempt, Keep)>
+        ensures none { result ≡ None → calls.outcome_in self.now.stage ≡ None }
+        ensures some { IfSome result (λ r. (calls.outcome_in self.now.stage ≡ Some r.0) × (r.1 ≡ calls.kept self.now r.0) × KeepFits self.now.caller.shape r.1) }
+    {
+        match self.stage {
+            CallStage::Ended(outcome) => Some((outcome, self.keep(outcome))),
+            _ => None,
+        }
+    }
+
+    /// The call, and whether this is its last attempt.
+    pub(crate) fn of(&self) -> (Call, bool)
+        ensures { result ≡ (self.now.call, self.now.last) }
+    {
+        (self.call, self.last)
+    }
+
+    /// What is kept after this outcome.
+    fn keep(&self, outcome: Attempt) -> Keep
+        ensures { result ≡ calls.kept self.now outcome }
+    {
+        let asked = match (self.call, outcome) {
+            (Call::Collect, Attempt::Pause(Pause::Cycle { wanted, .. })) => Some(wanted),
             _ => None,
         };
-        let keep = Keep {
+        Keep {
             asked,
             barrier_at: u64::from(self.slot),
-        };
-        (outcome, keep)
+        }
     }
 
     /// Where it stands after the word that its act found.

@@ -1,0 +1,144 @@
+//! A mutator's whole program, as a machine.
+
+ghost use Rattle.std.specs.Prelude.{◌≡◌, ◌<◌, ◌≤◌, ◌+◌, ◌++◌, ℕ, false, IfOk, length, slice_get, Some, vec_len, vec_capacity};
+ghost use Rattle.mako_shape.specs.Places.{total};
+ghost use Rattle.mako_step.specs.Acts.{IsWithin};
+ghost use Rattle.mako_mutator.specs.Drivers as drivers;
+
+use crate::caller::Caller;
+use crate::place::Place;
+use crate::progress::Progress;
+use mako_model::{Call, Event, Point, Reply};
+use mako_script::Script;
+use mako_step::{Machine, Step};
+use mako_words::Memory;
+use std::alloc::Global;
+use std::marker::Model;
+
+/// Makes the calls of a mutator's program, one after the other. After a pause it attempts a call again.
+/// After a `new` that found no room it waits for a cycle, and then attempts it a last time; it does so
+/// at once where no cycle is left.
+#[derive(Drop)]
+pub struct Driver {
+    caller: Caller,
+    calls: Vec<Call>,
+    replies: Vec<Reply>,
+    progress: Progress,
+}
+
+impl Model for Driver {
+    ghost use Rattle.mako_mutator.specs.Drivers.{Driving};
+    ghost use Rattle.mako_mutator.specs.DriverHolds.{driving_in, DriverHolds};
+
+    ghost Value = { Driving };
+
+    ghost view = { driving_in };
+
+    ghost invariant = { DriverHolds };
+}
+
+impl Driver {
+    ghost use Rattle.mako_script.specs.Programs.{ProgramView};
+
+    /// The driver of the mutator's program, before its first call. It takes all memory that it ever takes.
+    pub fn new(alloc: Global, script: &Script, mutator: u32) -> Result<Driver, Memory>
+        requires { mutator < length script.now.programs }
+        ensures { (program : ProgramView) → slice_get script.now.programs mutator ≡ Some program →
+            IfOk result (λ d. d ≡ drivers.opening (record { shape = script.now.numbers; mutator = mutator }) program.calls) }
+    {
+        let program = &script.programs[mutator as usize];
+        let Ok(calls) = Vec::from_slice(alloc, program.calls.as_slice()) else {
+            return Err(Memory);
+        };
+        let Ok(replies) = Vec::with_capacity(alloc, calls.len()) else {
+            return Err(Memory);
+        };
+        let shape = script.shape;
+        let caller = Caller { shape, mutator };
+        let progress = Progress::begun(&caller, calls.as_slice());
+        Ok(Driver {
+            caller,
+            calls,
+            replies,
+            progress,
+        })
+    }
+
+    /// How far it has come.
+    pub fn place(&self) -> Place
+        ensures { result ≡ drivers.place_at self.now.progress }
+    {
+        self.progress.place()
+    }
+
+    /// The replies to the calls that are decided, in order.
+    pub fn replies(&self) -> &[Reply]
+        ensures { result.now ≡ self.now.replies }
+    {
+        self.replies.as_slice()
+    }
+
+    /// The same list. No memory is taken.
+    pub fn into_replies(self) -> Vec<Reply>
+        ensures { result.items ≡ self.replies }
+    {
+        let Driver {
+            caller: _,
+            calls: _,
+            replies,
+            progress: _,
+        } = self;
+        replies
+    }
+}
+
+impl Machine for Driver {
+    type Event = Event;
+
+    ghost use Rattle.mako_mutator.specs.Drivers as drivers;
+
+    ghost next_of = { drivers.next_of };
+
+    ghost Fits = { drivers.Fits };
+
+    ghost fed = { drivers.fed };
+
+    ghost event_of = { drivers.event_of };
+
+    ghost is_waiting = { λ _ _. false };
+
+    ghost is_renewed = { drivers.is_renewed };
+
+    ghost rank = { drivers.rank };
+
+    fn next(&self) -> Step
+        ensures next { result ≡ drivers.next_of self.now }
+        ensures within { IsWithin (total self.now.caller.shape) result }
+    {
+        self.progress.next(&self.caller)
+    }
+
+    fn waits(&self, _before: u64) -> bool {
+        false
+    }
+
+    fn feed(&mut self, before: u64) -> Event {
+        let advance = self
+            .progress
+            .advance(&self.caller, self.calls.as_slice(), before);
+        keep_reply(&mut self.replies, advance.event);
+        self.progress = advance.progress;
+        advance.event
+    }
+}
+
+/// The reply of a call that is decided with this event goes behind those before it.
+fn keep_reply(replies: &mut Vec<Reply>, event: Event)
+    requires { vec_len replies.old + length (drivers.told_reply event) ≤ vec_capacity replies.old }
+    ensures items { replies.new.items ≡ replies.old.items ++ drivers.told_reply event }
+    ensures room { vec_capacity replies.new ≡ vec_capacity replies.old }
+{
+    if let Event::Answered(Point::Did { reply, .. }) = event {
+        replies.push_reserved(reply);
+    }
+}

@@ -1,0 +1,240 @@
+//! How far a driver has come.
+
+ghost use Rattle.std.specs.Prelude.{◌≡◌, ◌<◌, ◌+◌, ◌^◌, length, slice_get};
+ghost use Rattle.std.specs.Option.{ForSome};
+ghost use Rattle.mako_shape.specs.Places.{total};
+ghost use Rattle.mako_step.specs.Acts.{IsWithin};
+ghost use Rattle.mako_step.specs.Machines.{IsAct};
+ghost use Rattle.mako_mutator.specs.Agreeing.{AskedFits};
+ghost use Rattle.mako_mutator.specs.Callers.{IsCaller, CallFits};
+ghost use Rattle.mako_mutator.specs.Drivers as drivers;
+ghost use Rattle.mako_mutator.specs.Drivers.{ProgressIsKnown, AreFitting};
+ghost use Rattle.mako_mutator.specs.Keeping.{KeepFits};
+
+use crate::call_machine::{CallMachine, Keep};
+use crate::caller::Caller;
+use crate::place::Place;
+use mako_model::{Attempt, Call, Event};
+use mako_step::{Machine, Step};
+
+/// What a driver is at.
+#[derive(Clone, Copy)]
+pub enum Task {
+    /// An attempt of its next call.
+    Attempting(CallMachine),
+    /// A `new` found no room: it asks for a cycle as a `collect` does, without a point in the history,
+    /// and waits for its end.
+    Awaiting(CallMachine),
+    /// All calls are answered. Next it adds 1 to the finished word.
+    Finishing,
+    Ended,
+}
+
+impl Task {
+    /// An attempt of the call, or the end where there is none.
+    fn attempt(caller: &Caller, call: Option<Call>, last: bool, keep: Keep) -> Task
+        requires caller { IsCaller caller.now }
+        requires call { ForSome call (CallFits caller.now.shape) }
+        requires keep { KeepFits caller.now.shape keep }
+        ensures { result ≡ drivers.task_for caller.now call last keep }
+    {
+        match call {
+            Some(call) => Task::Attempting(CallMachine::new(
+                caller.shape,
+                caller.mutator,
+                call,
+                last,
+                keep,
+            )),
+            None => Task::Finishing,
+        }
+    }
+
+    /// It waits for a cycle as a `collect` does.
+    fn awaiting(caller: &Caller, keep: Keep) -> Task
+        requires caller { IsCaller caller.now }
+        requires keep { KeepFits caller.now.shape keep }
+        ensures { result ≡ drivers.awaiting caller.now keep }
+    {
+        Task::Awaiting(CallMachine::new(caller.shape, caller.mutator, Call::Collect, false, keep))
+    }
+}
+
+/// How far a driver has come with its program.
+#[derive(Clone, Copy)]
+pub struct Progress {
+    /// How many calls are through.
+    pub done: u32,
+    /// Whether a step of the next call was made.
+    pub within: bool,
+    pub task: Task,
+}
+
+/// Where a step leads, and what it tells.
+#[derive(Clone, Copy)]
+pub(crate) struct Advance {
+    pub(crate) progress: Progress,
+    pub(crate) event: Event,
+}
+
+impl Progress {
+    /// Before the first call.
+    pub(crate) fn begun(caller: &Caller, calls: &[Call]) -> Progress
+        requires caller { IsCaller caller.now }
+        requires calls { AreFitting caller.now.shape calls.now }
+        ensures { result ≡ drivers.begun caller.now calls.now }
+    {
+        let keep = Keep {
+            asked: None,
+            barrier_at: 0,
+        };
+        Progress {
+            done: 0,
+            within: false,
+            task: Task::attempt(caller, call_at(calls, 0), false, keep),
+        }
+    }
+
+    pub(crate) fn next(&self, caller: &Caller) -> Step
+        requires caller { IsCaller caller.now }
+        requires same { drivers.IsOf caller.now self.now.task }
+        ensures next { result ≡ drivers.task_next caller.now self.now.task }
+        ensures within { IsWithin (total caller.now.shape) result }
+    {
+        match self.task {
+            Task::Attempting(machine) | Task::Awaiting(machine) => machine.next(),
+            Task::Finishing => Step::add(caller.shape.finished(), 1),
+            Task::Ended => Step::Ended,
+        }
+    }
+
+    /// Where the step leads that found this word.
+    pub(crate) fn advance(&self, caller: &Caller, calls: &[Call], before: u64) -> Advance
+        requires caller { IsCaller caller.now }
+        requires calls { AreFitting caller.now.shape calls.now }
+        requires known { ProgressIsKnown caller.now calls.now self.now }
+        requires acts { IsAct (drivers.task_next caller.now self.now.task) }
+        requires fits { drivers.TaskFits self.now.task before }
+        ensures progress { result.progress ≡ drivers.progress_fed caller.now calls.now self.now before }
+        ensures event { result.event ≡ drivers.task_event self.now.task before }
+    {
+        match self.task {
+            Task::Attempting(mut attempt) => {
+                let event = attempt.feed(before);
+                Advance {
+                    progress: self.after_attempt(caller, calls, attempt),
+                    event,
+                }
+            }
+            Task::Awaiting(mut wait) => {
+                let _told = wait.feed(before);
+                Advance {
+                    progress: self.after_wait(caller, calls, wait),
+                    event: Event::Nothing,
+                }
+            }
+            Task::Finishing | Task::Ended => Advance {
+                progress: self.at(Task::Ended),
+                event: Event::Nothing,
+            },
+        }
+    }
+
+    /// It goes on with the attempt, or with what follows it: the next call, the wait for a cycle, or
+    /// the attempt again.
+    fn after_attempt(&self, caller: &Caller, calls: &[Call], attempt: CallMachine) -> Progress
+        requires caller { IsCaller caller.now }
+        requires calls { AreFitting caller.now.shape calls.now }
+        requires same { attempt.caller ≡ caller.now }
+        requires call { CallFits caller.now.shape attempt.call }
+        requires done { self.now.done + 1 < 2 ^ 32 }
+        ensures { result ≡ drivers.after_attempt caller.now calls.now self.now attempt }
+    {
+        let Some((outcome, keep)) = attempt.outcome() else {
+            return self.within(Task::Attempting(attempt));
+        };
+        match outcome {
+            Attempt::Answer(_) => self.moved_on(caller, calls, keep),
+            Attempt::Full => self.within(Task::awaiting(caller, keep)),
+            Attempt::Pause(_) => {
+                let (call, last) = attempt.of();
+                self.within(Task::attempt(caller, Some(call), last, keep))
+            }
+        }
+    }
+
+    /// Before the call behind the next one.
+    fn moved_on(&self, caller: &Caller, calls: &[Call], keep: Keep) -> Progress
+        requires caller { IsCaller caller.now }
+        requires calls { AreFitting caller.now.shape calls.now }
+        requires keep { KeepFits caller.now.shape keep }
+        requires done { self.now.done + 1 < 2 ^ 32 }
+        ensures { result ≡ drivers.moved_on caller.now calls.now self.now keep }
+    {
+        let done = self.done + 1;
+        let call = call_at(calls, done);
+        Progress {
+            done,
+            within: false,
+            task: Task::attempt(caller, call, false, keep),
+        }
+    }
+
+    /// It waits on, or makes the last attempt of the call that found no room.
+    fn after_wait(&self, caller: &Caller, calls: &[Call], wait: CallMachine) -> Progress
+        requires caller { IsCaller caller.now }
+        requires calls { AreFitting caller.now.shape calls.now }
+        requires same { wait.caller ≡ caller.now }
+        ensures { result ≡ drivers.after_wait caller.now calls.now self.now wait }
+    {
+        let Some((outcome, keep)) = wait.outcome() else {
+            return self.within(Task::Awaiting(wait));
+        };
+        match outcome {
+            Attempt::Answer(_) => {
+                let call = call_at(calls, self.done);
+                self.within(Task::attempt(caller, call, true, keep))
+            }
+            Attempt::Full | Attempt::Pause(_) => self.within(Task::awaiting(caller, keep)),
+        }
+    }
+
+    /// Within the next call, at this task.
+    fn within(&self, task: Task) -> Progress
+        ensures { result ≡ drivers.within self.now task }
+    {
+        Progress {
+            done: self.done,
+            within: true,
+            task,
+        }
+    }
+
+    /// The same, at this task.
+    fn at(&self, task: Task) -> Progress
+        ensures { result ≡ record self.now { task = task } }
+    {
+        Progress {
+            done: self.done,
+            within: self.within,
+            task,
+        }
+    }
+
+    pub(crate) fn place(&self) -> Place
+        ensures { result ≡ drivers.place_at self.now }
+    {
+        match self.task {
+            Task::Ended => Place::Ended,
+            _ if self.within => Place::Within(self.done),
+            _ => Place::Before(self.done),
+        }
+    }
+}
+
+/// The call with this number, if there is one.
+fn call_at(calls: &[Call], number: u32) -> Option<Call>
+    ensures { result ≡ slice_get calls.now number }
+{
+    calls.get(number as usize).copied()
+}
