@@ -5,7 +5,7 @@ use Rattle.mako_shape.specs.declared.numbers.Numbers.{Numbers}
 use Rattle.mako_alloc.specs.Allocating.{free_generation}
 use Rattle.mako_alloc.specs.Causes.{EntriesTell}
 use Rattle.mako_alloc.specs.Seen.{IsUsed, IsFree}
-use Rattle.mako_alloc.proofs.Cases.{by_lt}
+use Rattle.mako_step.proofs.Cases.{by_lt}
 
 -- by cases of what the word of an entry tells
 pub by_entry : (P : Option ℕ → Type 0) (n : Numbers) (w : ℕ) → (IsUsed n w → P None) → ((g : ℕ) → IsFree n w g → P (Some g)) →

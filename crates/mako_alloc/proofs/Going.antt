@@ -13,9 +13,9 @@ use Rattle.mako_alloc.specs.declared.progress.NewStage.TheVariants.{Arriving, Tu
 use Rattle.mako_alloc.specs.declared.progress.Part.{Part}
 use Rattle.mako_alloc.specs.declared.progress.Part.TheVariants.{Header, Field, Top, Entry}
 use Rattle.mako_alloc.specs.declared.progress.Progress.{Progress}
-use Rattle.mako_alloc.specs.Allocating.{IsKnown, HasRoom, IsRecord, IsStageKnown, FitsBy, all_tablets, tablet_at, stage_next, stage_fed, stage_rank, part_fed, rank_by, next_by, progress_fed, passed_on, outcome, seeking, entry_fed, field_or_top, at, noted, first}
+use Rattle.mako_alloc.specs.Allocating.{IsKnown, HasRoom, IsRecord, IsFoundKnown, IsStageKnown, FitsBy, all_tablets, tablet_at, stage_next, stage_fed, stage_rank, part_fed, rank_by, next_by, progress_fed, passed_on, outcome, seeking, entry_fed, field_or_top, at, noted, first}
 use Rattle.mako_alloc.proofs.Bounds.{entry_below, tablet_below}
-use Rattle.mako_alloc.proofs.Cases.{by_lt, by_le, by_bool}
+use Rattle.mako_step.proofs.Cases.{by_lt, by_le, by_bool}
 use Rattle.mako_alloc.proofs.Frees.{by_entry}
 
 -- what is known holds after the step, and its rank is lower
@@ -34,6 +34,11 @@ one_fewer tablets passed entries fields h =
     let fewer : tablets - (passed + 1) ≡ 1 + (tablets - (passed + 1 + 1)) = omega arith in
     rw fewer (omega (arith, add-mul 1 (tablets - (passed + 1 + 1)) (entries + 6)))
 
+-- without an object there is nothing to know
+outcome_known : (job : Job) (note : Option Reason) → IsFoundKnown job (outcome note)
+outcome_known job None = tt
+outcome_known job (Some reason) = tt
+
 -- to the next tablet, or to the end
 pub passes : (job : Job) (before : Progress) → IsKnown job before → stage_rank job before.stage ≡ job.fields + 3 →
     GoesOn job before (passed_on job before)
@@ -42,7 +47,7 @@ passes job before known out = by_lt
     (before.passed + 1)
     (all_tablets job.shape)
     (λ h. (record { numbers = known.numbers; passed = h; stage = tt }, omega (arith, one_fewer (all_tablets job.shape) before.passed job.shape.entries job.fields h)))
-    (λ h. stays job before before.note (Ended (outcome before.note)) known tt (omega arith))
+    (λ h. stays job before before.note (Ended (outcome before.note)) known (outcome_known job before.note) (omega arith))
 
 seeks : (job : Job) (before : Progress) (kept place : ℕ) → IsKnown job before → HasRoom job kept →
     job.shape.entries - place + job.fields + 4 < stage_rank job before.stage → job.fields + 4 < stage_rank job before.stage →
@@ -79,11 +84,11 @@ field_goes_on job before made i known is_record lower out = by_lt
 
 part_goes_on : (job : Job) (passed : ℕ) (reason : Option Reason) (t : ℕ) (made : NewRecord) (part : Part) →
     let before : Progress = record { passed = passed; note = reason; stage = Making made part } in
-    IsKnown job before → GoesOn job before (at before (part_fed job t made part))
-part_goes_on job passed reason t made Header known = field_goes_on job _ made 0 known known.stage.0 (omega arith) (omega arith)
-part_goes_on job passed reason t made (Field i) known = field_goes_on job _ made (i + 1) known known.stage.0 (omega (arith, known.stage.1)) (omega (arith, known.stage.1))
-part_goes_on job passed reason t made Top known = stays job _ reason (Making made Entry) known (known.stage.0, tt) (omega arith)
-part_goes_on job passed reason t made Entry known = stays job _ reason (Ended (Made made.name t)) known tt (omega arith)
+    t < all_tablets job.shape → IsKnown job before → GoesOn job before (at before (part_fed job t made part))
+part_goes_on job passed reason t made Header within known = field_goes_on job _ made 0 known known.stage.0 (omega arith) (omega arith)
+part_goes_on job passed reason t made (Field i) within known = field_goes_on job _ made (i + 1) known known.stage.0 (omega (arith, known.stage.1)) (omega (arith, known.stage.1))
+part_goes_on job passed reason t made Top within known = stays job _ reason (Making made Entry) known (known.stage.0, tt) (omega arith)
+part_goes_on job passed reason t made Entry within known = stays job _ reason (Ended (Made made.name t)) known (known.stage.0.name, within) (omega arith)
 
 -- each step goes on
 stage_goes_on : (job : Job) (passed : ℕ) (reason : Option Reason) (t : ℕ) (stage : NewStage) (w : ℕ) → t < all_tablets job.shape →
@@ -128,7 +133,7 @@ stage_goes_on job passed reason t (LoadingEntry kept place) w within known fits 
 stage_goes_on job passed reason t (LoadingHome kept name) w within known fits act = stays job _ reason
     (Making (record { name = name; home = w; top = kept }) Header) known
     (record { name = known.stage.1; home = fits; room = known.stage.0 }, tt) (omega arith)
-stage_goes_on job passed reason t (Making made part) w within known fits act = part_goes_on job passed reason t made part known
+stage_goes_on job passed reason t (Making made part) w within known fits act = part_goes_on job passed reason t made part within known
 stage_goes_on job passed reason t GivingTurn w within known fits act = stays job _ reason Leaving known tt (omega arith)
 stage_goes_on job passed reason t Leaving w within known fits act = passes job _ known refl
 stage_goes_on job passed reason t (Ended found) w within known fits act = absurd act

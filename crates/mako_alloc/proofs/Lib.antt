@@ -1,4 +1,3 @@
-pub mod Cases
 pub mod Bounds
 pub mod Frees
 pub mod Going

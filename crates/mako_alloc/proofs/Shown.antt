@@ -23,7 +23,7 @@ use Rattle.mako_alloc.specs.Allocating.{IsKnown, FitsBy, all_tablets, at, noted,
 use Rattle.mako_alloc.specs.Causes.{IsMaking, null_stores, record_stores, stores}
 use Rattle.mako_alloc.specs.Notes.{IsNote, IsNoNote}
 use Rattle.mako_alloc.specs.Seen.{IsUsed, IsFullTablet, IsSeenUsed, sees}
-use Rattle.mako_alloc.proofs.Cases.{when_le, when_lt, when_eq, when_test}
+use Rattle.mako_step.proofs.Cases.{when_le, when_lt, when_eq, when_test}
 use Rattle.mako_alloc.proofs.Bounds.{entry_below, tablet_below}
 use Rattle.mako_alloc.proofs.Frees.{by_entry}
 use Rattle.mako_alloc.proofs.Trails.{did, Keeps}

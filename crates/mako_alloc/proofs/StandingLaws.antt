@@ -20,7 +20,7 @@ use Rattle.mako_alloc.specs.declared.progress.Part.TheVariants.{Header, Field, T
 use Rattle.mako_alloc.specs.declared.progress.Progress.{Progress}
 use Rattle.mako_alloc.specs.Allocating.{IsKnown, FitsBy, IsPartKnown, IsRecord, all_tablets, tablet_at, at, noted, outcome, passed_on, seeking, entry_fed, top_fed, part_next, part_fed, free_generation, stage_next, stage_fed, opening}
 use Rattle.mako_alloc.specs.Standings.{Standing, inside, turned_away, at_tablet, with_turn, end_standing, stage_standing, standing_of, StandsAsShown, EndsAsShown, StandsBy, arrived, holds_turn, arrives_at, leaves_from, takes_turn, gives_turn}
-use Rattle.mako_alloc.proofs.Cases.{by_eq, when_eq, when_lt, when_le, when_test}
+use Rattle.mako_step.proofs.Cases.{by_eq, when_eq, when_lt, when_le, when_test}
 use Rattle.mako_alloc.proofs.Bounds.{tablet_below}
 use Rattle.mako_alloc.proofs.Trails.{did, Keeps, Along, along}
 use Rattle.mako_alloc.proofs.Caused.{opening_known}

@@ -212,11 +212,18 @@ abbrev pub IsPartKnown : Job → Part → Type 0
 IsPartKnown job (Field i) = i < job.fields
 IsPartKnown job _ = Unit {0}
 
+-- what it comes to has numbers in their ranges
+abbrev pub IsFoundKnown : Job → Found → Type 0
+IsFoundKnown job (Made name tablet) = IsNamed job name × (tablet < all_tablets job.shape)
+IsFoundKnown job Full = Unit {0}
+IsFoundKnown job (Pause reason) = Unit {0}
+
 -- what a stage keeps is in its range
 abbrev pub IsStageKnown : Job → NewStage → Type 0
 IsStageKnown job (LoadingEntry kept place) = HasRoom job kept × (place < job.shape.entries)
 IsStageKnown job (LoadingHome kept name) = HasRoom job kept × IsNamed job name
 IsStageKnown job (Making made part) = IsRecord job made × IsPartKnown job part
+IsStageKnown job (Ended found) = IsFoundKnown job found
 IsStageKnown job _ = Unit {0}
 
 -- what is known of the progress of a job

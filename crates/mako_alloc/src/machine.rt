@@ -12,7 +12,7 @@ use std::marker::Model;
 /// Makes an object of null fields in the first tablet, from the mutator's own on, that has room and a
 /// free entry. It ends with the store of the entry, where it holds the tablet's turn, or once it has
 /// left the last tablet.
-#[derive(Drop)]
+#[derive(Clone, Copy)]
 pub struct NewMachine {
     pub(crate) job: Job,
     pub(crate) progress: Progress,
@@ -26,11 +26,13 @@ impl Model for NewMachine {
     ghost view = { λ m. record { job = m.job; progress = m.progress } };
 
     ghost invariant = { λ m. IsKnown m.job m.progress };
+
+    ghost inverse = { λ v. record { job = v.job; progress = v.progress } };
 }
 
 impl NewMachine {
     ghost use Rattle.mako_step.specs.declared.step.Step.TheVariants.{Ended};
-    ghost use Rattle.mako_alloc.specs.Allocating.{opening, next_of};
+    ghost use Rattle.mako_alloc.specs.Allocating.{opening, next_of, IsFoundKnown};
     ghost use Rattle.mako_alloc.specs.declared.progress.NewStage.TheVariants as stages;
 
     /// A `new` of this mutator for so many fields. Its object is of this cycle.
@@ -59,7 +61,8 @@ impl NewMachine {
     /// What it came to.
     pub fn result(&self) -> Found
         requires { next_of self.now ≡ Ended }
-        ensures { self.now.progress.stage ≡ stages.Ended result }
+        ensures stage { self.now.progress.stage ≡ stages.Ended result }
+        ensures found { IsFoundKnown self.now.job result }
     {
         match self.progress.stage {
             NewStage::Ended(found) => found,

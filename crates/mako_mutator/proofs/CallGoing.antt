@@ -2,7 +2,7 @@
 use Rattle.std.proofs.Common.{◌≡◌, ℕ, Bool, true, false, ◌+◌, ◌<◌, if◌then◌else◌, ap, ◌∙◌, refl, arith}
 use Rattle.mako_words.specs.Gates.{is_shut}
 use Rattle.mako_step.specs.Machines.{IsAct}
-use Rattle.mako_step.proofs.Tests.{by_eq}
+use Rattle.mako_step.proofs.Cases.{by_eq}
 use Rattle.mako_model.specs.declared.call.Call.{Call}
 use Rattle.mako_model.specs.declared.call.Call.TheVariants.{New, Num, CopyRoot, DropRoot, Get, Put, Show, Collect}
 use Rattle.mako_mutator.specs.declared.caller.Caller.{Caller}

@@ -10,7 +10,7 @@ use Rattle.mako_words.specs.declared.phase_word.PhaseWord.{PhaseWord}
 use Rattle.mako_words.specs.declared.phase_word.PhaseWord.TheVariants.{Idle, Trace, Evac, Stop}
 use Rattle.mako_shape.specs.Belongings.{IsAddress}
 use Rattle.mako_step.specs.Machines.{IsAct}
-use Rattle.mako_step.proofs.Tests.{by_lt, by_eq, by_bool}
+use Rattle.mako_step.proofs.Cases.{by_lt, by_eq, by_bool}
 use Rattle.mako_model.specs.declared.call.Call.{Call}
 use Rattle.mako_model.specs.declared.call.Call.TheVariants.{New, Num, CopyRoot, DropRoot, Get, Put, Show}
 use Rattle.mako_model.specs.declared.attempt.Attempt.TheVariants.{Answer, Pause as Paused}

@@ -7,7 +7,7 @@ use Rattle.mako_step.specs.Machines.{IsAct}
 use Rattle.mako_record.specs.declared.copier.CopyStage.{CopyStage}
 use Rattle.mako_record.specs.declared.copier.CopyStage.TheVariants.{LoadingTop, LoadingHeader, StoringHeader, LoadingField, StoringField, StoringEntry, RaisingTop, Ended}
 use Rattle.mako_record.specs.Copying.{Copying, next_of, copy_next, before_field, stage_fed, fed, StageFits, Fits, stage_rank, rank, CopyFits, StageIsKnown, IsKnown}
-use Rattle.mako_step.proofs.Tests.{by_lt}
+use Rattle.mako_step.proofs.Cases.{by_lt}
 use Rattle.mako_record.proofs.Targets.{region_address}
 
 -- a stage that is known, of a lower rank
