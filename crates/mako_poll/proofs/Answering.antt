@@ -108,6 +108,81 @@ module _ (n : Numbers) (some : 0 < n.servers) where
           let a = clean_length k h.found.0 f.0 in let b = zero_length n.servers trail all in let lt = h.known in absurd (omega arith)
       on (inr f) = absurd (f.1 (sym (ap (λ (l : List Observation). last_found 0 l) f.2 ∙ last_pushed 0 h.found.0 (read n k w)) ∙ last_zero n.servers trail some all))
 
+  -- ---- and one that found work is that of a poll that tells it
+  last_clean : (k : ℕ) (trail : List Observation) → 0 < k → FoundClean n k trail → has_work (last_found 0 trail) ≡ false
+  last_clean zero trail lt e = absurd (omega arith)
+  last_clean (suc k) trail lt e = ap has_work (ap (λ (l : List Observation). last_found 0 l) e.1.1.2 ∙ last_pushed 0 e.0 (asked n k e.1.0)) ∙ e.1.1.1
+
+  module _ (k w : ℕ) (below : k < n.servers) (trail : List Observation) where
+    abbrev InFirst : List Observation → Type 0
+    InFirst before = FoundClean n k before × (has_work w ≡ true) × (trail ≡ before ++ asked n k w ∷ [])
+
+    abbrev InSecond : List Observation → Type 0
+    InSecond before = FoundZero n k before × (w ≢ 0) × (trail ≡ before ++ read n k w ∷ [])
+
+    first_length : (before : List Observation) → InFirst before → length trail ≡ k + 1
+    first_length before f =
+        let b : length before ≡ k = clean_length k before f.0 in
+        ap (λ (l : List Observation). length l) f.2 ∙ length_push before (asked n k w) ∙ ap (λ (x : ℕ). x + 1) b
+
+    second_length : (before : List Observation) → InSecond before → length trail ≡ n.servers + k + 1
+    second_length before f =
+        let b : length before ≡ n.servers + k = zero_length k before f.0 in
+        ap (λ (l : List Observation). length l) f.2 ∙ length_push before (read n k w) ∙ ap (λ (x : ℕ). x + 1) b
+
+    first_last : (before : List Observation) → InFirst before → last_found 0 trail ≡ w
+    first_last before f = ap (λ (l : List Observation). last_found 0 l) f.2 ∙ last_pushed 0 before (asked n k w)
+
+    second_last : (before : List Observation) → InSecond before → last_found 0 trail ≡ w
+    second_last before f = ap (λ (l : List Observation). last_found 0 l) f.2 ∙ last_pushed 0 before (read n k w)
+
+    -- a trail that ends with a clean server, or with flags 0, found no work
+    not_clean : (j : ℕ) (before : List Observation) → 0 < j → FoundClean n j trail → InFirst before → ⊥
+    not_clean j before lt found f = clash (has_work w) f.1 (ap has_work (sym (first_last before f)) ∙ last_clean j trail lt found)
+      where
+        clash : (b : Bool) → b ≡ true → b ≡ false → ⊥
+        clash b t f = cc
+
+    not_zero : (j : ℕ) (before : List Observation) → 0 < j → FoundZero n j trail → InSecond before → ⊥
+    not_zero j before lt found f = f.1 (sym (second_last before f) ∙ last_zero j trail lt found)
+
+    work_from : (stage : PollStage) → Polled n stage trail → (before : List Observation) → InFirst before ⊎ InSecond before → stage ≡ Ended (NotYet k w)
+    work_from (Asking j) h before (inl f) = let a = clean_length j trail h.found in let b = first_length before f in absurd (not_clean j before (omega arith) h.found f)
+    work_from (Asking j) h before (inr f) = let a = clean_length j trail h.found in let b = second_length before f in let lt = h.known in absurd (omega arith)
+    work_from (Reading zero) h before (inl f) = absurd (not_clean n.servers before some h.found f)
+    work_from (Reading (suc j)) h before (inl f) = let a = zero_length (suc j) trail h.found in let b = first_length before f in absurd (omega arith)
+    work_from (Reading j) h before (inr f) = let a = zero_length j trail h.found in let b = second_length before f in absurd (not_zero j before (omega arith) h.found f)
+    work_from (Ended Told) h before (inl f) = let a = zero_length n.servers trail h.found in let b = first_length before f in absurd (omega arith)
+    work_from (Ended Told) h before (inr f) = absurd (not_zero n.servers before some h.found f)
+    work_from (Ended (NotYet j v)) h before f = (λ z. Ended (NotYet (same_server z) (same_word z)))
+      where
+        mine : (x : List Observation) → (FoundClean n j x × (has_work v ≡ true) × (trail ≡ x ++ asked n j v ∷ [])) ⊎ (FoundZero n j x × (v ≢ 0) × (trail ≡ x ++ read n j v ∷ []))
+            → (last_found 0 trail ≡ v) × ((length trail ≡ j + 1) ⊎ (length trail ≡ n.servers + j + 1))
+        mine x (inl g) = (
+          ap (λ (l : List Observation). last_found 0 l) g.2 ∙ last_pushed 0 x (asked n j v),
+          inl (ap (λ (l : List Observation). length l) g.2 ∙ length_push x (asked n j v) ∙ ap (λ (y : ℕ). y + 1) (clean_length j x g.0)),
+        )
+        mine x (inr g) = (
+          ap (λ (l : List Observation). last_found 0 l) g.2 ∙ last_pushed 0 x (read n j v),
+          inr (ap (λ (l : List Observation). length l) g.2 ∙ length_push x (read n j v) ∙ ap (λ (y : ℕ). y + 1) (zero_length j x g.0)),
+        )
+
+        theirs : InFirst before ⊎ InSecond before → (last_found 0 trail ≡ w) × ((length trail ≡ k + 1) ⊎ (length trail ≡ n.servers + k + 1))
+        theirs (inl g) = (first_last before g, inl (first_length before g))
+        theirs (inr g) = (second_last before g, inr (second_length before g))
+
+        same_word : v ≡ w
+        same_word = sym (mine h.found.0 h.found.1).0 ∙ (theirs f).0
+
+        same_count : (length trail ≡ j + 1) ⊎ (length trail ≡ n.servers + j + 1) → (length trail ≡ k + 1) ⊎ (length trail ≡ n.servers + k + 1) → j < n.servers → j ≡ k
+        same_count (inl a) (inl b) lt = omega arith
+        same_count (inl a) (inr b) lt = absurd (omega arith)
+        same_count (inr a) (inl b) lt = absurd (omega arith)
+        same_count (inr a) (inr b) lt = omega arith
+
+        same_server : j ≡ k
+        same_server = same_count (mine h.found.0 h.found.1).1 (theirs f).1 h.known
+
 module _ (p : PollView) (some : 0 < p.shape.servers) (start : p.stage ≡ Asking 0) where
   pub record Trailed (l : PollView) (trail : List Observation) : Type 0 where
     pub same : l ≡ record p { stage = l.stage }
@@ -127,6 +202,8 @@ pub polls_answer : PollsAnswer
 polls_answer = record {
   told = λ p l trail some start goes. let h = (trailed p some start l trail goes).polled in
       (λ e. subst (λ (x : PollStage). Evidence p.shape x trail) e h.found, λ all. told_from p.shape some l.stage trail h all);
-  not_yet = λ p l trail k w some start goes e. let h = (trailed p some start l trail goes).polled in
-      (subst (InRange p.shape) e h.known, subst (λ (x : PollStage). Evidence p.shape x trail) e h.found);
+  not_yet = λ p l trail k w some start goes. let h = (trailed p some start l trail goes).polled in (
+    λ e. (subst (InRange p.shape) e h.known, subst (λ (x : PollStage). Evidence p.shape x trail) e h.found),
+    λ f. work_from p.shape some k w f.0 trail l.stage h f.1.0 f.1.1,
+  );
 }

@@ -92,7 +92,8 @@ FoundWork n k w trail = (before : List Observation)
     × ((FoundClean n k before × (has_work w ≡ true) × (trail ≡ before ++ asked n k w ∷ [])) ⊎ (FoundZero n k before × (w ≢ 0) × (trail ≡ before ++ read n k w ∷ [])))
 
 -- What a poll that begins comes to: `Told` exactly where pass 1 found no server with busy or ghost and pass 2 found all
--- flags 0; `NotYet` with the server and the word at which a pass found otherwise.
+-- flags 0, and `NotYet` exactly where a pass found otherwise, with the server and the word.
 pub record PollsAnswer : Type 0 where
   pub told : (p l : PollView) (trail : List Observation) → 0 < p.shape.servers → p.stage ≡ Asking 0 → Goes next_of Fits fed p trail l → (l.stage ≡ Ended Told) ↔ FoundZero p.shape p.shape.servers trail
-  pub not_yet : (p l : PollView) (trail : List Observation) (k w : ℕ) → 0 < p.shape.servers → p.stage ≡ Asking 0 → Goes next_of Fits fed p trail l → l.stage ≡ Ended (NotYet k w) → (k < p.shape.servers) × FoundWork p.shape k w trail
+  pub not_yet : (p l : PollView) (trail : List Observation) (k w : ℕ) → 0 < p.shape.servers → p.stage ≡ Asking 0 → Goes next_of Fits fed p trail l
+      → (l.stage ≡ Ended (NotYet k w)) ↔ ((k < p.shape.servers) × FoundWork p.shape k w trail)
