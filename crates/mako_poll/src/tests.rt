@@ -7,6 +7,7 @@ ghost use Rattle.mako_poll.specs.Polls.{Fits};
 use crate::{Polled, Poller};
 use mako_shape::{Numbers, Shape};
 use mako_step::{Act, FlatWords, Machine, Op, Step, Words, make_step};
+use mako_words::FlagWord;
 use std::test::Fail;
 
 const NUMBERS: Numbers = Numbers {
@@ -24,6 +25,13 @@ const NUMBERS: Numbers = Numbers {
 
 /// The words of all areas.
 const COUNT: u32 = 141;
+
+/// The flags of servers 0 and 1, and the slot of the ring from server 1 to server 0.
+const FLAGS_OF_0: u32 = 6;
+
+const FLAGS_OF_1: u32 = 7;
+
+const FROM_1_TO_0: u32 = 15;
 
 /// Whether the poll can go on with this operation on a word that is `before`.
 fn can_go_on(poller: &Poller, op: Op, before: u64) -> bool
@@ -101,6 +109,51 @@ fn pass_2_finds_a_server_that_was_given_work(rt: HostRuntime) -> Result<(), Fail
     assert_eq!(rt;
         answer(&poller),
         Some(Polled::NotYet { server: 2, word: 5 })
+    );
+    Ok(())
+}
+
+/// Between two questions of pass 1, server 1 sends its last name to server 0 and comes to rest: each
+/// server is clean when it is asked, and server 0 has the name in hand. Pass 2 finds that.
+#[test]
+fn one_pass_is_fooled(rt: HostRuntime) -> Result<(), Fail> {
+    let mut words = FlatWords::zeros(rt.alloc(), COUNT)?;
+    let mut poller = Poller::new(Shape::new(NUMBERS)?);
+    words.act(Act {
+        word: FLAGS_OF_1,
+        op: Op::Or(FlagWord::BUSY),
+    });
+    assert_eq!(rt; run(&mut words, &mut poller, 1), 1);
+    words.act(Act {
+        word: FLAGS_OF_1,
+        op: Op::Or(FlagWord::GHOST + FlagWord::CHANGED),
+    });
+    words.act(Act {
+        word: FROM_1_TO_0,
+        op: Op::Store(77),
+    });
+    words.act(Act {
+        word: FLAGS_OF_0,
+        op: Op::Or(FlagWord::BUSY + FlagWord::CHANGED),
+    });
+    words.act(Act {
+        word: FROM_1_TO_0,
+        op: Op::Store(0),
+    });
+    words.act(Act {
+        word: FLAGS_OF_1,
+        op: Op::And(!FlagWord::BUSY),
+    });
+    words.act(Act {
+        word: FLAGS_OF_1,
+        op: Op::And(!FlagWord::GHOST),
+    });
+    assert_eq!(rt; run(&mut words, &mut poller, 2), 2);
+    assert_eq!(rt; answer(&poller), None, "pass 1 found all servers clean");
+    assert_eq!(rt; run(&mut words, &mut poller, 9), 1);
+    assert_eq!(rt;
+        answer(&poller),
+        Some(Polled::NotYet { server: 0, word: 5 })
     );
     Ok(())
 }
