@@ -9,6 +9,7 @@ use Rattle.mako_step.specs.Trails.{Observation, Goes}
 use Rattle.mako_step.specs.declared.act.Op.TheVariants.{Load, And}
 use Rattle.mako_step.specs.declared.step.Step.{Step}
 use Rattle.mako_step.specs.declared.step.Step.TheVariants.{Ended as NoStep}
+use Rattle.mako_ring.specs.FlagBits.{changed_bit}
 use Rattle.mako_poll.specs.declared.poller.Polled.TheVariants.{Told, NotYet}
 use Rattle.mako_poll.specs.declared.poller.PollStage.{PollStage}
 use Rattle.mako_poll.specs.declared.poller.PollStage.TheVariants.{Asking, Reading, Ended}
@@ -19,7 +20,7 @@ pub record PollView : Type 0 where
   pub stage : PollStage
 
 abbrev pub stage_next : Numbers → PollStage → Step
-stage_next n (Asking server) = does (index n (flags server)) (And (all_but 4))
+stage_next n (Asking server) = does (index n (flags server)) (And (all_but changed_bit))
 stage_next n (Reading server) = does (index n (flags server)) Load
 stage_next n (Ended polled) = NoStep
 
@@ -71,7 +72,7 @@ IsKnown n (Ended polled) = Unit {0}
 -- ---- its answers
 -- an act of pass 1 and one of pass 2, with the word found
 abbrev pub asked : Numbers → ℕ → ℕ → Observation
-asked n server w = record { act = record { word = index n (flags server); op = And (all_but 4) }; found = w }
+asked n server w = record { act = record { word = index n (flags server); op = And (all_but changed_bit) }; found = w }
 
 abbrev pub read : Numbers → ℕ → ℕ → Observation
 read n server w = record { act = record { word = index n (flags server); op = Load }; found = w }

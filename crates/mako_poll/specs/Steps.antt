@@ -3,6 +3,7 @@ use Rattle.std.specs.Prelude.{ℕ, true, false, ◌≡◌, ◌≢◌, ◌+◌, �
 use Rattle.mako_words.specs.Words.{all_but}
 use Rattle.mako_shape.specs.declared.numbers.Numbers.{Numbers}
 use Rattle.mako_shape.specs.Places.{Place, flags, work, ghost, Within}
+use Rattle.mako_ring.specs.FlagBits.{busy_bit, ghost_bit, changed_bit, sending_bits, taking_bits}
 use Rattle.mako_ring.specs.Contents.{after_place}
 use Rattle.mako_ring.specs.Windows.{tail_up, head_up, found_room}
 use Rattle.mako_ring.specs.declared.window.Window.{Window}
@@ -62,7 +63,7 @@ pub data ServerStep (n : Numbers) (word after : Place → ℕ) (i : ℕ) (f g : 
   FindsRoom : (r : ℕ) → Untouched n word after → r < n.servers → r ≢ i → f.working ≡ true → word (ghost i r ((f.window r).head % n.ring)) ≡ 0
       → SetsWindow n f g r (found_room n.ring (f.window r)) → g.doing ≡ sending r → g.working ≡ true → ServerStep n word after i f g
   -- it raises ghost and changed
-  RaisesGhost : (r : ℕ) → Wrote n word after (flags i) (bit_or (word (flags i)) 6) → f.doing ≡ sending r → g ≡ record f { doing = storing r } → ServerStep n word after i f g
+  RaisesGhost : (r : ℕ) → Wrote n word after (flags i) (bit_or (word (flags i)) sending_bits) → f.doing ≡ sending r → g ≡ record f { doing = storing r } → ServerStep n word after i f g
   -- it stores the name
   Stores : (r x : ℕ) → Wrote n word after (ghost i r ((f.window r).head % n.ring)) x → x ≢ 0 → f.doing ≡ storing r
       → SetsWindow n f g r (head_up (f.window r)) → g.doing ≡ resting → (f.working ≡ false → g.working ≡ false) → ServerStep n word after i f g
@@ -70,19 +71,19 @@ pub data ServerStep (n : Numbers) (word after : Place → ℕ) (i : ℕ) (f g : 
   FindsName : (source : Source) (w : ℕ) → Untouched n word after → IsSource n i source → word (incoming i f source) ≡ w → w ≢ 0
       → g ≡ record f { doing = taking source w } → ServerStep n word after i f g
   -- it raises busy and changed
-  RaisesBusy : (source : Source) (w : ℕ) → Wrote n word after (flags i) (bit_or (word (flags i)) 5) → f.doing ≡ taking source w
+  RaisesBusy : (source : Source) (w : ℕ) → Wrote n word after (flags i) (bit_or (word (flags i)) taking_bits) → f.doing ≡ taking source w
       → g ≡ record f { doing = clearing source w } → ServerStep n word after i f g
   -- it empties the slot, and has the name in hand
   Clears : (source : Source) (w : ℕ) → Wrote n word after (incoming i f source) 0 → f.doing ≡ clearing source w
       → Advances n f g source → g.doing ≡ resting → ServerStep n word after i f g
   -- with nothing left to do it lowers busy
-  LowersBusy : Wrote n word after (flags i) (bit_and (word (flags i)) (all_but 1)) → f.working ≡ false → f.doing ≡ resting → g ≡ f → ServerStep n word after i f g
+  LowersBusy : Wrote n word after (flags i) (bit_and (word (flags i)) (all_but busy_bit)) → f.working ≡ false → f.doing ≡ resting → g ≡ f → ServerStep n word after i f g
   -- it sees a slot emptied
   SeesEmptied : (r : ℕ) → Untouched n word after → r < n.servers → r ≢ i → (f.window r).tail < (f.window r).head
       → word (ghost i r ((f.window r).tail % n.ring)) ≡ 0 → SetsWindow n f g r (tail_up n.ring (f.window r)) → g.doing ≡ resting
       → (f.working ≡ false → g.working ≡ false) → ServerStep n word after i f g
   -- with no window open it lowers ghost
-  LowersGhost : Wrote n word after (flags i) (bit_and (word (flags i)) (all_but 2)) → ((r : ℕ) → r < n.servers → r ≢ i → (f.window r).head ≤ (f.window r).tail)
+  LowersGhost : Wrote n word after (flags i) (bit_and (word (flags i)) (all_but ghost_bit)) → ((r : ℕ) → r < n.servers → r ≢ i → (f.window r).head ≤ (f.window r).tail)
       → f.doing ≡ resting → g ≡ f → ServerStep n word after i f g
 
 -- the collector's windows stay
@@ -111,9 +112,9 @@ pub data CollectorStep (n : Numbers) (word after : Place → ℕ) (c d : Collect
   -- with nothing pending and all windows empty it begins a poll
   BeginsPoll : Untouched n word after → NothingSent n d → SameWindows n c d → d.poll ≡ polling 0 → CollectorStep n word after c d
   -- it ands changed away from the flags of a server, and found busy or ghost
-  FindsWork : (k : ℕ) → k < n.servers → Wrote n word after (flags k) (bit_and (word (flags k)) (all_but 4)) → SameWindows n c d → d.poll ≡ elsewhere → CollectorStep n word after c d
+  FindsWork : (k : ℕ) → k < n.servers → Wrote n word after (flags k) (bit_and (word (flags k)) (all_but changed_bit)) → SameWindows n c d → d.poll ≡ elsewhere → CollectorStep n word after c d
   -- or found neither
-  FindsClean : (k : ℕ) → k < n.servers → Wrote n word after (flags k) (bit_and (word (flags k)) (all_but 4)) → c.poll ≡ polling k
+  FindsClean : (k : ℕ) → k < n.servers → Wrote n word after (flags k) (bit_and (word (flags k)) (all_but changed_bit)) → c.poll ≡ polling k
       → (flags_of word k).busy ≡ false → (flags_of word k).ghost_ ≡ false → d ≡ record c { poll = polling (k + 1) } → CollectorStep n word after c d
   -- with all found clean it goes on to pass 2
   TurnsToRead : Untouched n word after → c.poll ≡ polling n.servers → d ≡ record c { poll = reading 0 } → CollectorStep n word after c d

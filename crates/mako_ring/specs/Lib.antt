@@ -1,6 +1,7 @@
 pub mod Contents
 pub mod Examples
 pub mod Facets
+pub mod FlagBits
 pub mod Polling
 pub mod Puts
 pub mod RingWords

@@ -13,6 +13,7 @@ use Rattle.mako_ring.specs.declared.put.PutStage.TheVariants.{Looking, Raising, 
 use Rattle.mako_ring.specs.declared.ring.Ring.{Ring}
 use Rattle.mako_ring.specs.declared.ring.Ring.TheVariants.{Barrier, Work, Ghost, Notice}
 use Rattle.mako_ring.specs.declared.window.Window.{Window}
+use Rattle.mako_ring.specs.FlagBits.{sending_bits}
 use Rattle.mako_ring.specs.Rings.{slot_place, IsRing}
 use Rattle.mako_ring.specs.Windows.{IsWindow, put_up}
 
@@ -30,7 +31,7 @@ head_slot p = index p.shape (slot_place p.ring (p.window.head % p.shape.ring))
 
 abbrev pub stage_next : PutView → PutStage → Step
 stage_next p Looking = does (head_slot p) Load
-stage_next p (Raising server) = does (index p.shape (flags server)) (Or 6)
+stage_next p (Raising server) = does (index p.shape (flags server)) (Or sending_bits)
 stage_next p Storing = does (head_slot p) (Store p.word)
 stage_next p (Ended putting) = NoStep
 

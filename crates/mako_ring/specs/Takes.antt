@@ -12,6 +12,7 @@ use Rattle.mako_ring.specs.declared.take.TakeStage.{TakeStage}
 use Rattle.mako_ring.specs.declared.take.TakeStage.TheVariants.{Looking, Raising, Clearing, Ended}
 use Rattle.mako_ring.specs.declared.ring.Ring.{Ring}
 use Rattle.mako_ring.specs.declared.ring.Ring.TheVariants.{Barrier, Work, Ghost, Notice}
+use Rattle.mako_ring.specs.FlagBits.{taking_bits}
 use Rattle.mako_ring.specs.Rings.{slot_place, IsRing}
 
 -- the geometry, the ring, its taker's position, and the stage
@@ -27,7 +28,7 @@ own_slot t = index t.shape (slot_place t.ring t.at)
 
 abbrev pub stage_next : TakeView → TakeStage → Step
 stage_next t Looking = does (own_slot t) Load
-stage_next t (Raising server word) = does (index t.shape (flags server)) (Or 5)
+stage_next t (Raising server word) = does (index t.shape (flags server)) (Or taking_bits)
 stage_next t (Clearing word) = does (own_slot t) (Store 0)
 stage_next t (Ended taking) = NoStep
 

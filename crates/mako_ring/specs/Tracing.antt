@@ -17,6 +17,7 @@ use Rattle.mako_step.specs.Acts.{does}
 use Rattle.mako_step.specs.declared.act.Op.TheVariants.{Load, Store, Or, And}
 use Rattle.mako_step.specs.declared.step.Step.{Step}
 use Rattle.mako_step.specs.declared.step.Step.TheVariants.{Ended as NoStep}
+use Rattle.mako_ring.specs.FlagBits.{busy_bit, ghost_bit, sending_bits, taking_bits}
 use Rattle.mako_ring.specs.Contents.{after_place}
 use Rattle.mako_ring.specs.Windows.{tail_up, head_up, found_room}
 use Rattle.mako_ring.specs.declared.window.Window.{Window}
@@ -91,7 +92,7 @@ live_of t x = slice_index t.lives (own_tablet t.shape x.entry)
 -- ---- what it does next
 abbrev pub send_next : TracerView → SendStage → Step
 send_next t (HeadLook x) = does (index t.shape (head_slot t x)) Load
-send_next t (GhostRaise x) = does (index t.shape (flags t.server)) (Or 6)
+send_next t (GhostRaise x) = does (index t.shape (flags t.server)) (Or sending_bits)
 send_next t (HeadStore x) = does (index t.shape (head_slot t x)) (Store (name_word x))
 
 abbrev pub scan_next : TracerView → ScanStage → Step
@@ -101,7 +102,7 @@ scan_next t (HeaderLoad x address) = does address Load
 
 abbrev pub receive_next : TracerView → ReceiveStage → Step
 receive_next t (SlotLook source) = does (index t.shape (slot_of t source)) Load
-receive_next t (BusyRaise source x) = does (index t.shape (flags t.server)) (Or 5)
+receive_next t (BusyRaise source x) = does (index t.shape (flags t.server)) (Or taking_bits)
 receive_next t (SlotClear source x) = does (index t.shape (slot_of t source)) (Store 0)
 
 abbrev pub mark_next : TracerView → MarkStage → Step
@@ -112,9 +113,9 @@ mark_next t (Counting x fields) =
     does (index t.shape (live (tablet_of_entry t.shape x.entry))) (Store (live_word (record { cycle = t.cycle; words = live_of t x + (fields + 1) })))
 
 abbrev pub rest_next : TracerView → RestStage → Step
-rest_next t BusyLower = does (index t.shape (flags t.server)) (And (all_but 1))
+rest_next t BusyLower = does (index t.shape (flags t.server)) (And (all_but busy_bit))
 rest_next t (TailLook r) = does (index t.shape (ghost t.server r ((window_of t r).tail % t.shape.ring))) Load
-rest_next t GhostLower = does (index t.shape (flags t.server)) (And (all_but 2))
+rest_next t GhostLower = does (index t.shape (flags t.server)) (And (all_but ghost_bit))
 
 abbrev pub stage_next : TracerView → TraceStage → Step
 stage_next t (Sending stage) = send_next t stage
