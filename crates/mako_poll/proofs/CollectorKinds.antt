@@ -15,7 +15,7 @@ use Rattle.mako_ring.specs.Rings.{slots_of}
 use Rattle.mako_ring.specs.declared.ring.Ring.TheVariants.{Work, Ghost}
 use Rattle.mako_ring.specs.declared.tracing.Source.{Source}
 use Rattle.mako_ring.specs.declared.tracing.Source.TheVariants.{Collector, Server}
-use Rattle.mako_ring.specs.Polling.{FlagsStand, MayPut, MayTake, DoingStands, GhostStands, WorkStands, SceneIsQuiet, NothingSent, StaysClean, NoChange, PollStands, PollingStands}
+use Rattle.mako_ring.specs.Polling.{FlagsStand, MayPut, MayTake, DoingStands, GhostStands, WorkStands, IsQuietScene, NothingSent, StaysClean, NoChange, PollStands, PollingStands}
 use Rattle.mako_poll.specs.Steps.{Untouched, Wrote, Collects, SameWindows, SetsWork, CollectorStep, Waits, Leaves, FindsWorkRoom, Forwards, SeesWorkEmptied, BeginsPoll, FindsWork, FindsClean, TurnsToRead, ReadsZero}
 use Rattle.mako_ring.proofs.Turns.{place_below}
 use Rattle.mako_ring.proofs.RingLaws.{ring_same, ring_empty, ring_tail, ring_room, ring_put}
@@ -117,7 +117,7 @@ module _ (n : Numbers) (s after : Scene) (d : Collecting) (h : PollingStands n s
     works_moved : (r : ℕ) (w : Window) → r < n.servers → SetsWork n c d r w → RingStands n.ring (slots_of s.word (Work r)) (s.server r).work_at w → (q : ℕ) → q < n.servers → WorkStands n after.word q d (s.server q)
     works_moved r w lr set ring = work_set r w set (ring_same n.ring (slots_of s.word (Work r)) (s.server r).work_at w ring (slots_of after.word (Work r)) (slots_alone r lr)) (λ q lq o. slots_alone q lq)
 
-    quiet_alone : d.pending ≡ c.pending → SceneIsQuiet n s → SceneIsQuiet n (record after { collector = d })
+    quiet_alone : d.pending ≡ c.pending → IsQuietScene n s → IsQuietScene n (record after { collector = d })
     quiet_alone e q = record {
       servers = λ j lt. ap (λ (f : Serving). f.working) (turn.servers j lt) ∙ q.servers j lt;
       works = λ r k lr lk. slots_alone r lr k lk ∙ q.works r k lr lk;
@@ -145,7 +145,7 @@ module _ (n : Numbers) (s after : Scene) (d : Collecting) (h : PollingStands n s
     begins none same is = collects_hold spares_alone (works_alone same) (subst (λ (p : Poll). PollStands n (record after { collector = d }) p) (sym is) (none, λ j lt below. absurd (omega arith)))
 
     -- with all found clean, no change says quiet
-    clean_is_quiet : NothingSent n c → ((j : ℕ) → j < n.servers → StaysClean s.word j) → NoChange n s.word 0 → SceneIsQuiet n s
+    clean_is_quiet : NothingSent n c → ((j : ℕ) → j < n.servers → StaysClean s.word j) → NoChange n s.word 0 → IsQuietScene n s
     clean_is_quiet none clean calm = record {
       servers = λ j lt. ((h.flags j lt).busy (clean j lt (calm j (omega arith) lt)).0).0;
       works = λ r k lr lk. ring_empty n.ring (slots_of s.word (Work r)) (s.server r).work_at (c.window r) (h.works r lr) (none.windows r lr) k lk;
@@ -196,7 +196,7 @@ module _ (n : Numbers) (s after : Scene) (d : Collecting) (h : PollingStands n s
         collects_hold spares_alone (works_alone (windows_kept (reading 0) is))
         (poll_is (reading 0) is (nothing_kept (reading 0) is old.0, λ none. moved is (clean_is_quiet old.0 (λ j lt. old.1 j lt lt) (calm_before 0 none))))
       where
-        moved : d ≡ record c { poll = reading 0 } → SceneIsQuiet n s → SceneIsQuiet n (record after { collector = record c { poll = reading 0 } })
+        moved : d ≡ record c { poll = reading 0 } → IsQuietScene n s → IsQuietScene n (record after { collector = record c { poll = reading 0 } })
         moved is q = let x = quiet_alone (ap (λ (x : Collecting). x.pending) is) q in record { servers = x.servers; works = x.works; ghosts = x.ghosts; pending = q.pending }
 
     reads_zero : (k : ℕ) → c.poll ≡ reading k → s.word (flags k) ≡ 0 → d ≡ record c { poll = reading (k + 1) } → PollingStands n after
@@ -211,7 +211,7 @@ module _ (n : Numbers) (s after : Scene) (d : Collecting) (h : PollingStands n s
           | inr o ↦ none j (grind (arith)) lt
         ]
 
-        moved : d ≡ record c { poll = reading (k + 1) } → SceneIsQuiet n s → SceneIsQuiet n (record after { collector = record c { poll = reading (k + 1) } })
+        moved : d ≡ record c { poll = reading (k + 1) } → IsQuietScene n s → IsQuietScene n (record after { collector = record c { poll = reading (k + 1) } })
         moved is q = let x = quiet_alone (ap (λ (x : Collecting). x.pending) is) q in record { servers = x.servers; works = x.works; ghosts = x.ghosts; pending = q.pending }
 
   -- ---- a put

@@ -10,3 +10,4 @@ pub mod Stages
 pub mod Asking
 pub mod Worlds
 pub mod Answering
+pub mod Opening

@@ -14,7 +14,7 @@ use Rattle.mako_ring.specs.Rings.{slots_of}
 use Rattle.mako_ring.specs.declared.ring.Ring.TheVariants.{Work, Ghost}
 use Rattle.mako_ring.specs.declared.tracing.Source.{Source}
 use Rattle.mako_ring.specs.declared.tracing.Source.TheVariants.{Collector, Server}
-use Rattle.mako_ring.specs.Polling.{FlagsStand, MayPut, MayTake, DoingStands, GhostStands, WorkStands, SceneIsQuiet, PollingStands}
+use Rattle.mako_ring.specs.Polling.{FlagsStand, MayPut, MayTake, DoingStands, GhostStands, WorkStands, IsQuietScene, PollingStands}
 use Rattle.mako_poll.specs.Steps.{Untouched, Wrote, Turns, SameRings, SetsWindow, Advances, ServerStep, Works, FindsRoom, RaisesGhost, Stores, FindsName, RaisesBusy, Clears, LowersBusy, SeesEmptied, LowersGhost}
 use Rattle.mako_ring.proofs.Turns.{place_below}
 use Rattle.mako_ring.proofs.RingLaws.{ring_same, ring_empty, ring_tail, ring_room, ring_put, ring_take}
@@ -114,7 +114,7 @@ module _ (n : Numbers) (s after : Scene) (i : ℕ) (g : Serving) (h : PollingSta
     flags_idle none not_clearing not_storing = flags_from (flags_of s.word i) flags_alone changes_alone (λ c. (none (old.busy c).0, not_clearing))
         (λ c. (not_storing, λ r k lr lk. sent_alone r k lr lk ((old.sent c).1 r k lr lk)))
 
-    quiet_alone : (f.working ≡ false → g.working ≡ false) → SceneIsQuiet n s → (g.working ≡ false) × ((r k : ℕ) → r < n.servers → k < n.ring → after.word (ghost i r k) ≡ 0)
+    quiet_alone : (f.working ≡ false → g.working ≡ false) → IsQuietScene n s → (g.working ≡ false) × ((r k : ℕ) → r < n.servers → k < n.ring → after.word (ghost i r k) ≡ 0)
     quiet_alone none q = (none (q.servers i turn.in_range), λ r k lr lk. sent_alone r k lr lk (q.ghosts i r k turn.in_range lr lk))
 
     shows_works : SameRings n f g → g.doing ≡ resting → (f.working ≡ false → g.working ≡ false) → Shows n s after i g
@@ -398,5 +398,5 @@ module _ (n : Numbers) (s after : Scene) (i : ℕ) (g : Serving) (h : PollingSta
   pub server_holds : ServerStep n s.word after.word i f g → PollingStands n after
   server_holds step = let b = both step in serves_hold n s after i g h turn b.changes b.shows
 
-  pub server_quiet : ServerStep n s.word after.word i f g → SceneIsQuiet n s → SceneIsQuiet n after
+  pub server_quiet : ServerStep n s.word after.word i f g → IsQuietScene n s → IsQuietScene n after
   server_quiet step q = let b = both step in quiet_after n s after i g h turn b.changes b.shows q

@@ -9,7 +9,7 @@ use Rattle.mako_ring.specs.Rings.{slots_of}
 use Rattle.mako_ring.specs.declared.ring.Ring.TheVariants.{Work, Ghost}
 use Rattle.mako_ring.specs.declared.tracing.Source.{Source}
 use Rattle.mako_ring.specs.declared.tracing.Source.TheVariants.{Collector, Server}
-use Rattle.mako_ring.specs.Polling.{FlagsStand, MayPut, MayTake, DoingStands, GhostStands, WorkStands, SceneIsQuiet, StaysClean, PollStands, PollingStands}
+use Rattle.mako_ring.specs.Polling.{FlagsStand, MayPut, MayTake, DoingStands, GhostStands, WorkStands, IsQuietScene, StaysClean, PollStands, PollingStands}
 use Rattle.mako_poll.specs.Steps.{Turns}
 use Rattle.mako_ring.proofs.Turns.{place_below}
 use Rattle.mako_ring.proofs.RingLaws.{ring_same}
@@ -26,7 +26,7 @@ pub record Shows (n : Numbers) (s after : Scene) (i : ℕ) (g : Serving) : Type 
   pub calm : (flags_of after.word i).changed ≡ false → ((flags_of s.word i).changed ≡ false)
       × ((flags_of s.word i).busy ≡ false → (flags_of after.word i).busy ≡ false) × ((flags_of s.word i).ghost_ ≡ false → (flags_of after.word i).ghost_ ≡ false)
   -- out of a quiet heap it gets nothing
-  pub quiet : SceneIsQuiet n s → (g.working ≡ false) × ((r k : ℕ) → r < n.servers → k < n.ring → after.word (ghost i r k) ≡ 0)
+  pub quiet : IsQuietScene n s → (g.working ≡ false) × ((r k : ℕ) → r < n.servers → k < n.ring → after.word (ghost i r k) ≡ 0)
 
 module _ (n : Numbers) (s after : Scene) (i : ℕ) (g : Serving) (h : PollingStands n s) (turn : Turns n s after i g) (ch : Changes n s.word after.word i) where
   -- a ring has slots
@@ -98,7 +98,7 @@ module _ (n : Numbers) (s after : Scene) (i : ℕ) (g : Serving) (h : PollingSta
     works_after r lr = each (λ r f. WorkStands n after.word r s.collector f) shows.works
         (λ r lr d. ring_same n.ring (slots_of s.word (Work r)) (s.server r).work_at (s.collector.window r) (h.works r lr) (slots_of after.word (Work r)) (λ k lk. ch.works_other r k lr d lk)) r lr
 
-    pub quiet_after : SceneIsQuiet n s → SceneIsQuiet n after
+    pub quiet_after : IsQuietScene n s → IsQuietScene n after
     quiet_after q = record {
       servers = each (λ j f. f.working ≡ false) (shows.quiet q).0 (λ j lt d. q.servers j lt);
       works = λ r k lr lk. ch.works_zero r k lr lk (q.works r k lr lk);

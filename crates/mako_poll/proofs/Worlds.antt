@@ -7,7 +7,7 @@ use Rattle.mako_shape.specs.Places.{Within, total, word_at}
 use Rattle.mako_step.specs.Acts.{words_stepped, finds}
 use Rattle.mako_step.specs.Machines.{IsAct}
 use Rattle.mako_ring.specs.Facets.{IsSource}
-use Rattle.mako_ring.specs.Polling.{PollingStands, SceneIsQuiet}
+use Rattle.mako_ring.specs.Polling.{PollingStands, IsQuietScene}
 use Rattle.mako_ring.specs.TraceFacets.{Hand, empty, considering, marking, pushing, Off, nothing, popped, located, Work, TraceFacet, apart, looking, storing, expecting, swapping, serving, collecting, has_hand, has_off, is_filled, is_working, IsIdle}
 use Rattle.mako_ring.specs.TracerFacets.{work_of, serving_of}
 use Rattle.mako_ring.specs.TracerFacts.{TracerStands}
@@ -223,7 +223,7 @@ idle_work w e =
     let d = or_parts (is_some w.scan) (is_filled w.stack) c.1 in
     (no_hand w.hand a.0, no_option w.outgoing c.0, no_items w.stack d.1, no_off w.off b.0, no_option w.scan d.0)
 
-idle : (n : Numbers) (v : World) (q : SceneIsQuiet n (scene_of n v)) (f : TraceFacet) → IsFacetOf n v f → IsIdle f
+idle : (n : Numbers) (v : World) (q : IsQuietScene n (scene_of n v)) (f : TraceFacet) → IsFacetOf n v f → IsIdle f
 idle n v q (serving w) of = subst (λ (x : Work). IsIdle (serving x)) (sym of.1.1) (idle_work (work_of (v.server of.0)) (q.servers of.0 of.1.0))
 idle n v q (collecting names) of = of ∙ no_items v.collector.pending q.pending
 idle n v q apart of = tt
@@ -235,7 +235,7 @@ idle n v q (swapping x) of = tt
 pub told_implies_quiet : ToldImpliesQuiet
 told_implies_quiet n v steps facets stands chain is of =
     let u : World = end_by v steps in
-    let q : SceneIsQuiet n (scene_of n u) = scenes.told_is_quiet n (scene_of n u) n.servers (worlds_stand n v steps stands chain).polling (ap (poll_of n) is) (omega arith) in
+    let q : IsQuietScene n (scene_of n u) = scenes.told_is_quiet n (scene_of n u) n.servers (worlds_stand n v steps stands chain).polling (ap (poll_of n) is) (omega arith) in
     record {
       works = λ r k within. q.works r k within.0 within.1;
       ghosts = λ a b k within. q.ghosts a b k within.0 within.1 within.2;

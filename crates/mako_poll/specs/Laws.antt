@@ -3,7 +3,7 @@ use Rattle.std.specs.Prelude.{ℕ, true, false, ◌≡◌, ◌<◌, ◌≤◌, �
 use Rattle.mako_shape.specs.declared.numbers.Numbers.{Numbers}
 use Rattle.mako_shape.specs.Places.{Place, Within, index, total, word_at}
 use Rattle.mako_ring.specs.Facets.{Serving, elsewhere, reading, Scene, resting, flags_of, IsPolled}
-use Rattle.mako_ring.specs.Polling.{PollingHolds, SceneIsQuiet, PollingStands}
+use Rattle.mako_ring.specs.Polling.{PollingHolds, IsQuietScene, PollingStands}
 use Rattle.mako_poll.specs.Steps.{Wrote, Turns, ServerStep, PollStep, Chain, end_by}
 
 -- the opening state: words of rings and flags, positions and counts are 0, and nobody has anything
@@ -26,16 +26,16 @@ ChainsHold = (n : Numbers) (s : Scene) (steps : List Scene) → PollingStands n 
 
 -- completion is told only where the heap is quiet
 abbrev pub ToldIsQuiet : Type 0
-ToldIsQuiet = (n : Numbers) (s : Scene) (k : ℕ) → PollingStands n s → s.collector.poll ≡ reading k → n.servers ≤ k → SceneIsQuiet n s
+ToldIsQuiet = (n : Numbers) (s : Scene) (k : ℕ) → PollingStands n s → s.collector.poll ≡ reading k → n.servers ≤ k → IsQuietScene n s
 
 -- in pass 2 the heap is quiet, or a server that is still to be read shows a change
 abbrev pub UnrestShows : Type 0
 UnrestShows = (n : Numbers) (s : Scene) (k : ℕ) → PollingStands n s → s.collector.poll ≡ reading k
-    → SceneIsQuiet n s ⊎ ((j : ℕ) × ((k ≤ j) × (j < n.servers) × ((flags_of s.word j).changed ≡ true)))
+    → IsQuietScene n s ⊎ ((j : ℕ) × ((k ≤ j) × (j < n.servers) × ((flags_of s.word j).changed ≡ true)))
 
 -- quiet is kept by each step of a server
 abbrev pub QuietStays : Type 0
-QuietStays = (n : Numbers) (s after : Scene) (i : ℕ) (f g : Serving) → PollingStands n s → s.server i ≡ f → Turns n s after i g → ServerStep n s.word after.word i f g → SceneIsQuiet n s → SceneIsQuiet n after
+QuietStays = (n : Numbers) (s after : Scene) (i : ℕ) (f g : Serving) → PollingStands n s → s.server i ≡ f → Turns n s after i g → ServerStep n s.word after.word i f g → IsQuietScene n s → IsQuietScene n after
 
 -- what is kept says the polling invariant in words
 abbrev pub StandsSaysHolds : Type 0

@@ -144,3 +144,8 @@ AreFacetsOf n v facets = (seat : ℕ) (facet : TraceFacet) → slice_get facets 
 abbrev pub ToldImpliesQuiet : Type 0
 ToldImpliesQuiet = (n : Numbers) (v : World) (steps : List World) (facets : List TraceFacet) → WorldStands n v → WorldSteps n v steps
     → (end_by v steps).collector.stage ≡ polls (Ended Told) → AreFacetsOf n (end_by v steps) facets → IsQuiet n (end_by v steps).words facets
+
+-- the premises can be met: with one server, a poll that begins in the opening state is told
+abbrev pub OpeningIsTold : Type 0
+OpeningIsTold = (n : Numbers) (v : World) → n.servers ≡ 1 → IsOpeningWorld n v → v.collector.pending ≡ []
+    → (steps : List World) × (WorldSteps n v steps × ((end_by v steps).collector.stage ≡ polls (Ended Told)))

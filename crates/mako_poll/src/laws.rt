@@ -5,7 +5,7 @@
 
 ghost use Rattle.mako_poll.specs.Laws.{ChainsHold, OpeningHolds, QuietStays, StandsSaysHolds, StepsHold, ToldIsQuiet, UnrestShows, WritesAreOne};
 ghost use Rattle.mako_poll.specs.Polls.{PollsAnswer};
-ghost use Rattle.mako_poll.specs.Worlds.{OpeningStands, ToldImpliesQuiet, WorldsStand};
+ghost use Rattle.mako_poll.specs.Worlds.{OpeningIsTold, OpeningStands, ToldImpliesQuiet, WorldsStand};
 
 /// The polling invariant with its further facts holds in the opening state, of scenes and of worlds.
 pub fn opening()
@@ -25,6 +25,11 @@ pub fn steps()
 /// servers and the collector, has found the heap quiet.
 pub fn told()
     ensures { ToldImpliesQuiet }
+{}
+
+/// Polls are told: with one server, one that begins in the opening state is.
+pub fn tells()
+    ensures { OpeningIsTold }
 {}
 
 /// What a poll knows on the way. Of the servers that pass 1 found clean, each shows a change or still

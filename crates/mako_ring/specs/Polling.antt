@@ -49,7 +49,7 @@ abbrev pub WorkStands : Numbers → (Place → ℕ) → ℕ → Collecting → S
 WorkStands n word s c receiver = RingStands n.ring (slots_of word (Work s)) receiver.work_at (c.window s)
 
 -- no work or ghost slot, pending list, hand, outgoing name, stack or scan holds anything
-pub record SceneIsQuiet (n : Numbers) (s : Scene) : Type 0 where
+pub record IsQuietScene (n : Numbers) (s : Scene) : Type 0 where
   pub servers : (j : ℕ) → j < n.servers → (s.server j).working ≡ false
   pub works : (r k : ℕ) → r < n.servers → k < n.ring → s.word (work r k) ≡ 0
   pub ghosts : (a b k : ℕ) → a < n.servers → b < n.servers → k < n.ring → s.word (ghost a b k) ≡ 0
@@ -73,7 +73,7 @@ abbrev pub PollStands : Numbers → Scene → Poll → Type 0
 PollStands n s elsewhere = Unit {0}
 PollStands n s (forwarding r) = (r < n.servers) × (s.word (work r ((s.collector.window r).head % n.ring)) ≡ 0) × ((s.collector.window r).head < (s.collector.window r).tail + n.ring)
 PollStands n s (polling k) = NothingSent n s.collector × ((j : ℕ) → j < n.servers → j < k → StaysClean s.word j)
-PollStands n s (reading k) = NothingSent n s.collector × (NoChange n s.word k → SceneIsQuiet n s)
+PollStands n s (reading k) = NothingSent n s.collector × (NoChange n s.word k → IsQuietScene n s)
 
 -- The polling invariant with its further facts, which each step keeps: the flags, what servers are about to do, the
 -- rings between servers, the work rings, and what the present poll has found.
@@ -94,7 +94,7 @@ PollSays n s (forwarding r) = Unit {0}
 PollSays n s (polling k) = (s.collector.pending ≡ false) × ((r i : ℕ) → r < n.servers → i < n.ring → s.word (work r i) ≡ 0)
     × ((j : ℕ) → j < n.servers → j < k → ((flags_of s.word j).changed ≡ true) ⊎ (((flags_of s.word j).busy ≡ false) × ((flags_of s.word j).ghost_ ≡ false)))
 PollSays n s (reading k) = (s.collector.pending ≡ false) × ((r i : ℕ) → r < n.servers → i < n.ring → s.word (work r i) ≡ 0)
-    × (SceneIsQuiet n s ⊎ ((j : ℕ) × ((k ≤ j) × (j < n.servers) × ((flags_of s.word j).changed ≡ true))))
+    × (IsQuietScene n s ⊎ ((j : ℕ) × ((k ≤ j) × (j < n.servers) × ((flags_of s.word j).changed ≡ true))))
 
 -- the polling invariant in words
 pub record PollingHolds (n : Numbers) (s : Scene) : Type 0 where
