@@ -22,7 +22,8 @@ pub tablet_below : (job : Job) (passed : ℕ) → IsJob job → tablet_at job pa
 tablet_below job passed h = mod_below (job.mutator + passed) (all_tablets job.shape) (some_tablet job.shape h.shape)
 
 -- an entry of a tablet is one of all tablets
-pub entry_below : (n : Numbers) (t place : ℕ) → t < all_tablets n → place < n.entries → t * n.entries + place < all_entries n
+pub entry_below : (n : Numbers) (t place : ℕ) → t < all_tablets n → place < n.entries →
+    t * n.entries + place < all_entries n
 entry_below n t place h k = row-below t n.entries place (n.servers * n.tablets) h k
 
 -- a word of a record, from the first word of its region on
@@ -33,7 +34,8 @@ record_word_index n made place = omega (arith, word_after n made.home (made.top 
 -- the words of a record are words of the heap
 pub record_word-below : (job : Job) (made : NewRecord) (place : ℕ) → IsRecord job made → place ≤ job.fields →
     record_word job.shape made place < total job.shape
-record_word-below job made place h k = index_below job.shape (region_word made.home (made.top + place)) (h.home, omega (arith, h.room))
+record_word-below job made place h k =
+    index_below job.shape (region_word made.home (made.top + place)) (h.home, omega (arith, h.room))
 
 tablets_apart : (tablets entries fields : ℕ) → 0 < tablets → fields ≤ 14 →
     (tablets - 1) * (entries + 6) + (entries + fields + 8) ≤ tablets * (entries + 6) + 20
@@ -44,4 +46,5 @@ tablets_apart (suc rest) entries fields some few =
 
 -- from the beginning it takes few steps
 pub rank_is_small : RankIsSmall
-rank_is_small job h = tablets_apart (all_tablets job.shape) job.shape.entries job.fields (some_tablet job.shape h.shape) h.fields
+rank_is_small job h =
+    tablets_apart (all_tablets job.shape) job.shape.entries job.fields (some_tablet job.shape h.shape) h.fields

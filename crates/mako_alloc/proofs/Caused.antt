@@ -40,7 +40,8 @@ full_everywhere job trail all t h =
     let there : (j : ℕ) × (j < all_tablets job.shape) × (tablet_at job j ≡ t) = reached job.mutator (all_tablets job.shape) t h in
     subst (λ (u : ℕ). IsFullTablet job trail u) there.2 (all there.0 there.1)
 
-end_caused : (job : Job) (kept : Option Reason) (found : Found) (trail : List Observation) → NoteStands job kept trail → EndShows job kept found trail →
+end_caused : (job : Job) (kept : Option Reason) (found : Found) (trail : List Observation) →
+    NoteStands job kept trail → EndShows job kept found trail →
     IsCaused job trail found
 end_caused job kept (Made name t) trail notes h = h
 end_caused job kept Full trail notes h = record {
@@ -49,7 +50,8 @@ end_caused job kept Full trail notes h = record {
 }
 end_caused job kept (Pause reason) trail notes h = subst (λ (n : Option Reason). NoteStands job n trail) h notes
 
-caused : (job : Job) (trail : List Observation) (l : Allocation) (found : Found) → Evidence l.job l.progress trail → l.job ≡ job →
+caused : (job : Job) (trail : List Observation) (l : Allocation) (found : Found) →
+    Evidence l.job l.progress trail → l.job ≡ job →
     l.progress.stage ≡ Ended found → IsCaused job trail found
 caused job trail l found ev same ended =
     let shown : EndShows l.job l.progress.note found trail =
@@ -66,9 +68,11 @@ opening_shows job = record {
   stage = tt;
 }
 
-at_end : (job : Job) (trail : List Observation) (l : Allocation) → IsJob job → Goes next_of Fits fed (opening job) trail l →
+at_end : (job : Job) (trail : List Observation) (l : Allocation) → IsJob job →
+    Goes next_of Fits fed (opening job) trail l →
     Along (λ m trail. Evidence m.job m.progress trail) (opening job) trail l
-at_end job trail l h goes = along (λ m trail. Evidence m.job m.progress trail) (opening job) trail l goes (opening_known job h) shows (opening_shows job)
+at_end job trail l h goes =
+    along (λ m trail. Evidence m.job m.progress trail) (opening job) trail l goes (opening_known job h) shows (opening_shows job)
 
 pub results_are_caused : ResultsAreCaused
 results_are_caused job trail l found h goes ended =

@@ -48,7 +48,8 @@ abbrev pub stores_before : Job → ℕ → NewRecord → Part → List Act
 stores_before job t made Header = []
 stores_before job t made (Field i) = stores (record_word job.shape made 0) job.fields ∷ null_stores job.shape made i
 stores_before job t made Top = record_stores job made
-stores_before job t made Entry = record_stores job made ++ stores (index job.shape (top t)) (made.top + job.fields + 1) ∷ []
+stores_before job t made Entry =
+    record_stores job made ++ stores (index job.shape (top t)) (made.top + job.fields + 1) ∷ []
 
 -- each tablet was full
 abbrev pub AllFull : Job → List Observation → ℕ → Type 0
@@ -86,29 +87,36 @@ still trail o x h = Contains-append_left trail (o ∷ []) x h
 pub last : (trail : List Observation) (o : Observation) → Contains (trail ++ o ∷ []) o
 last trail o = Contains-append_right trail (o ∷ []) o (0, lit< tt, refl)
 
-pub still_admitted : (job : Job) (trail : List Observation) (o : Observation) (t : ℕ) → IsAdmitted job trail t → IsAdmitted job (trail ++ o ∷ []) t
+pub still_admitted : (job : Job) (trail : List Observation) (o : Observation) (t : ℕ) →
+    IsAdmitted job trail t → IsAdmitted job (trail ++ o ∷ []) t
 still_admitted job trail o t h = (h.0, h.1, still trail o _ h.2)
 
-pub still_entered : (job : Job) (trail : List Observation) (o : Observation) (t : ℕ) → IsEntered job trail t → IsEntered job (trail ++ o ∷ []) t
+pub still_entered : (job : Job) (trail : List Observation) (o : Observation) (t : ℕ) → IsEntered job trail t →
+    IsEntered job (trail ++ o ∷ []) t
 still_entered job trail o t h = record {
   admitted = still_admitted job trail o t h.admitted;
   turn_taken = still trail o _ h.turn_taken;
   stays = still trail o _ h.stays;
 }
 
-pub still_used : (job : Job) (trail : List Observation) (o : Observation) (t place : ℕ) → IsSeenUsed job trail t place → IsSeenUsed job (trail ++ o ∷ []) t place
+pub still_used : (job : Job) (trail : List Observation) (o : Observation) (t place : ℕ) →
+    IsSeenUsed job trail t place → IsSeenUsed job (trail ++ o ∷ []) t place
 still_used job trail o t place h = (h.0, h.1, still trail o _ h.2)
 
-still_short : (job : Job) (trail : List Observation) (o : Observation) (t : ℕ) → HasNoRoom job trail t ⊎ HasNoEntry job trail t →
+still_short : (job : Job) (trail : List Observation) (o : Observation) (t : ℕ) →
+    HasNoRoom job trail t ⊎ HasNoEntry job trail t →
     HasNoRoom job (trail ++ o ∷ []) t ⊎ HasNoEntry job (trail ++ o ∷ []) t
 still_short job trail o t (inl h) = inl (h.0, h.1, still trail o _ h.2)
 still_short job trail o t (inr h) = inr (λ place below. still_used job trail o t place (h place below))
 
-pub still_full : (job : Job) (trail : List Observation) (o : Observation) (t : ℕ) → IsFullTablet job trail t → IsFullTablet job (trail ++ o ∷ []) t
-still_full job trail o t h = record { entered = still_entered job trail o t h.entered; full = still_short job trail o t h.full }
+pub still_full : (job : Job) (trail : List Observation) (o : Observation) (t : ℕ) → IsFullTablet job trail t →
+    IsFullTablet job (trail ++ o ∷ []) t
+still_full job trail o t h =
+    record { entered = still_entered job trail o t h.entered; full = still_short job trail o t h.full }
 
 -- one more store
-pub stored : (job : Job) (trail : List Observation) (t : ℕ) (made : NewRecord) (acts : List Act) (o : Observation) → IsMaking job trail t made acts →
+pub stored : (job : Job) (trail : List Observation) (t : ℕ) (made : NewRecord) (acts : List Act) (o : Observation) →
+    IsMaking job trail t made acts →
     IsMaking job (trail ++ o ∷ []) t made (acts ++ o.act ∷ [])
 stored job trail t made acts o h = record {
   earlier = h.earlier;
@@ -127,6 +135,7 @@ stored job trail t made acts o h = record {
 }
 
 -- the same stores, said otherwise
-pub are_stores : (job : Job) (trail : List Observation) (t : ℕ) (made : NewRecord) (acts more : List Act) → acts ≡ more → IsMaking job trail t made acts →
+pub are_stores : (job : Job) (trail : List Observation) (t : ℕ) (made : NewRecord) (acts more : List Act) →
+    acts ≡ more → IsMaking job trail t made acts →
     IsMaking job trail t made more
 are_stores job trail t made acts more e h = subst (λ (xs : List Act). IsMaking job trail t made xs) e h

@@ -8,7 +8,8 @@ use Rattle.mako_alloc.specs.Seen.{IsUsed, IsFree}
 use Rattle.mako_step.proofs.Cases.{by_lt}
 
 -- by cases of what the word of an entry tells
-pub by_entry : (P : Option ℕ → Type 0) (n : Numbers) (w : ℕ) → (IsUsed n w → P None) → ((g : ℕ) → IsFree n w g → P (Some g)) →
+pub by_entry : (P : Option ℕ → Type 0) (n : Numbers) (w : ℕ) → (IsUsed n w → P None) → ((g : ℕ) →
+    IsFree n w g → P (Some g)) →
     P (free_generation n.generations w)
 unfolding free_generation
 by_entry P n w used free = elim ((entry_at w).taken) as

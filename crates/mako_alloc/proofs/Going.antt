@@ -23,9 +23,11 @@ abbrev pub GoesOn : Job → Progress → Progress → Type 0
 GoesOn job before after = IsKnown job after × (rank_by job after < rank_by job before)
 
 -- to another stage at the same tablet
-pub stays : (job : Job) (before : Progress) (reason : Option Reason) (stage : NewStage) → IsKnown job before → IsStageKnown job stage →
+pub stays : (job : Job) (before : Progress) (reason : Option Reason) (stage : NewStage) → IsKnown job before →
+    IsStageKnown job stage →
     stage_rank job stage < stage_rank job before.stage → GoesOn job before (record { passed = before.passed; note = reason; stage = stage })
-stays job before reason stage known here lower = (record { numbers = known.numbers; passed = known.passed; stage = here }, omega (arith, lower))
+stays job before reason stage known here lower =
+    (record { numbers = known.numbers; passed = known.passed; stage = here }, omega (arith, lower))
 
 -- one tablet fewer is left
 pub one_fewer : (tablets passed entries fields : ℕ) → passed + 1 < tablets →
@@ -60,11 +62,13 @@ seeks job before kept place known room lower out = by_lt
     (λ h. stays job before before.note GivingTurn known tt out)
 
 -- a found entry: its name is one that there is, or the search goes on
-entry_goes_on : (job : Job) (before : Progress) (t kept place : ℕ) (found : Option ℕ) → IsKnown job before → t < all_tablets job.shape →
+entry_goes_on : (job : Job) (before : Progress) (t kept place : ℕ) (found : Option ℕ) → IsKnown job before →
+    t < all_tablets job.shape →
     before.stage ≡ LoadingEntry kept place → HasRoom job kept → place < job.shape.entries →
     ((g : ℕ) → found ≡ Some g → g < job.shape.generations) →
     GoesOn job before (at before (entry_fed job t kept place found))
-entry_goes_on job before t kept place None known within here room below small = seeks job before kept (place + 1) known room
+entry_goes_on job before t kept place None known within here room below small =
+    seeks job before kept (place + 1) known room
     (rw here (omega arith)) (rw here (omega arith))
 entry_goes_on job before t kept place (Some g) known within here room below small = stays job before before.note
     (LoadingHome kept (record { entry = t * job.shape.entries + place; generation = g })) known
@@ -72,7 +76,8 @@ entry_goes_on job before t kept place (Some g) known within here room below smal
     (rw here (omega arith))
 
 -- the next field, or the top
-field_goes_on : (job : Job) (before : Progress) (made : NewRecord) (i : ℕ) → IsKnown job before → IsRecord job made →
+field_goes_on : (job : Job) (before : Progress) (made : NewRecord) (i : ℕ) → IsKnown job before →
+    IsRecord job made →
     job.fields - i + 2 < stage_rank job before.stage → 2 < stage_rank job before.stage →
     GoesOn job before (at before (Making made (field_or_top job i)))
 field_goes_on job before made i known is_record lower out = by_lt
@@ -85,13 +90,18 @@ field_goes_on job before made i known is_record lower out = by_lt
 part_goes_on : (job : Job) (passed : ℕ) (reason : Option Reason) (t : ℕ) (made : NewRecord) (part : Part) →
     let before : Progress = record { passed = passed; note = reason; stage = Making made part } in
     t < all_tablets job.shape → IsKnown job before → GoesOn job before (at before (part_fed job t made part))
-part_goes_on job passed reason t made Header within known = field_goes_on job _ made 0 known known.stage.0 (omega arith) (omega arith)
-part_goes_on job passed reason t made (Field i) within known = field_goes_on job _ made (i + 1) known known.stage.0 (omega (arith, known.stage.1)) (omega (arith, known.stage.1))
-part_goes_on job passed reason t made Top within known = stays job _ reason (Making made Entry) known (known.stage.0, tt) (omega arith)
-part_goes_on job passed reason t made Entry within known = stays job _ reason (Ended (Made made.name t)) known (known.stage.0.name, within) (omega arith)
+part_goes_on job passed reason t made Header within known =
+    field_goes_on job _ made 0 known known.stage.0 (omega arith) (omega arith)
+part_goes_on job passed reason t made (Field i) within known =
+    field_goes_on job _ made (i + 1) known known.stage.0 (omega (arith, known.stage.1)) (omega (arith, known.stage.1))
+part_goes_on job passed reason t made Top within known =
+    stays job _ reason (Making made Entry) known (known.stage.0, tt) (omega arith)
+part_goes_on job passed reason t made Entry within known =
+    stays job _ reason (Ended (Made made.name t)) known (known.stage.0.name, within) (omega arith)
 
 -- each step goes on
-stage_goes_on : (job : Job) (passed : ℕ) (reason : Option Reason) (t : ℕ) (stage : NewStage) (w : ℕ) → t < all_tablets job.shape →
+stage_goes_on : (job : Job) (passed : ℕ) (reason : Option Reason) (t : ℕ) (stage : NewStage) (w : ℕ) →
+    t < all_tablets job.shape →
     let before : Progress = record { passed = passed; note = reason; stage = stage } in
     IsKnown job before → FitsBy job.shape stage w → IsAct (stage_next job t stage) → GoesOn job before (stage_fed job t before stage w)
 stage_goes_on job passed reason t Arriving w within known fits act = by_bool
@@ -133,13 +143,16 @@ stage_goes_on job passed reason t (LoadingEntry kept place) w within known fits 
 stage_goes_on job passed reason t (LoadingHome kept name) w within known fits act = stays job _ reason
     (Making (record { name = name; home = w; top = kept }) Header) known
     (record { name = known.stage.1; home = fits; room = known.stage.0 }, tt) (omega arith)
-stage_goes_on job passed reason t (Making made part) w within known fits act = part_goes_on job passed reason t made part within known
-stage_goes_on job passed reason t GivingTurn w within known fits act = stays job _ reason Leaving known tt (omega arith)
+stage_goes_on job passed reason t (Making made part) w within known fits act =
+    part_goes_on job passed reason t made part known
+stage_goes_on job passed reason t GivingTurn w within known fits act =
+    stays job _ reason Leaving known tt (omega arith)
 stage_goes_on job passed reason t Leaving w within known fits act = passes job _ known refl
 stage_goes_on job passed reason t (Ended found) w within known fits act = absurd act
 
 -- each step of a machine goes on
-pub step_goes_on : (job : Job) (progress : Progress) (w : ℕ) → IsKnown job progress → FitsBy job.shape progress.stage w → IsAct (next_by job progress) →
+pub step_goes_on : (job : Job) (progress : Progress) (w : ℕ) → IsKnown job progress →
+    FitsBy job.shape progress.stage w → IsAct (next_by job progress) →
     GoesOn job progress (progress_fed job progress w)
 step_goes_on job progress w known fits act =
     stage_goes_on job progress.passed progress.note (tablet_at job progress.passed) progress.stage w (tablet_below job progress.passed known.numbers) known fits act

@@ -42,7 +42,8 @@ goes_on job before after stage trail o notes none shows h = record {
 }
 
 -- with what is no note
-unnoted : (job : Job) (before : Progress) (stage : NewStage) (trail : List Observation) (o : Observation) → IsNoNote job o →
+unnoted : (job : Job) (before : Progress) (stage : NewStage) (trail : List Observation) (o : Observation) →
+    IsNoNote job o →
     StageShows job (tablet_at job before.passed) before.note stage (trail ++ o ∷ []) →
     Evidence job before trail → Evidence job (at before stage) (trail ++ o ∷ [])
 unnoted job before stage trail o no_note shows h =
@@ -53,7 +54,8 @@ first_is_some None reason e = cc
 first_is_some (Some earlier) reason e = cc
 
 -- with a note
-with_note : (job : Job) (before : Progress) (reason : Reason) (stage : NewStage) (trail : List Observation) (o : Observation) → IsNote job o reason →
+with_note : (job : Job) (before : Progress) (reason : Reason) (stage : NewStage) (trail : List Observation) (o : Observation) →
+    IsNote job o reason →
     ((first before.note reason ≡ None → ⊥) → StageShows job (tablet_at job before.passed) (first before.note reason) stage (trail ++ o ∷ [])) →
     Evidence job before trail → Evidence job (noted before reason stage) (trail ++ o ∷ [])
 with_note job before reason stage trail o is_note shows h =
@@ -61,7 +63,8 @@ with_note job before reason stage trail o is_note shows h =
     (λ e. absurd (first_is_some before.note reason e)) (shows (first_is_some before.note reason)) h
 
 -- one more full tablet
-one_more : (job : Job) (trail : List Observation) (passed : ℕ) → AllFull job trail passed → IsFullTablet job trail (tablet_at job passed) →
+one_more : (job : Job) (trail : List Observation) (passed : ℕ) → AllFull job trail passed →
+    IsFullTablet job trail (tablet_at job passed) →
     (j : ℕ) → j < passed + 1 → IsFullTablet job trail (tablet_at job j)
 one_more job trail passed all here j below = elim (cases_lt j passed) [
   | inl earlier ↦ all j earlier
@@ -69,7 +72,8 @@ one_more job trail passed all here j below = elim (cases_lt j passed) [
 ]
 
 -- past the last tablet
-end_shows : (job : Job) (before : Option Reason) (trail : List Observation) → (before ≡ None → AllFull job trail (all_tablets job.shape)) →
+end_shows : (job : Job) (before : Option Reason) (trail : List Observation) → (before ≡ None →
+    AllFull job trail (all_tablets job.shape)) →
     EndShows job before (outcome before) trail
 end_shows job None trail all = (refl, all refl)
 end_shows job (Some reason) trail all = refl
@@ -96,7 +100,8 @@ passes job before trail o no_note full h =
     })
 
 -- the entry at this place, or past the last one the way out
-seeks : (job : Job) (t : ℕ) (before : Option Reason) (trail : List Observation) (kept_top place : ℕ) → IsSearched job trail t kept_top place →
+seeks : (job : Job) (t : ℕ) (before : Option Reason) (trail : List Observation) (kept_top place : ℕ) →
+    IsSearched job trail t kept_top place →
     StageShows job t before (seeking job kept_top place) trail
 seeks job t before trail kept_top place h = when_lt
     (λ s. StageShows job t before s trail)
@@ -120,7 +125,8 @@ one_more_used job trail t place w used before i below = elim (cases_lt i place) 
 ]
 
 -- an entry is found
-entry_shows : (job : Job) (t : ℕ) (before : Option Reason) (trail : List Observation) (kept_top place w : ℕ) → place < job.shape.entries →
+entry_shows : (job : Job) (t : ℕ) (before : Option Reason) (trail : List Observation) (kept_top place w : ℕ) →
+    place < job.shape.entries →
     let o : Observation = sees job.shape (entry (t * job.shape.entries + place)) Load w in
     IsSearched job trail t kept_top place →
     StageShows job t before (entry_fed job t kept_top place (free_generation job.shape.generations w)) (trail ++ o ∷ [])
@@ -150,7 +156,8 @@ entry_shows job t before trail kept_top place w below h =
     })
 
 -- the home is found
-home_shows : (job : Job) (t : ℕ) (trail : List Observation) (kept_top : ℕ) (name : Name) (w : ℕ) → t < all_tablets job.shape →
+home_shows : (job : Job) (t : ℕ) (trail : List Observation) (kept_top : ℕ) (name : Name) (w : ℕ) →
+    t < all_tablets job.shape →
     IsFoundFree job trail t kept_top name →
     IsMaking job (trail ++ sees job.shape (home t) Load w ∷ []) t (record { name = name; home = w; top = kept_top }) []
 home_shows job t trail kept_top name w below h = record {
@@ -170,7 +177,8 @@ home_shows job t trail kept_top name w below h = record {
 }
 
 -- the next field, or the top
-field_shows : (job : Job) (t : ℕ) (before : Option Reason) (trail : List Observation) (made : NewRecord) (i : ℕ) → i ≤ job.fields →
+field_shows : (job : Job) (t : ℕ) (before : Option Reason) (trail : List Observation) (made : NewRecord) (i : ℕ) →
+    i ≤ job.fields →
     IsMaking job trail t made (stores_before job t made (Field i)) → StageShows job t before (Making made (field_or_top job i)) trail
 field_shows job t before trail made i below h = when_lt
     (λ part. StageShows job t before (Making made part) trail)
@@ -183,7 +191,8 @@ field_shows job t before trail made i below h = when_lt
     subst (λ (k : ℕ). IsMaking job trail t made (stores_before job t made (Field k))) same h)
 
 -- one more null field
-null_next : (n : Numbers) (made : NewRecord) (i : ℕ) → null_stores n made i ++ stores (record_word n made (i + 1)) 0 ∷ [] ≡ null_stores n made (i + 1)
+null_next : (n : Numbers) (made : NewRecord) (i : ℕ) →
+    null_stores n made i ++ stores (record_word n made (i + 1)) 0 ∷ [] ≡ null_stores n made (i + 1)
 unfolding null_stores
 null_next n made i = subst
     (λ (k : ℕ). null_stores n made i ++ stores (record_word n made (i + 1)) 0 ∷ [] ≡ null_stores n made k)
@@ -191,12 +200,15 @@ null_next n made i = subst
     refl
 
 -- a part of the object is stored
-part_shows : (job : Job) (t : ℕ) (before : Option Reason) (trail : List Observation) (made : NewRecord) (part : Part) (w : ℕ) → IsPartKnown job part →
+part_shows : (job : Job) (t : ℕ) (before : Option Reason) (trail : List Observation) (made : NewRecord) (part : Part) (w : ℕ) →
+    IsPartKnown job part →
     let o : Observation = record { act = did (part_next job t made part); found = w } in
     IsMaking job trail t made (stores_before job t made part) → StageShows job t before (part_fed job t made part) (trail ++ o ∷ [])
 unfolding null_stores
-part_shows job t before trail made Header w known h = field_shows job t before _ made 0 (omega arith) (stored job trail t made _ _ h)
-part_shows job t before trail made (Field i) w known h = field_shows job t before _ made (i + 1) (omega (arith, known))
+part_shows job t before trail made Header w known h =
+    field_shows job t before _ made 0 (omega arith) (stored job trail t made _ _ h)
+part_shows job t before trail made (Field i) w known h =
+    field_shows job t before _ made (i + 1) (omega (arith, known))
     (are_stores job _ t made _ _ (ap (λ (xs : List Act). stores (record_word job.shape made 0) job.fields ∷ xs) (null_next job.shape made i)) (stored job trail t made _ _ h))
 part_shows job t before trail made Top w known h = stored job trail t made _ _ h
 part_shows job t before trail made Entry w known h = record {
@@ -206,7 +218,8 @@ part_shows job t before trail made Entry w known h = record {
 }
 
 -- a store of a part is no note
-part_is_none : (job : Job) (t : ℕ) (made : NewRecord) (part : Part) (w : ℕ) → IsNoNote job (record { act = did (part_next job t made part); found = w })
+part_is_none : (job : Job) (t : ℕ) (made : NewRecord) (part : Part) (w : ℕ) →
+    IsNoNote job (record { act = did (part_next job t made part); found = w })
 part_is_none job t made Header w = store_is_none job _ _ w
 part_is_none job t made (Field i) w = store_is_none job _ _ w
 part_is_none job t made Top w = store_is_none job _ _ w
@@ -296,4 +309,5 @@ stage_shows job passed before (Ended found) w trail known act fits h = absurd ac
 
 -- the evidence grows with the trail
 pub shows : Keeps (λ l trail. Evidence l.job l.progress trail)
-shows l trail w known act fits h = stage_shows l.job l.progress.passed l.progress.note l.progress.stage w trail known act fits h
+shows l trail w known act fits h =
+    stage_shows l.job l.progress.passed l.progress.note l.progress.stage w trail known act fits h

@@ -19,64 +19,77 @@ use Rattle.mako_alloc.specs.declared.progress.Part.{Part}
 use Rattle.mako_alloc.specs.declared.progress.Part.TheVariants.{Header, Field, Top, Entry}
 use Rattle.mako_alloc.specs.declared.progress.Progress.{Progress}
 use Rattle.mako_alloc.specs.Allocating.{IsKnown, FitsBy, IsPartKnown, IsRecord, all_tablets, tablet_at, at, noted, outcome, passed_on, seeking, entry_fed, top_fed, part_next, part_fed, free_generation, stage_next, stage_fed, opening}
-use Rattle.mako_alloc.specs.Standings.{Standing, inside, turned_away, at_tablet, with_turn, end_standing, stage_standing, standing_of, StandsAsShown, EndsAsShown, StandsBy, arrived, holds_turn, arrives_at, leaves_from, takes_turn, gives_turn}
+use Rattle.mako_gate.specs.Sums.{counted}
+use Rattle.mako_gate.specs.Standings.{Standing, inside, turned_away, at_tablet, with_turn, arrived, holds_turn}
+use Rattle.mako_alloc.specs.Standings.{end_standing, stage_standing, standing_of, StandsAsShown, EndsAsShown, StandsBy, arrives_at, leaves_from, takes_turn, gives_turn}
 use Rattle.mako_step.proofs.Cases.{by_eq, when_eq, when_lt, when_le, when_test}
 use Rattle.mako_alloc.proofs.Bounds.{tablet_below}
 use Rattle.mako_alloc.proofs.Trails.{did, Keeps, Along, along}
 use Rattle.mako_alloc.proofs.Caused.{opening_known}
 use Rattle.mako_alloc.proofs.Shown.{observed}
 
+-- the two ways to count a test
+as_counted : (b : Bool) → cond b 1 0 ≡ counted b 1
+as_counted true = refl
+as_counted false = refl
+
 -- one more is counted where it passes
-counted : {X : Type 0} (p : X → Bool) (xs : List X) (x : X) → count_by p (xs ++ x ∷ []) ≡ count_by p xs + cond (p x) 1 0
-counted p xs x = omega (arith, sum_by-append (λ y. cond (p y) 1 0) xs (x ∷ []))
+one_more : {X : Type 0} (p : X → Bool) (xs : List X) (x : X) → count_by p (xs ++ x ∷ []) ≡ count_by p xs + counted (p x) 1
+one_more p xs x = omega (arith, sum_by-append (λ y. cond (p y) 1 0) xs (x ∷ []), as_counted (p x))
 
 -- what an observation adds to the two sides
 pub record Balances (n : Numbers) (o : Observation) (before after : Standing) : Type 0 where
   pub gates : (t : ℕ) → t < all_tablets n →
-      cond (arrives_at (index n (tablet_gate t)) o.act.op o.act.word) 1 0 + arrived t before
-      ≡ cond (leaves_from (index n (tablet_gate t)) o.act.op o.act.word) 1 0 + arrived t after
+      counted (arrives_at (index n (tablet_gate t)) o.act.op o.act.word) 1 + arrived t before
+      ≡ counted (leaves_from (index n (tablet_gate t)) o.act.op o.act.word) 1 + arrived t after
   pub turns : (t : ℕ) → t < all_tablets n →
-      cond (takes_turn (index n (turn t)) o.act.op o.act.word o.found) 1 0 + holds_turn t before
-      ≡ cond (gives_turn (index n (turn t)) o.act.op o.act.word) 1 0 + holds_turn t after
+      counted (takes_turn (index n (turn t)) o.act.op o.act.word o.found) 1 + holds_turn t before
+      ≡ counted (gives_turn (index n (turn t)) o.act.op o.act.word) 1 + holds_turn t after
 
-pub stands_on : (n : Numbers) (trail : List Observation) (o : Observation) (before after : Standing) → Balances n o before after → StandsBy n trail before →
+pub stands_on : (n : Numbers) (trail : List Observation) (o : Observation) (before after : Standing) →
+    Balances n o before after → StandsBy n trail before →
     StandsBy n (trail ++ o ∷ []) after
 stands_on n trail o before after b h = record {
   gates = λ t below. omega (
     arith,
-    counted (λ (x : Observation). arrives_at (index n (tablet_gate t)) x.act.op x.act.word) trail o,
-    counted (λ (x : Observation). leaves_from (index n (tablet_gate t)) x.act.op x.act.word) trail o,
+    one_more (λ (x : Observation). arrives_at (index n (tablet_gate t)) x.act.op x.act.word) trail o,
+    one_more (λ (x : Observation). leaves_from (index n (tablet_gate t)) x.act.op x.act.word) trail o,
     h.gates t below,
     b.gates t below,
   );
   turns = λ t below. omega (
     arith,
-    counted (λ (x : Observation). takes_turn (index n (turn t)) x.act.op x.act.word x.found) trail o,
-    counted (λ (x : Observation). gives_turn (index n (turn t)) x.act.op x.act.word) trail o,
+    one_more (λ (x : Observation). takes_turn (index n (turn t)) x.act.op x.act.word x.found) trail o,
+    one_more (λ (x : Observation). gives_turn (index n (turn t)) x.act.op x.act.word) trail o,
     h.turns t below,
     b.turns t below,
   );
 }
 
 -- two gates are one only where the tablets are
-pub one_gate : (n : Numbers) (t u : ℕ) → t < all_tablets n → u < all_tablets n → (index n (tablet_gate t) == index n (tablet_gate u)) ≡ (t == u)
+pub one_gate : (n : Numbers) (t u : ℕ) → t < all_tablets n → u < all_tablets n →
+    (index n (tablet_gate t) == index n (tablet_gate u)) ≡ (t == u)
 one_gate n t u h k = by_eq (λ b. (index n (tablet_gate t) == index n (tablet_gate u)) ≡ b) t u
     (λ same. by_eq (λ b. b ≡ true) (index n (tablet_gate t)) (index n (tablet_gate u)) (λ e. refl) (λ other. absurd (other (ap (λ (x : ℕ). index n (tablet_gate x)) same))))
     (λ other. by_eq (λ b. b ≡ false) (index n (tablet_gate t)) (index n (tablet_gate u))
     (λ e. let place : tablet_gate t ≡ tablet_gate u = one_place n (tablet_gate t) (tablet_gate u) h k e in absurd (other cc)) (λ e. refl))
 
-pub one_turn : (n : Numbers) (t u : ℕ) → t < all_tablets n → u < all_tablets n → (index n (turn t) == index n (turn u)) ≡ (t == u)
+pub one_turn : (n : Numbers) (t u : ℕ) → t < all_tablets n → u < all_tablets n →
+    (index n (turn t) == index n (turn u)) ≡ (t == u)
 one_turn n t u h k = by_eq (λ b. (index n (turn t) == index n (turn u)) ≡ b) t u
     (λ same. by_eq (λ b. b ≡ true) (index n (turn t)) (index n (turn u)) (λ e. refl) (λ other. absurd (other (ap (λ (x : ℕ). index n (turn x)) same))))
     (λ other. by_eq (λ b. b ≡ false) (index n (turn t)) (index n (turn u))
     (λ e. let place : turn t ≡ turn u = one_place n (turn t) (turn u) h k e in absurd (other cc)) (λ e. refl))
 
 -- a word that is no turn
-pub no_turn : (n : Numbers) (p : Place) (u : ℕ) → Within n p → u < all_tablets n → p ≢ turn u → (index n p == index n (turn u)) ≡ false
-no_turn n p u h k other = by_eq (λ b. b ≡ false) (index n p) (index n (turn u)) (λ e. absurd (other (one_place n p (turn u) h k e))) (λ e. refl)
+pub no_turn : (n : Numbers) (p : Place) (u : ℕ) → Within n p → u < all_tablets n → p ≢ turn u →
+    (index n p == index n (turn u)) ≡ false
+no_turn n p u h k other =
+    by_eq (λ b. b ≡ false) (index n p) (index n (turn u)) (λ e. absurd (other (one_place n p (turn u) h k e))) (λ e. refl)
 
 -- a load
-pub load_balances : (n : Numbers) (word w : ℕ) (s : Standing) → Balances n (record { act = record { word = word; op = Load }; found = w }) s s
+pub load_balances : (n : Numbers) (word w : ℕ) (s : Standing) →
+    Balances n (record { act = record { word = word; op = Load }; found = w }) s s
 load_balances n word w s = record { gates = λ t below. refl; turns = λ t below. refl }
 
 -- a store of a word that is no turn
@@ -89,19 +102,19 @@ store_balances n p x w s within other = record {
 
 -- an arrival
 pub arrival_balances : (n : Numbers) (t w : ℕ) (after : Standing) → t < all_tablets n →
-    ((u : ℕ) → arrived u after ≡ cond (t == u) 1 0) → ((u : ℕ) → holds_turn u after ≡ 0) →
+    ((u : ℕ) → arrived u after ≡ counted (t == u) 1) → ((u : ℕ) → holds_turn u after ≡ 0) →
     Balances n (record { act = record { word = index n (tablet_gate t); op = Add 1 }; found = w }) inside after
 arrival_balances n t w after h there holds = record {
-  gates = λ u below. omega (arith, ap {B = ℕ} (λ (b : Bool). cond b 1 0) (one_gate n t u h below), there u);
+  gates = λ u below. omega (arith, ap {B = ℕ} (λ (b : Bool). counted b 1) (one_gate n t u h below), there u);
   turns = λ u below. omega (arith, holds u);
 }
 
 -- a leave
 pub leave_balances : (n : Numbers) (t w : ℕ) (before : Standing) → t < all_tablets n →
-    ((u : ℕ) → arrived u before ≡ cond (t == u) 1 0) → ((u : ℕ) → holds_turn u before ≡ 0) →
+    ((u : ℕ) → arrived u before ≡ counted (t == u) 1) → ((u : ℕ) → holds_turn u before ≡ 0) →
     Balances n (record { act = record { word = index n (tablet_gate t); op = Sub 1 }; found = w }) before inside
 leave_balances n t w before h there holds = record {
-  gates = λ u below. omega (arith, ap {B = ℕ} (λ (b : Bool). cond b 1 0) (one_gate n t u h below), there u);
+  gates = λ u below. omega (arith, ap {B = ℕ} (λ (b : Bool). counted b 1) (one_gate n t u h below), there u);
   turns = λ u below. omega (arith, holds u);
 }
 
@@ -114,16 +127,16 @@ taken_balances n t new w h is_zero = record {
 }
   where
     when_free : (u : ℕ) → (index n (turn t) == index n (turn u)) ≡ (t == u) →
-        cond ((w == 0) && (index n (turn t) == index n (turn u))) 1 0 + 0 ≡ 0 + cond (t == u) 1 0
-    when_free u same = by_eq (λ b. cond (b && (index n (turn t) == index n (turn u))) 1 0 + 0 ≡ 0 + cond (t == u) 1 0) w 0
-        (λ e. omega (arith, ap {B = ℕ} (λ (b : Bool). cond b 1 0) same)) (λ other. absurd (other is_zero))
+        counted ((w == 0) && (index n (turn t) == index n (turn u))) 1 + 0 ≡ 0 + counted (t == u) 1
+    when_free u same = by_eq (λ b. counted (b && (index n (turn t) == index n (turn u))) 1 + 0 ≡ 0 + counted (t == u) 1) w 0
+        (λ e. omega (arith, ap {B = ℕ} (λ (b : Bool). counted b 1) same)) (λ other. absurd (other is_zero))
 
 -- a turn that was held is not
 pub held_balances : (n : Numbers) (t new w : ℕ) → w ≢ 0 →
     Balances n (record { act = record { word = index n (turn t); op = Exchange 0 new }; found = w }) (at_tablet t) (at_tablet t)
 held_balances n t new w held = record {
   gates = λ u below. refl;
-  turns = λ u below. by_eq (λ b. cond (b && (index n (turn t) == index n (turn u))) 1 0 + 0 ≡ 0 + 0) w 0 (λ e. absurd (held e)) (λ other. refl);
+  turns = λ u below. by_eq (λ b. counted (b && (index n (turn t) == index n (turn u))) 1 + 0 ≡ 0 + 0) w 0 (λ e. absurd (held e)) (λ other. refl);
 }
 
 -- the turn is given back
@@ -131,17 +144,20 @@ pub given_balances : (n : Numbers) (t w : ℕ) → t < all_tablets n →
     Balances n (record { act = record { word = index n (turn t); op = Store 0 }; found = w }) (with_turn t) (at_tablet t)
 given_balances n t w h = record {
   gates = λ u below. refl;
-  turns = λ u below. omega (arith, ap {B = ℕ} (λ (b : Bool). cond b 1 0) (one_turn n t u h below));
+  turns = λ u below. omega (arith, ap {B = ℕ} (λ (b : Bool). counted b 1) (one_turn n t u h below));
 }
 
 seeking_standing : (job : Job) (t kept place : ℕ) → stage_standing t (seeking job kept place) ≡ with_turn t
-seeking_standing job t kept place = when_lt (λ s. stage_standing t s ≡ with_turn t) (LoadingEntry kept place) GivingTurn place job.shape.entries (λ h. refl) (λ h. refl)
+seeking_standing job t kept place =
+    when_lt (λ s. stage_standing t s ≡ with_turn t) (LoadingEntry kept place) GivingTurn place job.shape.entries (λ h. refl) (λ h. refl)
 
 top_standing : (job : Job) (t kept : ℕ) → stage_standing t (top_fed job kept) ≡ with_turn t
-top_standing job t kept = when_le (λ s. stage_standing t s ≡ with_turn t) (seeking job kept 0) GivingTurn (kept + job.fields + 1) job.shape.words
+top_standing job t kept =
+    when_le (λ s. stage_standing t s ≡ with_turn t) (seeking job kept 0) GivingTurn (kept + job.fields + 1) job.shape.words
     (λ h. seeking_standing job t kept 0) (λ h. refl)
 
-entry_standing : (job : Job) (t kept place : ℕ) (found : Option ℕ) → stage_standing t (entry_fed job t kept place found) ≡ with_turn t
+entry_standing : (job : Job) (t kept place : ℕ) (found : Option ℕ) →
+    stage_standing t (entry_fed job t kept place found) ≡ with_turn t
 entry_standing job t kept place None = seeking_standing job t kept (place + 1)
 entry_standing job t kept place (Some g) = refl
 
@@ -158,14 +174,18 @@ passed_standing job p = when_lt (λ q. standing_by job q ≡ inside)
     (record { passed = p.passed + 1; note = p.note; stage = Arriving }) (at p (Ended (outcome p.note))) (p.passed + 1) (all_tablets job.shape)
     (λ h. refl) (λ h. outcome_standing p.note)
 
-part_balances : (job : Job) (t : ℕ) (made : NewRecord) (part : Part) (w : ℕ) → t < all_tablets job.shape → IsRecord job made → IsPartKnown job part →
+part_balances : (job : Job) (t : ℕ) (made : NewRecord) (part : Part) (w : ℕ) → t < all_tablets job.shape →
+    IsRecord job made → IsPartKnown job part →
     Balances job.shape (record { act = did (part_next job t made part); found = w }) (with_turn t) (with_turn t)
-part_balances job t made Header w h k i = store_balances job.shape (region_word made.home (made.top + 0)) _ w _ (k.home, omega (arith, k.room)) (λ u e. cc)
-part_balances job t made (Field j) w h k i = store_balances job.shape (region_word made.home (made.top + (j + 1))) _ w _ (k.home, omega (arith, k.room, i)) (λ u e. cc)
+part_balances job t made Header w h k i =
+    store_balances job.shape (region_word made.home (made.top + 0)) _ w _ (k.home, omega (arith, k.room)) (λ u e. cc)
+part_balances job t made (Field j) w h k i =
+    store_balances job.shape (region_word made.home (made.top + (j + 1))) _ w _ (k.home, omega (arith, k.room, i)) (λ u e. cc)
 part_balances job t made Top w h k i = store_balances job.shape (top t) _ w _ h (λ u e. cc)
 part_balances job t made Entry w h k i = store_balances job.shape (entry made.name.entry) _ w _ k.name.0 (λ u e. cc)
 
-part_standing : (job : Job) (t : ℕ) (made : NewRecord) (part : Part) → stage_standing t (part_fed job t made part) ≡ with_turn t
+part_standing : (job : Job) (t : ℕ) (made : NewRecord) (part : Part) →
+    stage_standing t (part_fed job t made part) ≡ with_turn t
 part_standing job t made Header = refl
 part_standing job t made (Field i) = refl
 part_standing job t made Top = refl
@@ -206,7 +226,8 @@ stage_stands job passed kept (LoadingEntry kept_top place) w known act fits =
     subst (λ (s : Standing). Balances job.shape (observed job t (LoadingEntry kept_top place) w) (with_turn t) s)
     (sym (entry_standing job t kept_top place (free_generation job.shape.generations w)))
     (load_balances job.shape _ w (with_turn t))
-stage_stands job passed kept (LoadingHome kept_top name) w known act fits = load_balances job.shape _ w (with_turn (tablet_at job passed))
+stage_stands job passed kept (LoadingHome kept_top name) w known act fits =
+    load_balances job.shape _ w (with_turn (tablet_at job passed))
 stage_stands job passed kept (Making made part) w known act fits =
     let t : ℕ = tablet_at job passed in
     subst (λ (s : Standing). Balances job.shape (observed job t (Making made part) w) (with_turn t) s) (sym (part_standing job t made part))

@@ -21,7 +21,8 @@ longer l trail w = trail ++ record { act = did (next_of l); found = w } ∷ []
 
 -- a fact that each step keeps
 abbrev pub Keeps : (Allocation → List Observation → Type 0) → Type 0
-Keeps P = (l : Allocation) (trail : List Observation) (w : ℕ) → IsKnown l.job l.progress → IsAct (next_of l) → Fits l w →
+Keeps P =
+    (l : Allocation) (trail : List Observation) (w : ℕ) → IsKnown l.job l.progress → IsAct (next_of l) → Fits l w →
     P l trail → P (fed l w) (longer l trail w)
 
 -- what holds at the end of a trail
@@ -33,7 +34,8 @@ pub record Along (P : Allocation → List Observation → Type 0) (m : Allocatio
 is_act : (step : Step) (act : Act) → step ≡ Do act → IsAct step
 is_act step act e = subst IsAct (sym e) tt
 
-pub along : (P : Allocation → List Observation → Type 0) (m : Allocation) (trail : List Observation) (l : Allocation) →
+pub along : (P : Allocation → List Observation →
+    Type 0) (m : Allocation) (trail : List Observation) (l : Allocation) →
     Goes next_of Fits fed m trail l → IsKnown m.job m.progress → Keeps P → P m [] → Along P m trail l
 along P m trail l (stays _) known keeps start = record { known = known; same = refl; holds = start }
 along P m trail l (steps _ k before act w goes next fits) known keeps start =

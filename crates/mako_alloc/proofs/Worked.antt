@@ -5,7 +5,8 @@ use Rattle.mako_step.specs.Trails.{Observation}
 use Rattle.mako_step.specs.declared.act.Op.TheVariants.{Load, Store, Add, Sub, Exchange}
 use Rattle.mako_alloc.specs.Causes.{IsFull, IsMade, null_stores}
 use Rattle.mako_alloc.specs.Notes.{IsFirstNote}
-use Rattle.mako_alloc.specs.Standings.{StandsBy, with_turn, arrivals, leaves, arrived, turns_taken, turns_given, holds_turn}
+use Rattle.mako_gate.specs.Standings.{with_turn, arrived, holds_turn}
+use Rattle.mako_alloc.specs.Standings.{StandsBy, arrivals, leaves, turns_taken, turns_given}
 use Rattle.mako_alloc.specs.Examples.{job, saw, making, made, shut_out, found_shut}
 
 -- what was seen before the entry

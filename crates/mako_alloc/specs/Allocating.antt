@@ -49,23 +49,23 @@ published job made = entry_word (record {
 })
 
 abbrev pub part_next : Job → ℕ → NewRecord → Part → Step
-part_next job tablet made Header = does (record_word job.shape made 0) (Store job.fields)
-part_next job tablet made (Field i) = does (record_word job.shape made (i + 1)) (Store 0)
-part_next job tablet made Top = does (index job.shape (top tablet)) (Store (made.top + job.fields + 1))
-part_next job tablet made Entry = does (index job.shape (entry made.name.entry)) (Store (published job made))
+part_next job t made Header = does (record_word job.shape made 0) (Store job.fields)
+part_next job t made (Field i) = does (record_word job.shape made (i + 1)) (Store 0)
+part_next job t made Top = does (index job.shape (top t)) (Store (made.top + job.fields + 1))
+part_next job t made Entry = does (index job.shape (entry made.name.entry)) (Store (published job made))
 
 abbrev pub stage_next : Job → ℕ → NewStage → Step
-stage_next job tablet Arriving = does (index job.shape (tablet_gate tablet)) (Add 1)
-stage_next job tablet TurnedAway = does (index job.shape (tablet_gate tablet)) (Sub 1)
-stage_next job tablet TakingTurn = does (index job.shape (turn tablet)) (Exchange 0 (job.mutator + 1))
-stage_next job tablet LoadingLeaving = does (index job.shape (leaving tablet)) Load
-stage_next job tablet LoadingTop = does (index job.shape (top tablet)) Load
-stage_next job tablet (LoadingEntry kept place) = does (index job.shape (entry (tablet * job.shape.entries + place))) Load
-stage_next job tablet (LoadingHome kept name) = does (index job.shape (home tablet)) Load
-stage_next job tablet (Making made part) = part_next job tablet made part
-stage_next job tablet GivingTurn = does (index job.shape (turn tablet)) (Store 0)
-stage_next job tablet Leaving = does (index job.shape (tablet_gate tablet)) (Sub 1)
-stage_next job tablet (Ended found) = NoStep
+stage_next job t Arriving = does (index job.shape (tablet_gate t)) (Add 1)
+stage_next job t TurnedAway = does (index job.shape (tablet_gate t)) (Sub 1)
+stage_next job t TakingTurn = does (index job.shape (turn t)) (Exchange 0 (job.mutator + 1))
+stage_next job t LoadingLeaving = does (index job.shape (leaving t)) Load
+stage_next job t LoadingTop = does (index job.shape (top t)) Load
+stage_next job t (LoadingEntry kept place) = does (index job.shape (entry (t * job.shape.entries + place))) Load
+stage_next job t (LoadingHome kept name) = does (index job.shape (home t)) Load
+stage_next job t (Making made part) = part_next job t made part
+stage_next job t GivingTurn = does (index job.shape (turn t)) (Store 0)
+stage_next job t Leaving = does (index job.shape (tablet_gate t)) (Sub 1)
+stage_next job t (Ended found) = NoStep
 
 abbrev pub next_by : Job → Progress → Step
 next_by job progress = stage_next job (tablet_at job progress.passed) progress.stage
@@ -115,31 +115,34 @@ abbrev pub top_fed : Job → ℕ → NewStage
 top_fed job kept = if nat_le (kept + job.fields + 1) job.shape.words then seeking job kept 0 else GivingTurn
 
 abbrev pub entry_fed : Job → ℕ → ℕ → ℕ → Option ℕ → NewStage
-entry_fed job tablet kept place (Some generation) = LoadingHome kept (record { entry = tablet * job.shape.entries + place; generation = generation })
-entry_fed job tablet kept place None = seeking job kept (place + 1)
+entry_fed job t kept place (Some generation) =
+    LoadingHome kept (record { entry = t * job.shape.entries + place; generation = generation })
+entry_fed job t kept place None = seeking job kept (place + 1)
 
 -- the field with this number, or past the last one the top
 abbrev pub field_or_top : Job → ℕ → Part
 field_or_top job i = if nat_lt i job.fields then Field i else Top
 
 abbrev pub part_fed : Job → ℕ → NewRecord → Part → NewStage
-part_fed job tablet made Header = Making made (field_or_top job 0)
-part_fed job tablet made (Field i) = Making made (field_or_top job (i + 1))
-part_fed job tablet made Top = Making made Entry
-part_fed job tablet made Entry = Ended (Made made.name tablet)
+part_fed job t made Header = Making made (field_or_top job 0)
+part_fed job t made (Field i) = Making made (field_or_top job (i + 1))
+part_fed job t made Top = Making made Entry
+part_fed job t made Entry = Ended (Made made.name t)
 
 abbrev pub stage_fed : Job → ℕ → Progress → NewStage → ℕ → Progress
-stage_fed job tablet progress Arriving w = if is_shut w then noted progress (Shut tablet w) TurnedAway else at progress TakingTurn
-stage_fed job tablet progress TurnedAway w = passed_on job progress
-stage_fed job tablet progress TakingTurn w = if w == 0 then at progress LoadingLeaving else noted progress (Busy tablet w) Leaving
-stage_fed job tablet progress LoadingLeaving w = if w == 0 then at progress LoadingTop else noted progress (Moving tablet w) GivingTurn
-stage_fed job tablet progress LoadingTop w = at progress (top_fed job w)
-stage_fed job tablet progress (LoadingEntry kept place) w = at progress (entry_fed job tablet kept place (free_generation job.shape.generations w))
-stage_fed job tablet progress (LoadingHome kept name) w = at progress (Making (record { name = name; home = w; top = kept }) Header)
-stage_fed job tablet progress (Making made part) w = at progress (part_fed job tablet made part)
-stage_fed job tablet progress GivingTurn w = at progress Leaving
-stage_fed job tablet progress Leaving w = passed_on job progress
-stage_fed job tablet progress (Ended found) w = progress
+stage_fed job t p Arriving w = if is_shut w then noted p (Shut t w) TurnedAway else at p TakingTurn
+stage_fed job t p TurnedAway w = passed_on job p
+stage_fed job t p TakingTurn w = if w == 0 then at p LoadingLeaving else noted p (Busy t w) Leaving
+stage_fed job t p LoadingLeaving w = if w == 0 then at p LoadingTop else noted p (Moving t w) GivingTurn
+stage_fed job t p LoadingTop w = at p (top_fed job w)
+stage_fed job t p (LoadingEntry kept place) w =
+    at p (entry_fed job t kept place (free_generation job.shape.generations w))
+stage_fed job t p (LoadingHome kept name) w =
+    at p (Making (record { name = name; home = w; top = kept }) Header)
+stage_fed job t p (Making made part) w = at p (part_fed job t made part)
+stage_fed job t p GivingTurn w = at p Leaving
+stage_fed job t p Leaving w = passed_on job p
+stage_fed job t p (Ended found) w = p
 
 abbrev pub progress_fed : Job → Progress → ℕ → Progress
 progress_fed job progress w = stage_fed job (tablet_at job progress.passed) progress progress.stage w
@@ -182,7 +185,9 @@ stage_rank job Leaving = job.fields + 3
 stage_rank job (Ended found) = 0
 
 abbrev pub rank_by : Job → Progress → ℕ
-rank_by job progress = (all_tablets job.shape - (progress.passed + 1)) * steps_passed job.shape + stage_rank job progress.stage
+rank_by job progress =
+    (all_tablets job.shape - (progress.passed + 1)) * steps_passed job.shape
+    + stage_rank job progress.stage
 
 abbrev pub rank : Allocation → ℕ
 rank a = rank_by a.job a.progress

@@ -37,7 +37,8 @@ object_stores job t made =
     ∷ stores (index job.shape (entry made.name.entry)) (published job made)
     ∷ []
 
--- the tablet could be tried and had room, the entry of the record's name was found free, the tablet's home was loaded, and since then these acts were made
+-- the tablet could be tried and had room, and the entry of the record's name was found free;
+-- then its home was loaded, and since then these acts were made
 pub record IsMaking (job : Job) (trail : List Observation) (t : ℕ) (made : NewRecord) (acts : List Act) : Type 0 where
   pub earlier : List Observation
   pub word : ℕ
@@ -50,7 +51,10 @@ pub record IsMaking (job : Job) (trail : List Observation) (t : ℕ) (made : New
   pub room : HasRoom job made.top
   pub entered : IsEntered job earlier t
   pub top_seen : Contains earlier (sees job.shape (top t) Load made.top)
-  pub splits : trail ≡ earlier ++ sees job.shape (entry made.name.entry) Load word ∷ sees job.shape (home t) Load made.home ∷ later
+  pub splits : trail ≡ earlier
+      ++ sees job.shape (entry made.name.entry) Load word
+      ∷ sees job.shape (home t) Load made.home
+      ∷ later
   pub acts_are : map (λ (o : Observation). o.act) later ≡ acts
 
 -- the object of this name was made in this tablet: nothing but its stores stands behind the load of the home

@@ -12,7 +12,18 @@ use Rattle.mako_alloc.specs.declared.job.Job.{Job}
 -- one field, in cycle 1, in a heap of one tablet with one entry and regions of 16 words
 abbrev pub job : Job
 job = record {
-  shape = record { mutators = 1; servers = 1; tablets = 1; entries = 1; words = 16; spare = 1; ring = 1; roots = 1; cycles = 1; generations = 2 };
+  shape = record {
+    mutators = 1;
+    servers = 1;
+    tablets = 1;
+    entries = 1;
+    words = 16;
+    spare = 1;
+    ring = 1;
+    roots = 1;
+    cycles = 1;
+    generations = 2;
+  };
   mutator = 0;
   fields = 1;
   cycle = 1;

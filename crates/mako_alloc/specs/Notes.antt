@@ -13,9 +13,12 @@ use Rattle.mako_alloc.specs.Seen.{sees}
 
 -- the observation is the reason: a tablet's gate was shut, its turn was held, or it was leaving a region
 abbrev pub IsNote : Job → Observation → Pause → Type 0
-IsNote job o (Shut t w) = (t < all_tablets job.shape) × (o ≡ sees job.shape (tablet_gate t) (Add 1) w) × (is_shut w ≡ true)
-IsNote job o (Busy t w) = (t < all_tablets job.shape) × (o ≡ sees job.shape (turn t) (Exchange 0 (job.mutator + 1)) w) × (w ≢ 0)
-IsNote job o (Moving t w) = (t < all_tablets job.shape) × (o ≡ sees job.shape (leaving t) Load w) × (w ≢ 0)
+IsNote job o (Shut t w) =
+    (t < all_tablets job.shape) × (o ≡ sees job.shape (tablet_gate t) (Add 1) w) × (is_shut w ≡ true)
+IsNote job o (Busy t w) =
+    (t < all_tablets job.shape) × (o ≡ sees job.shape (turn t) (Exchange 0 (job.mutator + 1)) w) × (w ≢ 0)
+IsNote job o (Moving t w) =
+    (t < all_tablets job.shape) × (o ≡ sees job.shape (leaving t) Load w) × (w ≢ 0)
 IsNote job o _ = ⊥
 
 -- the observation is no reason

@@ -1,8 +1,9 @@
 -- Where a `new` stands at the tablets' gates, and what its trail shows of that.
-use Rattle.std.specs.Prelude.{◌≡◌, ℕ, ◌+◌, ◌<◌, ◌==◌, ◌&&◌, Bool, false, cond, List}
+use Rattle.std.specs.Prelude.{◌≡◌, ℕ, ◌+◌, ◌<◌, ◌==◌, ◌&&◌, Bool, false, List}
 use Rattle.std.specs.List.{count_by}
 use Rattle.mako_shape.specs.declared.numbers.Numbers.{Numbers}
 use Rattle.mako_shape.specs.Places.{index, tablet_gate, turn}
+use Rattle.mako_gate.specs.Standings.{Standing, inside, turned_away, at_tablet, with_turn, arrived, holds_turn}
 use Rattle.mako_step.specs.declared.act.Op.{Op}
 use Rattle.mako_step.specs.declared.act.Op.TheVariants.{Add, Sub, Store, Exchange}
 use Rattle.mako_step.specs.Trails.{Observation, Goes}
@@ -12,25 +13,6 @@ use Rattle.mako_alloc.specs.declared.job.Job.{Job}
 use Rattle.mako_alloc.specs.declared.progress.NewStage.{NewStage}
 use Rattle.mako_alloc.specs.declared.progress.NewStage.TheVariants.{Arriving, TurnedAway, TakingTurn, LoadingLeaving, LoadingTop, LoadingEntry, LoadingHome, Making, GivingTurn, Leaving, Ended}
 use Rattle.mako_alloc.specs.Allocating.{Allocation, IsJob, Fits, all_tablets, tablet_at, fed, next_of, opening}
-
--- inside its own gate alone, or at one tablet's gate, where it was turned away, is admitted, or is admitted and holds the tablet's turn
-pub data Standing : Type 0 where
-  inside : Standing
-  turned_away : ℕ → Standing
-  at_tablet : ℕ → Standing
-  with_turn : ℕ → Standing
-
--- 1 where it arrived at the tablet's gate and has not left
-abbrev pub arrived : ℕ → Standing → ℕ
-arrived t inside = 0
-arrived t (turned_away u) = cond (u == t) 1 0
-arrived t (at_tablet u) = cond (u == t) 1 0
-arrived t (with_turn u) = cond (u == t) 1 0
-
--- 1 where it holds the tablet's turn
-abbrev pub holds_turn : ℕ → Standing → ℕ
-holds_turn t (with_turn u) = cond (u == t) 1 0
-holds_turn t _ = 0
 
 abbrev pub end_standing : Found → Standing
 end_standing (Made name t) = with_turn t

@@ -3,7 +3,8 @@
 ghost use Rattle.mako_alloc.specs.Causes.{IsFull, IsMade};
 ghost use Rattle.mako_alloc.specs.Examples as example;
 ghost use Rattle.mako_alloc.specs.Notes.{IsFirstNote};
-ghost use Rattle.mako_alloc.specs.Standings.{StandsBy, with_turn};
+ghost use Rattle.mako_alloc.specs.Standings.{StandsBy};
+ghost use Rattle.mako_gate.specs.Standings.{with_turn};
 
 /// Ten observations make the object 0#1 in tablet 0, and leave its turn held.
 pub fn an_object_is_made()

@@ -5,7 +5,7 @@ ghost use Rattle.mako_shape.specs.Limits.{all_entries};
 ghost use Rattle.mako_shape.specs.Places.{total};
 ghost use Rattle.mako_step.specs.Acts.{IsWithin};
 ghost use Rattle.mako_alloc.specs.Allocating as allocating;
-ghost use Rattle.mako_alloc.specs.Allocating.{IsJob, IsKnown, IsPartKnown, HasRoom, IsRecord, FitsBy, all_tablets, tablet_at};
+ghost use Rattle.mako_alloc.specs.Allocating.{IsJob, IsKnown, IsPartKnown, IsRecord, FitsBy, all_tablets, tablet_at};
 
 use crate::found::Found;
 use crate::progress::{NewRecord, NewStage, Part, Progress};
