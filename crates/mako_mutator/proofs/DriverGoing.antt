@@ -38,7 +38,7 @@ first_known k Collect last None slot caller fits in_range below = record { calle
 first_known k Collect last (Some cycle) slot caller fits in_range below = record { caller = caller; call = fits; slot = below; stage = in_range; agrees = tt }
 
 -- it has not ended, and is not decided
-first_open : (call : Call) (asked : Option ℕ) → (outcome_in (calling.first_stage call asked) ≡ None) × (decided (calling.first_stage call asked) ≡ None)
+pub first_open : (call : Call) (asked : Option ℕ) → (outcome_in (calling.first_stage call asked) ≡ None) × (decided (calling.first_stage call asked) ≡ None)
 first_open (New root fields) asked = (refl, refl)
 first_open (Num root number) asked = (refl, refl)
 first_open (CopyRoot to from) asked = (refl, refl)

@@ -11,6 +11,7 @@ use Rattle.mako_alloc.proofs.Bounds.{some_tablet}
 use Rattle.mako_model.specs.declared.call.Call.{Call}
 use Rattle.mako_model.specs.declared.call.Call.TheVariants.{New, Num, CopyRoot, DropRoot, Get, Put, Show, Collect}
 use Rattle.mako_model.specs.declared.attempt.Attempt.{Attempt}
+use Rattle.mako_model.specs.declared.attempt.Attempt.TheVariants.{Answer, Full, Pause as Paused}
 use Rattle.mako_shape.specs.declared.numbers.Numbers.{Numbers}
 use Rattle.mako_shape.proofs.BelongingLaws.{belongings_in_range}
 use Rattle.mako_mutator.specs.declared.caller.Caller.{Caller}
@@ -19,7 +20,7 @@ use Rattle.mako_mutator.specs.declared.object.Access.TheVariants.{Get as Gets, P
 use Rattle.mako_mutator.specs.declared.object.Errand.{Errand}
 use Rattle.mako_mutator.specs.declared.object.Located.{Located}
 use Rattle.mako_mutator.specs.declared.call_stage.CallStage.{CallStage}
-use Rattle.mako_mutator.specs.Agreeing.{Arrives, AccessOf, IsCollect, outcome_asked, asked_of, AskedFits, StageOf}
+use Rattle.mako_mutator.specs.Agreeing.{Arrives, AccessOf, OutcomeOf, IsCollect, outcome_asked, asked_of, AskedFits, StageOf}
 use Rattle.mako_mutator.specs.Objects.{tablet_of, at_record, AccessIsKnown, ErrandIsKnown, LocatedIsKnown}
 use Rattle.mako_mutator.specs.Callers.{IsCaller}
 use Rattle.mako_mutator.specs.Allocating.{opening_search, search_bound}
@@ -33,7 +34,7 @@ pub record GoesOn (k : Caller) (call : Call) (r : ℕ) (stage : CallStage) : Typ
   pub lower : stage_rank k.shape stage < r
 
 -- it leaves its own gate
-pub leaves : (k : Caller) (call : Call) (r : ℕ) (outcome : Attempt) → Arrives call → 1 < r → GoesOn k call r (leaving outcome)
+pub leaves : (k : Caller) (call : Call) (r : ℕ) (outcome : Attempt) → OutcomeOf call outcome → 1 < r → GoesOn k call r (leaving outcome)
 leaves k call r outcome arrives h = record { known = tt; agrees = arrives; lower = h }
 
 -- the tablet of an object that is known
@@ -41,7 +42,7 @@ pub tablet_known : (k : Caller) (e : Errand) → ErrandIsKnown k.shape e → tab
 tablet_known k e known = belongings_in_range.entry k.shape e.object.entry known.0.1
 
 -- it leaves the tablet
-pub leaves_tablet : (k : Caller) (call : Call) (r t : ℕ) (outcome : Attempt) → Arrives call → t < k.shape.servers * k.shape.tablets → 2 < r → GoesOn k call r (leaving_tablet t outcome)
+pub leaves_tablet : (k : Caller) (call : Call) (r t : ℕ) (outcome : Attempt) → OutcomeOf call outcome → t < k.shape.servers * k.shape.tablets → 2 < r → GoesOn k call r (leaving_tablet t outcome)
 leaves_tablet k call r t outcome arrives tablet h = record { known = tablet; agrees = arrives; lower = h }
 
 -- a call that goes to an object arrives at its own gate
@@ -101,6 +102,13 @@ arrives_asked n (Get to from field) outcome h = tt
 arrives_asked n (Put to field from) outcome h = tt
 arrives_asked n (Show root) outcome h = tt
 arrives_asked n Collect outcome h = absurd h
+
+-- a call that leaves its own gate has arrived there
+pub outcome_arrives : (call : Call) (outcome : Attempt) → OutcomeOf call outcome → Arrives call
+outcome_arrives call (Answer reply) of = of
+outcome_arrives (New root fields) Full of = tt
+outcome_arrives _ Full of = absurd of
+outcome_arrives call (Paused pause) of = of
 
 -- what a collect comes to, that has asked for a cycle of the geometry if it has to wait
 pub collect_asked : (n : Numbers) (call : Call) (outcome : Attempt) → IsCollect call → AskedFits n (outcome_asked outcome) → AskedFits n (asked_of call outcome)

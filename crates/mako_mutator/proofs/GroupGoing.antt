@@ -56,7 +56,7 @@ use Rattle.mako_mutator.specs.declared.asking.AskStage.TheVariants.{LoadingPhase
 use Rattle.mako_mutator.specs.declared.leaving.LeaveStage.{LeaveStage}
 use Rattle.mako_mutator.specs.declared.leaving.LeaveStage.TheVariants.{Refused, TurnedAway, FromTablet, FromOwn}
 use Rattle.mako_mutator.specs.Callers.{IsCaller}
-use Rattle.mako_mutator.specs.Agreeing.{Arrives, RootStageOf, AccessOf, AllocStageOf, IsCollect}
+use Rattle.mako_mutator.specs.Agreeing.{RootStageOf, AccessOf, AllocStageOf, LeaveStageOf, IsCollect}
 use Rattle.mako_mutator.specs.Objects.{ValueIsKnown, ErrandIsKnown, LocatedIsKnown, tablet_of, at_object}
 use Rattle.mako_mutator.specs.Rooting.{source_fed, target_fed, root_fed, RootFits, root_rank, RootIsKnown}
 use Rattle.mako_mutator.specs.Entering.{enter_fed, EnterFits, enter_rank, EnterIsKnown}
@@ -66,7 +66,7 @@ use Rattle.mako_mutator.specs.Putting.{before_store, old_fed, put_fed, PutFits, 
 use Rattle.mako_mutator.specs.Allocating.{found_fed, search_fed, new_fed, NewFits, new_rank, SearchGoesOn, NewIsKnown}
 use Rattle.mako_mutator.specs.Asking.{finished_cycles, ask_fed, AskFits, ask_rank, AskIsKnown}
 use Rattle.mako_mutator.specs.Leaving.{outcome_of, leave_fed, leave_rank, LeaveIsKnown, leaving_tablet, answered_at}
-use Rattle.mako_mutator.proofs.Going.{GoesOn, leaves_tablet, tablet_known, located_tablet, access_arrives, at_goes, entry_fits, one_more, arrives_asked, collect_asked, named_fits, opening_known, opening_rank}
+use Rattle.mako_mutator.proofs.Going.{GoesOn, leaves_tablet, tablet_known, located_tablet, access_arrives, at_goes, entry_fits, one_more, arrives_asked, outcome_arrives, collect_asked, named_fits, opening_known, opening_rank}
 
 source_goes : (k : Caller) (to from field : ℕ) (v : Value) → to < k.shape.roots → FitsValue v → ValueIsKnown k.shape v → GoesOn k (Get to from field) 47 (source_fed to field v)
 source_goes k to from field Null h fits known = record { known = tt; agrees = tt; lower = omega arith }
@@ -191,11 +191,15 @@ put_goes k call slot at put (StoringBarrier old) w located known agrees fits = r
 put_goes k call slot at put StoringField w located known agrees fits =
     record { known = located_tablet k at located; agrees = access_arrives call (Puts put) agrees; lower = omega arith }
 
-pub leave_goes : (k : Caller) (call : Call) (last : Bool) (s : LeaveStage) → LeaveIsKnown k.shape s → Arrives call → GoesOn k call (leave_rank s) (leave_fed last s)
-leave_goes k call last (Refused word) known arrives = record { known = tt; agrees = arrives_asked k.shape call (Paused (Stopped word)) arrives; lower = omega arith }
-leave_goes k call last (TurnedAway tablet word) known arrives = record { known = tt; agrees = arrives; lower = omega arith }
-leave_goes k call last (FromTablet tablet outcome) known arrives = record { known = tt; agrees = arrives; lower = omega arith }
-leave_goes k call last (FromOwn outcome) known arrives = record { known = tt; agrees = arrives_asked k.shape call (outcome_of last outcome) arrives; lower = omega arith }
+pub leave_goes : (k : Caller) (call : Call) (last : Bool) (s : LeaveStage) → LeaveIsKnown k.shape s → LeaveStageOf call s → GoesOn k call (leave_rank s) (leave_fed last s)
+leave_goes k call last (Refused word) known of = record { known = tt; agrees = arrives_asked k.shape call (Paused (Stopped word)) of; lower = omega arith }
+leave_goes k call last (TurnedAway tablet word) known of = record { known = tt; agrees = of; lower = omega arith }
+leave_goes k call last (FromTablet tablet outcome) known of = record { known = tt; agrees = of; lower = omega arith }
+leave_goes k call last (FromOwn outcome) known of = record {
+  known = tt;
+  agrees = arrives_asked k.shape call (outcome_of last outcome) (outcome_arrives call outcome of);
+  lower = omega arith;
+}
 
 -- a number that is not the last is before it
 not_last : (a b : ℕ) → a ≤ b → (a ≡ b → ⊥) → a + 1 ≤ b

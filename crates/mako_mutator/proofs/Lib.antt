@@ -4,3 +4,5 @@ pub mod CallGoing
 pub mod Deciding
 pub mod ProgramCalls
 pub mod DriverGoing
+pub mod AnswerLaws
+pub mod Decided

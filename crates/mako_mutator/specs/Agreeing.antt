@@ -15,6 +15,8 @@ use Rattle.mako_mutator.specs.declared.rooting.RootStage.{RootStage}
 use Rattle.mako_mutator.specs.declared.rooting.RootStage.TheVariants.{StoringNumber, StoringNull, LoadingCopied, StoringCopied, LoadingShown, LoadingSource, LoadingTarget, LoadingValue, LoadingPhase}
 use Rattle.mako_mutator.specs.declared.allocating.AllocStage.{AllocStage}
 use Rattle.mako_mutator.specs.declared.allocating.AllocStage.TheVariants.{LoadingPhase as NewPhase, Searching, StoringRoot, GivingTurn}
+use Rattle.mako_mutator.specs.declared.leaving.LeaveStage.{LeaveStage}
+use Rattle.mako_mutator.specs.declared.leaving.LeaveStage.TheVariants.{Refused, TurnedAway, FromTablet, FromOwn}
 
 -- a call that arrives at the own gate
 abbrev pub Arrives : Call → Type 0
@@ -52,6 +54,22 @@ AllocStageOf (New root fields) (Searching r search) = (r ≡ root) × (search.jo
 AllocStageOf (New root fields) (StoringRoot r name tablet) = r ≡ root
 AllocStageOf (New root fields) (GivingTurn name tablet) = Unit {0}
 AllocStageOf call stage = ⊥
+
+abbrev pub IsNew : Call → Type 0
+IsNew (New root fields) = Unit {0}
+IsNew call = ⊥
+
+-- a new alone finds no room
+abbrev pub OutcomeOf : Call → Attempt → Type 0
+OutcomeOf call (Answer reply) = Arrives call
+OutcomeOf call Full = IsNew call
+OutcomeOf call (Paused pause) = Arrives call
+
+abbrev pub LeaveStageOf : Call → LeaveStage → Type 0
+LeaveStageOf call (Refused word) = Arrives call
+LeaveStageOf call (TurnedAway tablet word) = Arrives call
+LeaveStageOf call (FromTablet tablet outcome) = OutcomeOf call outcome
+LeaveStageOf call (FromOwn outcome) = OutcomeOf call outcome
 
 abbrev pub IsCollect : Call → Type 0
 IsCollect Collect = Unit {0}
@@ -97,5 +115,5 @@ StageOf n call (Getting at get s) = AccessOf call (Gets get)
 StageOf n call (Putting at put s) = AccessOf call (Puts put)
 StageOf n call (Allocating s) = AllocStageOf call s
 StageOf n call (Asking s) = IsCollect call
-StageOf n call (Leaving s) = Arrives call
+StageOf n call (Leaving s) = LeaveStageOf call s
 StageOf n call (Ended outcome) = AskedFits n (asked_of call outcome)

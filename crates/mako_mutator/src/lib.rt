@@ -9,6 +9,7 @@ mod caller;
 mod driver;
 mod entering;
 mod getting;
+pub mod laws;
 mod leaving;
 mod moving;
 mod object;
