@@ -1,8 +1,9 @@
 -- An attempt tells one point where it comes to an answer.
-use Rattle.std.proofs.Common.{◌≡◌, ℕ, List, [], ◌∷◌, ◌++◌, Option, Some, None, ap, sym, ◌∙◌, refl}
+use Rattle.std.proofs.Common.{◌≡◌, ℕ, List, [], ◌∷◌, ◌++◌, Option, Some, None, ap, sym, ◌∙◌, refl, arith}
+use Rattle.mako_model.specs.declared.call.Call.TheVariants.{New, Num, CopyRoot, DropRoot, Get, Put, Show, Collect}
 use Rattle.mako_model.specs.declared.reply.Reply.{Reply}
 use Rattle.mako_model.specs.declared.point.Point.TheVariants.{Did}
-use Rattle.mako_mutator.specs.Calls.{Calling, fed, decided, event_by, event_of, opening}
+use Rattle.mako_mutator.specs.Calls.{Calling, fed, decided, event_by, event_of, opening, RanksAreSmall}
 use Rattle.mako_mutator.specs.Deciding.{points_of, points_along, after, point_for, AnswersOnce}
 use Rattle.mako_mutator.proofs.Deciding.{decided_stays, ended_decided}
 use Rattle.mako_mutator.proofs.DriverGoing.{first_open}
@@ -33,3 +34,14 @@ answers_once = record {
   stays = decided_stays;
   comes_to = λ v outcome is. ended_decided v.stage outcome is;
 }
+
+pub ranks_are_small : RanksAreSmall
+ranks_are_small k (New root fields) last asked slot = omega arith
+ranks_are_small k (Num root x) last asked slot = omega arith
+ranks_are_small k (CopyRoot to from) last asked slot = omega arith
+ranks_are_small k (DropRoot root) last asked slot = omega arith
+ranks_are_small k (Get to from field) last asked slot = omega arith
+ranks_are_small k (Put to field from) last asked slot = omega arith
+ranks_are_small k (Show root) last asked slot = omega arith
+ranks_are_small k Collect last None slot = omega arith
+ranks_are_small k Collect last (Some cycle) slot = omega arith

@@ -6,3 +6,6 @@ pub mod ProgramCalls
 pub mod DriverGoing
 pub mod AnswerLaws
 pub mod Decided
+pub mod Evidence
+pub mod Shown
+pub mod Stopping

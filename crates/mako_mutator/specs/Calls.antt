@@ -1,5 +1,5 @@
 -- An attempt of a call, as a machine.
-use Rattle.std.specs.Prelude.{ℕ, Bool, true, false, ◌+◌, ◌*◌, ◌<◌, Option, Some, None}
+use Rattle.std.specs.Prelude.{◌≤◌, ℕ, Bool, true, false, ◌+◌, ◌*◌, ◌<◌, Option, Some, None}
 use Rattle.mako_words.specs.Gates.{IsPackedGate, is_shut}
 use Rattle.mako_shape.specs.declared.numbers.Numbers.{Numbers}
 use Rattle.mako_shape.specs.Places.{index, mutator_gate}
@@ -234,3 +234,8 @@ pub record IsKnown (v : Calling) : Type 0 where
   pub slot : v.slot < v.caller.shape.ring
   pub stage : StageIsKnown v.caller v.stage
   pub agrees : StageOf v.caller.shape v.call v.stage
+
+-- the steps of an attempt are at most so many
+abbrev pub RanksAreSmall : Type 0
+RanksAreSmall = (k : Caller) (call : Call) (last : Bool) (asked : Option ℕ) (slot : ℕ) →
+    rank (opening k call last asked slot) ≤ k.shape.servers * k.shape.tablets * (k.shape.entries + 6) + 64

@@ -12,5 +12,6 @@ pub mod Agreeing
 pub mod Calls
 pub mod Keeping
 pub mod Deciding
+pub mod Causes
 pub mod Drivers
 pub mod DriverHolds
