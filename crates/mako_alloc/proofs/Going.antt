@@ -144,7 +144,7 @@ stage_goes_on job passed reason t (LoadingHome kept name) w within known fits ac
     (Making (record { name = name; home = w; top = kept }) Header) known
     (record { name = known.stage.1; home = fits; room = known.stage.0 }, tt) (omega arith)
 stage_goes_on job passed reason t (Making made part) w within known fits act =
-    part_goes_on job passed reason t made part known
+    part_goes_on job passed reason t made part within known
 stage_goes_on job passed reason t GivingTurn w within known fits act =
     stays job _ reason Leaving known tt (omega arith)
 stage_goes_on job passed reason t Leaving w within known fits act = passes job _ known refl

@@ -26,7 +26,8 @@ use Rattle.mako_alloc.specs.Seen.{IsUsed, IsFullTablet, IsSeenUsed, sees}
 use Rattle.mako_step.proofs.Cases.{when_le, when_lt, when_eq, when_test}
 use Rattle.mako_alloc.proofs.Bounds.{entry_below, tablet_below}
 use Rattle.mako_alloc.proofs.Frees.{by_entry}
-use Rattle.mako_alloc.proofs.Trails.{did, Keeps}
+use Rattle.mako_step.proofs.Along.{did}
+use Rattle.mako_alloc.proofs.Trails.{Keeps}
 use Rattle.mako_alloc.proofs.NoteLaws.{NoteStands, kept, taken_up, sub_is_none, store_is_none, admitted_is_none, turn_is_none, load_is_none}
 use Rattle.mako_alloc.proofs.Evidence.{Evidence, StageShows, EndShows, AllFull, IsSearched, IsFoundFree, stores_before, still, last, still_admitted, still_entered, still_used, still_full, stored, are_stores}
 

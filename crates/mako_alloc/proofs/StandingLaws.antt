@@ -24,7 +24,8 @@ use Rattle.mako_gate.specs.Standings.{Standing, inside, turned_away, at_tablet, 
 use Rattle.mako_alloc.specs.Standings.{end_standing, stage_standing, standing_of, StandsAsShown, EndsAsShown, StandsBy, arrives_at, leaves_from, takes_turn, gives_turn}
 use Rattle.mako_step.proofs.Cases.{by_eq, when_eq, when_lt, when_le, when_test}
 use Rattle.mako_alloc.proofs.Bounds.{tablet_below}
-use Rattle.mako_alloc.proofs.Trails.{did, Keeps, Along, along}
+use Rattle.mako_step.proofs.Along.{did}
+use Rattle.mako_alloc.proofs.Trails.{Keeps, Along, along}
 use Rattle.mako_alloc.proofs.Caused.{opening_known}
 use Rattle.mako_alloc.proofs.Shown.{observed}
 

@@ -17,6 +17,7 @@ use Rattle.mako_step.specs.declared.act.Act.{Act}
 use Rattle.mako_step.specs.declared.act.Op.TheVariants.{Load}
 use Rattle.mako_step.specs.declared.step.Step.{Step}
 use Rattle.mako_step.specs.declared.step.Step.TheVariants.{Do, Ended as NoStep}
+use Rattle.mako_step.proofs.Along.{did, do_did, is_act, along}
 use Rattle.mako_step.proofs.Cases.{by_le, by_eq, by_bool}
 use Rattle.mako_model.specs.declared.call.Call.{Call}
 use Rattle.mako_model.specs.declared.call.Call.TheVariants.{New, Num, CopyRoot, DropRoot, Get, Put, Show, Collect}
@@ -78,11 +79,6 @@ use Rattle.mako_mutator.specs.Calls.{Calling, stage_next, next_of, admitted, arr
 use Rattle.mako_mutator.specs.Causes.{Searched, IsFirstIn, IsTrace, IsPut, IsPhaseSeen, PauseIsCaused, OutcomeIsCaused, OutcomesAreCaused}
 use Rattle.mako_mutator.proofs.CallGoing.{call_known}
 use Rattle.mako_mutator.proofs.Evidence.{AccessShows, PutShows, IsSearching, AllocShows, LeaveShows, StageShows, newest, still_phase, still_name, still_stopped, still_turned_away, still_caused, still_access}
-
--- the act that is made
-abbrev pub did : Step → Act
-did (Do act) = act
-did NoStep = record { word = 0; op = Load }
 
 -- the trail with what the next act finds
 abbrev pub longer : List Observation → Step → ℕ → List Observation
@@ -223,11 +219,6 @@ module _ (k : Caller) (call : Call) (trail : List Observation) (w : ℕ) where
   leave_shows last (FromTablet t o) h = still_caused trail _ k call o h
   leave_shows last (FromOwn o) h = own_shows last o (longer trail (leave_next k (FromOwn o)) w) (still_caused trail _ k call o h)
 
--- a step that is an act does it
-do_did : (step : Step) → IsAct step → step ≡ Do (did step)
-do_did (Do act) acts = refl
-do_did NoStep acts = absurd acts
-
 -- the search has gone one step further
 record Further (k : Caller) (root fields : ℕ) (trail : List Observation) (search : Allocation) : Type 0 where
   small : fields ≤ 14
@@ -356,9 +347,9 @@ first_shows k (Show root) asked = refl
 first_shows k Collect None = tt
 first_shows k Collect (Some cycle) = tt
 
-one_step : (k : Caller) (call : Call) (l : Calling) (trail : List Observation) (act : Act) (w : ℕ) → Along k call trail l → next_of l ≡ Do act → Fits l w → Along k call (trail ++ record { act = act; found = w } ∷ []) (fed l w)
-one_step k call l trail act w a next fits =
-    let acts : IsAct (next_of l) = subst IsAct (sym next) tt in
+one_step : (k : Caller) (call : Call) (l : Calling) (trail : List Observation) (act : Act) (w : ℕ) → next_of l ≡ Do act → Fits l w → Along k call trail l → Along k call (trail ++ record { act = act; found = w } ∷ []) (fed l w)
+one_step k call l trail act w next fits a =
+    let acts = is_act (next_of l) act next in
     let At : Caller → Call → Type 0 = λ j c. StageShows j c trail l.stage in
     let here : StageShows l.caller l.call trail l.stage = subst (λ j. At j l.call) (sym a.caller_is) (subst (λ c. At k c) (sym a.call_is) a.shows) in
     let on = stage_shows l.caller l.call l.last l.slot l.stage trail w a.known.caller a.known.stage a.known.agrees fits acts here in
@@ -370,17 +361,11 @@ one_step k call l trail act w a next fits =
       shows = subst (λ b. To k call b) (ap did next) (subst (λ j. To j call (did (next_of l))) a.caller_is (subst (λ c. To l.caller c (did (next_of l))) a.call_is on));
     }
 
-along : (k : Caller) (call : Call) (last : Bool) (asked : Option ℕ) (slot : ℕ) (m l : Calling) (trail : List Observation) → m ≡ opening k call last asked slot → IsKnown m →
-    Goes next_of Fits fed m trail l → Along k call trail l
-along k call last asked slot m l trail is known (stays _) =
-    let Start : Calling → Type 0 = λ v. (v.caller ≡ k) × (v.call ≡ call) × StageShows k call [] v.stage in
-    let start : Start m = subst Start (sym is) (refl, refl, first_shows k call asked) in
-    record { known = known; caller_is = start.0; call_is = start.1; shows = start.2 }
-along k call last asked slot m l trail is known (steps _ j before act w goes next fits) =
-    one_step k call j before act w (along k call last asked slot m j before is known goes) next fits
+opens : (k : Caller) (call : Call) (last : Bool) (asked : Option ℕ) (slot : ℕ) → IsKnown (opening k call last asked slot) → Along k call [] (opening k call last asked slot)
+opens k call last asked slot known = record { known = known; caller_is = refl; call_is = refl; shows = first_shows k call asked }
 
 pub outcomes_are_caused : OutcomesAreCaused
 outcomes_are_caused k call last asked slot trail l outcome known goes ended =
-    let a = along k call last asked slot (opening k call last asked slot) l trail refl known goes in
+    let a = along next_of Fits fed (λ j t. Along k call t j) (one_step k call) (opening k call last asked slot) l trail (opens k call last asked slot known) goes in
     let P : CallStage → Type 0 = λ s. StageShows k call trail s in
     subst P ended a.shows
