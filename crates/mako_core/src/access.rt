@@ -6,8 +6,8 @@ ghost use Rattle.mako_words.specs.Entries as entries;
 ghost use Rattle.mako_shape.specs.Limits.{IsShape};
 ghost use Rattle.mako_shape.specs.Places.{root, entry, index, total, word_at};
 
-use crate::flat_words::FlatWords;
 use mako_shape::Shape;
+use mako_step::{Act, FlatWords, Op, Words};
 use mako_words::{EntryWord, Value};
 
 /// The only mutator.
@@ -37,6 +37,17 @@ pub fn root_value(shape: &Shape, words: &FlatWords, number: u8) -> Value
     value_of(words.word(shape.root(MUTATOR, u32::from(number))))
 }
 
+/// Changes the word with this index.
+pub fn store(words: &mut FlatWords, index: u32, word: u64)
+    requires { index < length words.old }
+    ensures { words.new ≡ slice_set words.old index word }
+{
+    let _found = words.act(Act {
+        word: index,
+        op: Op::Store(word),
+    });
+}
+
 /// A root becomes the value.
 pub fn set_root(shape: &Shape, words: &mut FlatWords, number: u8, value: Value)
     requires shape { IsShape shape.now }
@@ -45,7 +56,7 @@ pub fn set_root(shape: &Shape, words: &mut FlatWords, number: u8, value: Value)
     requires fits { FitsValue value }
     ensures { words.new ≡ slice_set words.old (index shape.now (root 0 number)) (value_word value) }
 {
-    words.store(shape.root(MUTATOR, u32::from(number)), value.pack());
+    store(words, shape.root(MUTATOR, u32::from(number)), value.pack());
 }
 
 /// A table entry.

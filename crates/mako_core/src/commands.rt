@@ -12,12 +12,12 @@ ghost use Rattle.mako_script.specs.Forms.{record_words};
 ghost use Rattle.mako_core.specs.StandsFor.{StandsFor, IsFilled, KeepsTable};
 ghost use Rattle.mako_core.specs.Commands.{IsReady, IsPlainReply, objects_by};
 
-use crate::access::{entry_at, root_value, set_root, value_of};
-use crate::flat_words::FlatWords;
+use crate::access::{entry_at, root_value, set_root, store, value_of};
 use crate::making::{free_entry, make_object};
 use mako_model::{Call, Journal, Reply};
 use mako_script::Script;
 use mako_shape::Shape;
+use mako_step::{FlatWords, Words};
 use mako_words::{Name, Value};
 use std::snapshot::Snapshot;
 
@@ -78,7 +78,7 @@ pub fn put_field(shape: &Shape, words: &mut FlatWords, to: u8, field: u8, from: 
     if words.word(address) <= u64::from(field) {
         return Reply::NoField;
     }
-    words.store(address + 1 + u32::from(field), value.pack());
+    store(words, address + 1 + u32::from(field), value.pack());
     Reply::Done
 }
 

@@ -7,10 +7,10 @@ ghost use Rattle.mako_script.specs.Forms.{all_calls};
 ghost use Rattle.mako_script.specs.Workloads.{workload_of};
 
 use crate::commands::{carry_out, make};
-use crate::flat_words::FlatWords;
 use mako_model::{Call, Cycles, Front, Journal, Outcome, Point, Reply};
 use mako_script::Script;
 use mako_shape::Shape;
+use mako_step::{FlatWords, Words};
 use mako_words::Memory;
 use std::alloc::Global;
 use std::marker::Model;

@@ -4,10 +4,8 @@
 mod access;
 mod commands;
 mod core_state;
-mod flat_words;
 mod making;
 mod order;
 
 pub use core_state::Core;
-pub use flat_words::FlatWords;
 pub use order::Order;

@@ -7,9 +7,9 @@ ghost use Rattle.mako_shape.specs.Places.{index, total, word_at};
 ghost use Rattle.mako_core.specs.StandsFor as stands;
 ghost use Rattle.mako_core.specs.StandsFor.{IsMade, IsWritten};
 
-use crate::access::entry_at;
-use crate::flat_words::FlatWords;
+use crate::access::{entry_at, store};
 use mako_shape::Shape;
+use mako_step::{FlatWords, Words};
 use mako_words::{EntryWord, Name};
 
 /// The only tablet.
@@ -38,9 +38,9 @@ pub fn write_record(words: &mut FlatWords, address: u32, fields: u8)
     requires small { length words.old < 2 ^ 32 }
     ensures { IsWritten words.old words.new address fields }
 {
-    words.store(address, u64::from(fields));
+    store(words, address, u64::from(fields));
     for field in 0..u32::from(fields) {
-        words.store(address + 1 + field, 0);
+        store(words, address + 1 + field, 0);
     }
 }
 
@@ -76,6 +76,6 @@ pub fn make_object(shape: &Shape, words: &mut FlatWords, name: Name, fields: u8)
         address,
     };
     write_record(words, address, fields);
-    words.store(shape.top(TABLET), top);
-    words.store(shape.entry(name.entry), entry.pack());
+    store(words, shape.top(TABLET), top);
+    store(words, shape.entry(name.entry), entry.pack());
 }

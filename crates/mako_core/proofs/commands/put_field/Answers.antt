@@ -62,7 +62,7 @@ returns-clause-stands g c =
     let here = ap (λ (e : EntryWord). get_or ws e.address 0) c.entry_at-address.ensures in
     let less : c.args.field < length read.fields = omega (arith, read.header, here, c.word.ensures, c.from.ensures) in
     let from = root_is n ws g.heap order c.requires.1.0 c.args.from c.root_value-value.result c.requires.1.1.1 c.root_value-value.ensures.fits c.root_value-value.ensures.packed in
-    let stored : set ws (address_at n ws c.in-Ref.name.entry + 1 + c.args.field) (value_word c.root_value-value.result) ≡ c.store.new.self =
+    let stored : set ws (address_at n ws c.in-Ref.name.entry + 1 + c.args.field) (value_word c.root_value-value.result) ≡ c.store.new.words =
     (λ i. set ws ((sym c.entry_at-address.ensures i).address + 1 + sym c.from-2.ensures i) (sym c.pack.ensures i)) ∙ sym c.store.ensures in
     let Stands : List ℕ → Type 0 = λ us. StandsFor n us (with_field g.heap (root_of g.heap 0 c.args.to) c.args.field (root_of g.heap 0 c.args.from)) in
     subst Stands stored (field_put n ws g.heap order c.requires.1.0 c.args.to c.args.field c.args.from c.in-Ref.name read.fields c.root_value-value.result read.refers from less)

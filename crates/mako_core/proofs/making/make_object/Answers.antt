@@ -36,7 +36,7 @@ returns c =
     let raised : word_at n ws (places.top 0) + c.args.fields + 1 ≡ c.word.result + c.from.result + 1 = omega (arith, c.from.ensures, used) in
     let packed : entry_word (taken_entry c.args.name.generation (stands.free_address n ws)) ≡ c.pack.result =
     ap (λ a. entry_word (taken_entry c.args.name.generation a)) (sym here) ∙ sym c.pack.ensures in
-    let inner : set vs (index n (places.top 0)) (word_at n ws (places.top 0) + c.args.fields + 1) ≡ c.store.new.self =
+    let inner : set vs (index n (places.top 0)) (word_at n ws (places.top 0) + c.args.fields + 1) ≡ c.store.new.words =
     (λ i. set vs (sym c.top-2.ensures.index i) (raised i)) ∙ sym c.store.ensures in
     let Made : List ℕ → Type 0 = λ us. IsMade n ws us c.args.name.entry c.args.name.generation c.args.fields in
     subst Made ((λ i. set (inner i) (sym c.entry.ensures.index i) (packed i)) ∙ sym c.store-2.ensures) made
