@@ -10,7 +10,7 @@ use Rattle.mako_script.specs.Forms.{IsAccepted}
 use Rattle.mako_script.specs.Outputs.{output_text}
 use Rattle.mako_script.specs.Scripts.{ScriptView}
 use Rattle.mako_script.specs.Texts.{IsScript}
-use Rattle.mako_script.specs.Workloads.{workload_of}
+use Rattle.mako_script.specs.ScriptFacts.{facts_of}
 use Rattle.mako_cli.specs.declared.ended.Ended.{Ended}
 use Rattle.mako_cli.specs.declared.settled.Settled.{Settled}
 use Rattle.mako_cli.specs.declared.settled.Settled.TheVariants.{Done, Usage, NoScript, ReadFault, Memory}
@@ -38,10 +38,10 @@ text_of Memory = codes "memory\n"
 -- the front of the run, empty where there was none
 abbrev pub front_of : Settled → Seen
 front_of (Done script outcome) = outcome.front
-front_of Usage = record { history = []; cycles = [] }
-front_of NoScript = record { history = []; cycles = [] }
-front_of ReadFault = record { history = []; cycles = [] }
-front_of Memory = record { history = []; cycles = [] }
+front_of Usage = record { history = []; finished = [] }
+front_of NoScript = record { history = []; finished = [] }
+front_of ReadFault = record { history = []; finished = [] }
+front_of Memory = record { history = []; finished = [] }
 
 -- the bytes are all that the source had, where it tells them, and are not too many
 pub record IsWhole (old new : Option (List ℕ)) (bytes : List ℕ) : Type 0 where
@@ -55,8 +55,8 @@ pub record IsAnswered (old new : Option (List ℕ)) (script : ScriptView) (front
   pub whole : IsWhole old new bytes
   pub accepted : IsAccepted script
   pub spelled : IsScript bytes script
-  pub answers : AnswersToEnd (workload_of script) front
-  pub cycles : front.cycles ≡ []
+  pub answers : AnswersToEnd (facts_of script) front
+  pub cycles : front.finished ≡ []
 
 -- the bytes are not those of a script that is accepted
 pub record IsUnaccepted (old new : Option (List ℕ)) : Type 0 where
@@ -73,23 +73,23 @@ Settles old new rose NoScript = TakesMore max_bytes old new ⊎ IsUnaccepted old
 Settles old new rose ReadFault = rose
 Settles old new rose Memory = Unit {0}
 
--- the outcome of a run has the lists of its front, one for each program, and the front follows the programs
+-- the outcome of a run has the replies and the cycles of its front, a list of replies for each program, and the front follows the programs
 abbrev pub IsTellable : Settled → Type 0
-IsTellable (Done script outcome) = outcomes.IsWhole outcome × (length (outcomes.reply_lists outcome) ≡ length script.programs)
+IsTellable (Done script outcome) = outcomes.IsWhole outcome × outcomes.AreCyclesOfFront outcome × (length (outcomes.reply_lists outcome) ≡ length script.programs)
     × FollowsPrograms (map (λ p. p.calls) script.programs) outcome.front.history
 IsTellable Usage = Unit {0}
 IsTellable NoScript = Unit {0}
 IsTellable ReadFault = Unit {0}
 IsTellable Memory = Unit {0}
 
--- only a front of the text went out, and the sink's count of faults rose
+-- only a prefix of the text went out, and the sink's count of faults rose
 pub record IsCut (text : List ℕ) (old new : Option (List ℕ)) (rose : Type 0) : Type 0 where
   pub cause : rose
   pub went : ℕ
   pub short : went < length text
   pub taken : Appends old new (take went text)
 
--- the text went out whole with its status, or only a front of it with that of a write fault
+-- the text went out whole with its status, or only a prefix of it with that of a write fault
 abbrev pub IsWritten : List ℕ → ℕ → Option (List ℕ) → Option (List ℕ) → Type 0 → ℕ → Type 0
 IsWritten text whole old new rose status =
     ((status ≡ whole) × Appends old new text) ⊎ ((status ≡ 4) × IsCut text old new rose)

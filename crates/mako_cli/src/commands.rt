@@ -46,7 +46,7 @@ fn settle<S: Source>(alloc: Global, source: &mut S) -> Settled
 /// Writes the one line of a command that carried out no script.
 fn tell_line<K: Sink>(alloc: Global, sink: &mut K, text: &[u8], status: u8) -> Ended
     ensures written { IsWritten text.now status (K.taken sink.old) (K.taken sink.new) (Rose (K.faults sink.old) (K.faults sink.new)) result.status }
-    ensures front { result.front ≡ record { history = []; cycles = [] } }
+    ensures front { result.front ≡ record { history = []; finished = [] } }
     ensures counted { K.faults sink.old ≤ K.faults sink.new }
 {
     let status = match write_all(sink, text) {
@@ -77,6 +77,7 @@ fn tell<K: Sink>(alloc: Global, sink: &mut K, settled: Settled) -> Ended
 /// Writes the output of a run that went to its end.
 fn tell_run<K: Sink>(sink: &mut K, script: &Script, outcome: Outcome) -> Ended
     requires whole { outcomes.IsWhole outcome }
+    requires freed { outcomes.AreCyclesOfFront outcome }
     requires lists { length (outcomes.reply_lists outcome) ≡ length script.now.programs }
     requires follows { FollowsPrograms (map (λ p. p.calls) script.now.programs) outcome.front.history }
     ensures front { result.front ≡ outcome.front }

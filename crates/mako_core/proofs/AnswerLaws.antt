@@ -22,7 +22,7 @@ use Rattle.mako_model.specs.LawfulFronts.{IsInRange}
 use Rattle.mako_model.specs.Answering.{Answers, AnswersToEnd}
 use Rattle.mako_script.specs.Forms.{all_calls, IsAccepted}
 use Rattle.mako_script.specs.Programs.{ProgramView}
-use Rattle.mako_script.specs.Workloads.{workload_of}
+use Rattle.mako_script.specs.ScriptFacts.{facts_of}
 use Rattle.mako_core.specs.Commands.{IsPlainPoint}
 use Rattle.mako_core.specs.Runs.{CoreState, IsRun}
 
@@ -33,7 +33,7 @@ plain_point n (q ∷ before) after p all = plain_point n before after p all.1
 
 -- the front of a history, without finished cycles
 abbrev pub front_of : List Point → Seen
-front_of history = record { history = history; cycles = [] }
+front_of history = record { history = history; finished = [] }
 
 -- plain points take no snapshot
 plain_snaps : (n : Numbers) (h : Heap) (points : List Point) → AllByRecursion (IsPlainPoint n) points → (fold heap_after h points).snaps ≡ h.snaps
@@ -75,7 +75,7 @@ one_program (p ∷ q ∷ ps) m program one at = absurd (omega arith)
 one_program (p ∷ []) zero program one at = let same : p.calls ≡ program = cc in (refl, append-nil p.calls ∙ same)
 one_program (p ∷ []) (suc m) program one at = cc
 
-pub run_answers : (c : CoreState) → IsAccepted c.script → IsRun c → Answers (workload_of c.script) (front_of c.history)
+pub run_answers : (c : CoreState) → IsAccepted c.script → IsRun c → Answers (facts_of c.script) (front_of c.history)
 run_answers c accepted run =
     let s = c.script in
     let n = s.numbers in
@@ -86,13 +86,13 @@ run_answers c accepted run =
       lawful = record {
         legal = run.legal;
         finished = omega arith;
-        unfinished = omega (arith, plain_snaps n (opening_of (workload_of s)) h run.plain);
+        unfinished = omega (arith, plain_snaps n (opening_of (facts_of s)) h run.plain);
         freed = λ i names at. cc;
         waits = λ before after mutator call cycle e. absurd (plain_at before after (Did mutator call (reply.Cycle cycle)) e).1;
         names = λ name made. elim (Contains-append_cases (board_name ∷ []) (flat_map made_by h) name made) [
           | inl board ↦ elim (Contains-push_cases [] board_name name board) [
             | inl none ↦ absurd (omega (arith, none.1))
-            | inr same ↦ subst (IsInRange (workload_of s)) same (record { entry = omega (arith, run.filled.few); generation = omega (arith, accepted.proper.shape.in_range.each) })
+            | inr same ↦ subst (IsInRange (facts_of s)) same (record { entry = omega (arith, run.filled.few); generation = omega (arith, accepted.proper.shape.in_range.each) })
           ]
           | inr there ↦ (let first = plain_names n h name run.plain there in record { entry = first.entry; generation = omega (arith, first.generation, accepted.proper.shape.in_range.each) })
         ];
@@ -103,10 +103,10 @@ run_answers c accepted run =
       programs = λ m program at.
           let only = one_program s.programs m program accepted.form.single at in
           let k = length h in
-          (drop k program, sym (take-append-drop k program) ∙ ap (λ xs. xs ++ drop k program) (ap (take k) (sym only.1) ∙ sym run.calls ∙ ap (λ i. calls_by i h) (sym only.0)));
+          (drop k program, ap (λ xs. xs ++ drop k program) (ap (λ i. calls_by i h) only.0 ∙ run.calls ∙ ap (take k) only.1) ∙ take-append-drop k program);
     }
 
-pub run_answers_to_end : (c : CoreState) → IsAccepted c.script → IsRun c → length c.history ≡ length (all_calls c.script) → AnswersToEnd (workload_of c.script) (front_of c.history)
+pub run_answers_to_end : (c : CoreState) → IsAccepted c.script → IsRun c → length c.history ≡ length (all_calls c.script) → AnswersToEnd (facts_of c.script) (front_of c.history)
 run_answers_to_end c accepted run end = record {
   answers = run_answers c accepted run;
   all = λ m program at.

@@ -1,9 +1,10 @@
 -- The opening: all words 0 stand for a heap without objects, and the board is made in it.
 use Rattle.std.proofs.Common.{◌≡◌, ℕ, zero, suc, ◌+◌, ◌-◌, ◌<◌, ◌≤◌, List, [], ◌∷◌, length, get_or, set, arith, refl, ap, subst, ◌∙◌, sym}
 use Rattle.std.specs.Prelude.{Some, None, slice_get, replicate}
+use Rattle.std.specs.Prelude.{map as map_list}
 use Rattle.std.specs.FinMap as map
 use Rattle.std.specs.List.{flat_map}
-use Rattle.std.proofs.lemmas.List.{length-replicate, append-nil}
+use Rattle.std.proofs.lemmas.List.{length-replicate, length-map, append-nil}
 use Rattle.std.proofs.lemmas.Option.{slice_get_within}
 use Rattle.mako_words.specs.declared.name.Name.{Name}
 use Rattle.mako_words.specs.declared.value.Value.{Value}
@@ -17,7 +18,7 @@ use Rattle.mako_model.specs.Legal.{opening_of}
 use Rattle.mako_script.specs.Forms.{IsAccepted}
 use Rattle.mako_script.specs.Programs.{ProgramView}
 use Rattle.mako_script.specs.Scripts.{ScriptView}
-use Rattle.mako_script.specs.Workloads.{workload_of}
+use Rattle.mako_script.specs.ScriptFacts.{facts_of}
 use Rattle.mako_core.specs.StandsFor.{StandsFor, IsFilled, Shows}
 use Rattle.mako_core.specs.Runs.{IsRun, blank}
 use Rattle.mako_model.proofs.Lists.{get_replicate, get_replicate_within}
@@ -67,9 +68,11 @@ open_roots (suc zero) zero v one some = absurd (omega arith)
 open_roots (suc zero) (suc q) v one some = let e : suc q - 1 ≡ q = omega arith in rw e refl
 
 -- the heap without objects, in which the board is made, is the opening
-pub board_made : (s : ScriptView) → s.numbers.mutators ≡ 1 → 1 ≤ s.numbers.roots →
-    with_root (with_fields (blank s.numbers) board_name (replicate s.board Null)) 0 0 (Ref board_name) ≡ opening_of (workload_of s)
-board_made s one some = let roots = open_roots s.numbers.mutators s.numbers.roots (Ref board_name) one some in
+pub board_made : (s : ScriptView) → s.numbers.mutators ≡ length s.programs → s.numbers.mutators ≡ 1 → 1 ≤ s.numbers.roots →
+    with_root (with_fields (blank s.numbers) board_name (replicate s.board Null)) 0 0 (Ref board_name) ≡ opening_of (facts_of s)
+board_made s same one some =
+    let count : s.numbers.mutators ≡ length (map_list (λ p. p.calls) s.programs) = same ∙ sym (length-map s.programs (λ p. p.calls)) in
+    let roots = open_roots s.numbers.mutators s.numbers.roots (Ref board_name) one some ∙ ap (λ (m : ℕ). replicate m (Ref board_name ∷ replicate (s.numbers.roots - 1) Null)) count in
     λ i. record { objects = map.insert map.empty board_name (replicate s.board Null); roots = roots i; snaps = 0; cycles = s.numbers.cycles }
 
 -- the run of a script begins where the board has been made
@@ -86,7 +89,7 @@ run_opened s ws us accepted zeros stands filled used =
       calls = refl;
       plain = tt;
       legal = tt;
-      stands = subst Stands (board_made s one roots) stands;
+      stands = subst Stands (board_made s accepted.proper.mutators one roots) stands;
       filled = filled;
       used = omega (arith, used, ap (λ xs. get_or xs (index s.numbers (top 0)) 0) zeros, zero_word (total s.numbers) (index s.numbers (top 0)));
     }

@@ -18,7 +18,7 @@ use Rattle.mako_model.specs.Legal.{state_of}
 use Rattle.mako_model.proofs.Histories.{state_push, legal_push}
 use Rattle.mako_script.specs.Forms.{is_new, is_plain, record_words, all_calls, IsAccepted}
 use Rattle.mako_script.specs.Programs.{ProgramView, IsCall, AreCalls, defined_after, IsProgram}
-use Rattle.mako_script.specs.Workloads.{workload_of}
+use Rattle.mako_script.specs.ScriptFacts.{facts_of}
 use Rattle.mako_core.specs.StandsFor.{StandsFor, IsFilled}
 use Rattle.mako_core.specs.Commands.{IsReady, IsPlainReply, IsPlainPoint, objects_by}
 use Rattle.mako_core.specs.Runs.{CoreState, IsRun}
@@ -124,8 +124,8 @@ run_ready c call accepted run at =
 
 -- a run goes on by a command that was carried out
 pub run_pushed : (c : CoreState) (us : List ℕ) (call : Call) (reply : Reply) → IsRun c → slice_get (all_calls c.script) (length c.history) ≡ Some call →
-    IsLawfulReply (state_of (workload_of c.script) c.history) 0 call reply → IsPlainReply c.script.numbers reply →
-    StandsFor c.script.numbers us (heap_replied (state_of (workload_of c.script) c.history) 0 call reply) →
+    IsLawfulReply (state_of (facts_of c.script) c.history) 0 call reply → IsPlainReply c.script.numbers reply →
+    StandsFor c.script.numbers us (heap_replied (state_of (facts_of c.script) c.history) 0 call reply) →
     IsFilled c.script.numbers us (1 + count_by is_new (take (length c.history) (all_calls c.script)) + objects_by call) →
     word_at c.script.numbers us (top 0) ≡ word_at c.script.numbers c.words (top 0) + record_words call →
     IsRun (record { script = c.script; words = us; history = c.history ++ Did 0 call reply ∷ [] })
@@ -144,8 +144,8 @@ run_pushed c us call reply run at lawful plain stands filled used =
       within = omega (arith, long);
       calls = calls_push 0 c.history call reply ∙ ap (λ xs. xs ++ call ∷ []) run.calls ∙ ap (λ x. take i calls ++ x ∷ []) (sym here) ∙ sym (take_more calls i Collect inside) ∙ ap (λ k. take k calls) (sym long);
       plain = plain_push s.numbers c.history p run.plain (refl, plain);
-      legal = legal_push (workload_of s) c.history p run.legal lawful;
-      stands = rw (state_push (workload_of s) c.history p) stands;
+      legal = legal_push (facts_of s) c.history p run.legal lawful;
+      stands = rw (state_push (facts_of s) c.history p) stands;
       filled = subst Filled (omega (arith, news, ap (λ k. count_by is_new (take k calls)) long, ap objects_by here)) filled;
       used = omega (arith, used, run.used, words, ap (λ k. sum_by record_words (take k calls)) long, ap record_words here);
     }

@@ -15,7 +15,7 @@ use Rattle.mako_model.specs.Heaps.{Heap}
 use Rattle.mako_words.specs.declared.value.Value.TheVariants.{Null}
 use Rattle.mako_script.specs.Forms.{is_new, record_words, all_calls}
 use Rattle.mako_script.specs.Scripts.{ScriptView}
-use Rattle.mako_script.specs.Workloads.{workload_of}
+use Rattle.mako_script.specs.ScriptFacts.{facts_of}
 use Rattle.mako_core.specs.StandsFor.{StandsFor, IsFilled}
 use Rattle.mako_core.specs.Commands.{IsPlainPoint}
 
@@ -31,8 +31,8 @@ pub record IsRun (c : CoreState) : Type 0 where
   pub within : length c.history ≤ length (all_calls c.script)
   pub calls : calls_by 0 c.history ≡ take (length c.history) (all_calls c.script)
   pub plain : AllByRecursion (IsPlainPoint c.script.numbers) c.history
-  pub legal : IsLegal (workload_of c.script) c.history
-  pub stands : StandsFor c.script.numbers c.words (state_of (workload_of c.script) c.history)
+  pub legal : IsLegal (facts_of c.script) c.history
+  pub stands : StandsFor c.script.numbers c.words (state_of (facts_of c.script) c.history)
   pub filled : IsFilled c.script.numbers c.words (1 + count_by is_new (take (length c.history) (all_calls c.script)))
   pub used : word_at c.script.numbers c.words (top 0) ≡ c.script.board + 1 + sum_by record_words (take (length c.history) (all_calls c.script))
 
@@ -42,12 +42,12 @@ blank n = record { objects = map.empty; roots = replicate n.mutators (replicate 
 
 -- the heap that the history of a run leaves, and how many objects were made with the board
 abbrev pub standing_in : ScriptView → List Point → Heap × ℕ
-standing_in s history = (state_of (workload_of s) history, 1 + count_by is_new (take (length history) (all_calls s)))
+standing_in s history = (state_of (facts_of s) history, 1 + count_by is_new (take (length history) (all_calls s)))
 
 -- the core after a command has one more point: the lawful reply to the next call of the script
 pub record AddsAnswer (before after : CoreState) : Type 0 where
   pub call : Call
   pub reply : Reply
   pub next : slice_get (all_calls before.script) (length before.history) ≡ Some call
-  pub lawful : IsLawfulReply (state_of (workload_of before.script) before.history) 0 call reply
+  pub lawful : IsLawfulReply (state_of (facts_of before.script) before.history) 0 call reply
   pub history : after.history ≡ before.history ++ Did 0 call reply ∷ []

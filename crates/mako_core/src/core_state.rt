@@ -4,7 +4,7 @@ ghost use Rattle.std.specs.Prelude.{◌≡◌, ◌<◌, ◌≤◌, ◌++◌, ◌
 ghost use Rattle.std.specs.Bool.{OnTrue, OnFalse};
 ghost use Rattle.mako_model.specs.Answering.{Answers, AnswersToEnd};
 ghost use Rattle.mako_script.specs.Forms.{all_calls};
-ghost use Rattle.mako_script.specs.Workloads.{workload_of};
+ghost use Rattle.mako_script.specs.ScriptFacts.{facts_of};
 
 use crate::commands::{carry_out, make};
 use mako_model::{Call, Cycles, Front, Journal, Outcome, Point, Reply};
@@ -43,7 +43,7 @@ impl Model for Core {
 
 impl Core {
     ghost use Rattle.mako_model.specs.declared.outcome.Outcome.{Outcome};
-    ghost use Rattle.mako_model.specs.Outcomes.{IsWhole, reply_lists};
+    ghost use Rattle.mako_model.specs.Outcomes.{IsWhole, AreCyclesOfFront, reply_lists};
     ghost use Rattle.mako_core.specs.Runs.{CoreState, AddsAnswer};
 
     /// The core of a script before its first command: the board is made, and nothing is answered.
@@ -109,11 +109,12 @@ impl Core {
     /// What the run came to so far: the replies, and the front.
     pub fn finish(self) -> Outcome
         ensures whole { IsWhole result }
+        ensures freed { AreCyclesOfFront result }
         ensures lists { length (reply_lists result) ≡ length self.script.programs }
         ensures history { result.front.history ≡ self.history }
-        ensures cycles { result.front.cycles ≡ [] }
-        ensures answers { Answers (workload_of self.script) result.front }
-        ensures end { length self.history ≡ length (all_calls self.script) → AnswersToEnd (workload_of self.script) result.front }
+        ensures cycles { result.front.finished ≡ [] }
+        ensures answers { Answers (facts_of self.script) result.front }
+        ensures end { length self.history ≡ length (all_calls self.script) → AnswersToEnd (facts_of self.script) result.front }
     {
         let Core {
             script: _,

@@ -15,7 +15,7 @@ Rose-after before mid now kept rose = omega arith
 pub Rose-before : (before mid now : ℕ) → Rose before mid → mid ≤ now → Rose before now
 Rose-before before mid now rose kept = omega arith
 
--- a sink that took a front of a piece, and then a front of what was left of it, took both
+-- a sink that took a prefix of a piece, and then a prefix of what was left of it, took both
 pub Appends-front : (a b c : Option (List ℕ)) (piece : List ℕ) (m n : ℕ)
     → Appends a b (take m piece) → Appends b c (take n (drop m piece)) → Appends a c (take (m + n) piece)
 Appends-front a b c piece m n first second =

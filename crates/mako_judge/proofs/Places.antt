@@ -1,5 +1,6 @@
 -- What each clause asks of a front is what it asks of each of its points, and of the front beside them.
 use Rattle.std.proofs.Common.{◌≡◌, ◌↔◌, ℕ, zero, suc, ◌+◌, ◌<◌, ◌≤◌, ◌==◌, ⊎_elim, Bool, true, false, cond, List, [], ◌∷◌, ◌++◌, length, Contains, flat_map, take, drop, get_or, slice_get, Some, sym, ap, subst, refl, ◌∙◌, arith, append-nil, append_assoc}
+use mathlib.Core.List.{IsPrefix}
 use Rattle.std.specs.List.{fold}
 use Rattle.std.proofs.Math.Seq.{take-suc}
 use Rattle.std.proofs.lemmas.Bool.{eqb-true}
@@ -13,12 +14,12 @@ use Rattle.mako_model.specs.declared.reply.Reply.{Reply}
 use Rattle.mako_model.specs.declared.reply.Reply.TheVariants as reply
 use Rattle.mako_model.specs.declared.point.Point.{Point}
 use Rattle.mako_model.specs.declared.point.Point.TheVariants.{Did, Snap}
-use Rattle.mako_model.specs.Fronts.{Seen, calls_by, StartsWith, FollowsPrograms}
+use Rattle.mako_model.specs.Fronts.{Seen, calls_by, FollowsPrograms}
 use Rattle.mako_model.specs.Heaps.{Heap, board_name}
 use Rattle.mako_model.specs.Lawful.{IsLawful, heap_after}
-use Rattle.mako_model.specs.Legal.{Workload, opening_of, state_of, AreLawful, IsLegal}
+use Rattle.mako_model.specs.Legal.{Facts, opening_of, state_of, AreLawful, IsLegal}
 use Rattle.mako_model.specs.Dead.{made_by, names_made}
-use Rattle.mako_model.specs.LawfulFronts.{since, IsInRange, WaitsAreAnswered, ReusesAreOfDead}
+use Rattle.mako_model.specs.LawfulFronts.{since, IsInRange, AnsweredWaitsAreOver, ReusesAreOfDead}
 use Rattle.mako_model.specs.Starved.{IsStarved}
 use Rattle.mako_model.specs.Answering.{FullsAreStarved}
 use Rattle.mako_model.proofs.Histories.{legal_at, names_append}
@@ -62,7 +63,7 @@ lawful_each : (h : Heap) (points : List Point) → ((place : ℕ) (point : Point
 lawful_each h [] each = tt
 lawful_each h (p ∷ points) each = (each 0 p refl, lawful_each (heap_after h p) points (λ place point at. each (suc place) point at))
 
-pub legal_iff : (w : Workload) (history : List Point) → IsLegal w history ↔ EachPoint (λ before point. IsLawful (state_of w before) point) history
+pub legal_iff : (w : Facts) (history : List Point) → IsLegal w history ↔ EachPoint (λ before point. IsLawful (state_of w before) point) history
 legal_iff w history = (
   (λ legal. each_split (λ before point. IsLawful (state_of w before) point) history (λ before after point e. legal_at w before point after (subst (IsLegal w) e legal))),
   (λ each. lawful_each (opening_of w) history (λ place point at. each place point (slice_get_within history place point at) at)),
@@ -70,11 +71,11 @@ legal_iff w history = (
 
 -- ---- waits
 
-answered_from : (front : Seen) (before : List Point) (p : Point) → ((m : ℕ) (c : Call) (k : ℕ) → p ≡ Did m c (reply.Cycle k) → (k ≤ length front.cycles) × Contains (since m before) (Snap k)) → IsAnswered front before p
+answered_from : (front : Seen) (before : List Point) (p : Point) → ((m : ℕ) (c : Call) (k : ℕ) → p ≡ Did m c (reply.Cycle k) → (k ≤ length front.finished) × Contains (since m before) (Snap k)) → IsAnswered front before p
 answered_from front before (Did m c (reply.Cycle k)) all = all m c k refl
 answered_from front before p all = tt
 
-pub waits_iff : (front : Seen) → WaitsAreAnswered front ↔ EachPoint (IsAnswered front) front.history
+pub waits_iff : (front : Seen) → AnsweredWaitsAreOver front ↔ EachPoint (IsAnswered front) front.history
 waits_iff front = (
   (λ waits. each_split (IsAnswered front) front.history (λ before after p e. answered_from front before p (λ m c k is. waits before after m c k (e ∙ ap (λ q. before ++ q ∷ after) is)))),
   (λ each before after m c k e. at_split (IsAnswered front) front.history before after (Did m c (reply.Cycle k)) e each),
@@ -93,10 +94,10 @@ made_somewhere (p ∷ points) x c =
     ⊎_elim (λ t. ([], p, points, refl, t))
     (λ t. let s = made_somewhere points x t in (p ∷ s.0, s.1, s.2, ap (λ l. p ∷ l) s.3, s.4)) (Contains-append_cases (made_by p) (flat_map made_by points) x c)
 
-abbrev AreInRange : Workload → List Point → Type 0
+abbrev AreInRange : Facts → List Point → Type 0
 AreInRange w history = (name : Name) → Contains (names_made history) name → IsInRange w name
 
-pub names_iff : (w : Workload) (history : List Point) → AreInRange w history ↔ (IsInRange w board_name × EachPoint (λ before point. MakesInRange w point) history)
+pub names_iff : (w : Facts) (history : List Point) → AreInRange w history ↔ (IsInRange w board_name × EachPoint (λ before point. MakesInRange w point) history)
 names_iff w history = (
   (λ all. (
     all board_name (first_in board_name (flat_map made_by history)),
@@ -119,7 +120,7 @@ made_of (Did m c (reply.Cycle k)) x made = absurd (none_in x made)
 made_of (Did m c reply.Spent) x made = absurd (none_in x made)
 made_of (Snap k) x made = absurd (none_in x made)
 
-pub reuses_iff : (w : Workload) (front : Seen) → ReusesAreOfDead w front.history ↔ EachPoint (MakesAgain w front) front.history
+pub reuses_iff : (w : Facts) (front : Seen) → ReusesAreOfDead w front.history ↔ EachPoint (MakesAgain w front) front.history
 reuses_iff w front = (
   (λ reuses. each_split (MakesAgain w front) front.history (λ before after p e x c generation next.
       let made = made_of p x c in
@@ -132,11 +133,11 @@ reuses_iff w front = (
 
 -- ---- starved
 
-starved_from : (w : Workload) (front : Seen) (before : List Point) (p : Point) → ((m root fields : ℕ) → p ≡ Did m (call.New root fields) reply.Full → IsStarved w front before m fields) → RefusesStarved w front before p
+starved_from : (w : Facts) (front : Seen) (before : List Point) (p : Point) → ((m root fields : ℕ) → p ≡ Did m (call.New root fields) reply.Full → IsStarved w front before m fields) → RefusesStarved w front before p
 starved_from w front before (Did m (call.New root fields) reply.Full) all = all m root fields refl
 starved_from w front before p all = tt
 
-pub starved_each : (w : Workload) (front : Seen) → FullsAreStarved w front ↔ EachPoint (RefusesStarved w front) front.history
+pub starved_each : (w : Facts) (front : Seen) → FullsAreStarved w front ↔ EachPoint (RefusesStarved w front) front.history
 starved_each w front = (
   (λ fulls. each_split (RefusesStarved w front) front.history (λ before after p e. starved_from w front before p (λ m root fields is. fulls before after m root fields (e ∙ ap (λ q. before ++ q ∷ after) is)))),
   (λ each before after m root fields e. at_split (RefusesStarved w front) front.history before after (Did m (call.New root fields) reply.Full) e each),
@@ -145,48 +146,48 @@ starved_each w front = (
 -- ---- programs
 
 -- a point behind those before it follows the program
-abbrev pub FollowsThere : Workload → List Point → Point → Type 0
+abbrev pub FollowsThere : Facts → List Point → Point → Type 0
 FollowsThere w before point = FollowsProgram w (before ++ point ∷ []) point
 
-starts_shorter : (whole a b : List Call) → StartsWith whole (a ++ b) → StartsWith whole a
-starts_shorter whole a b s = (b ++ s.0, s.1 ∙ append_assoc a b s.0)
+shorter_prefix : (whole a b : List Call) → IsPrefix (a ++ b) whole → IsPrefix a whole
+shorter_prefix whole a b s = (b ++ s.0, sym (append_assoc a b s.0) ∙ s.1)
 
-follows_from : (w : Workload) (history before after : List Point) (p : Point) → history ≡ before ++ p ∷ after → FollowsPrograms w.programs history → FollowsThere w before p
+follows_from : (w : Facts) (history before after : List Point) (p : Point) → history ≡ before ++ p ∷ after → FollowsPrograms w.programs history → FollowsThere w before p
 follows_from w history before after (Snap k) e follows = tt
 follows_from w history before after (Did m c r) e follows = λ program at.
     let p = Did m c r in
     let calls : calls_by m history ≡ calls_by m (before ++ p ∷ []) ++ calls_by m after = ap (calls_by m) (e ∙ sym (append_assoc before (p ∷ []) after)) ∙ calls_append m (before ++ p ∷ []) after in
-    starts_shorter program (calls_by m (before ++ p ∷ [])) (calls_by m after) (subst (StartsWith program) calls (follows m program at))
+    shorter_prefix program (calls_by m (before ++ p ∷ [])) (calls_by m after) (subst (λ xs. IsPrefix xs program) calls (follows m program at))
 
 same_calls : (m : ℕ) (before : List Point) (p : Point) → calls_by m (p ∷ []) ≡ [] → calls_by m (before ++ p ∷ []) ≡ calls_by m before
 same_calls m before p none = calls_append m before (p ∷ []) ∙ ap (λ l. calls_by m before ++ l) none ∙ append-nil (calls_by m before)
 
-follows_step : (w : Workload) (m : ℕ) (program : List Call) (before : List Point) (n : ℕ) (c : Call) (r : Reply) (b : Bool) → (n == m) ≡ b → slice_get w.programs m ≡ Some program → FollowsThere w before (Did n c r)
-    → StartsWith program (calls_by m before) → StartsWith program (calls_by m (before ++ Did n c r ∷ []))
+follows_step : (w : Facts) (m : ℕ) (program : List Call) (before : List Point) (n : ℕ) (c : Call) (r : Reply) (b : Bool) → (n == m) ≡ b → slice_get w.programs m ≡ Some program → FollowsThere w before (Did n c r)
+    → IsPrefix (calls_by m before) program → IsPrefix (calls_by m (before ++ Did n c r ∷ [])) program
 follows_step w m program before n c r true e at there so_far =
     let same = eqb-true n m e in
-    subst (λ (k : ℕ). StartsWith program (calls_by k (before ++ Did n c r ∷ []))) same (there program (ap (slice_get w.programs) same ∙ at))
+    subst (λ (k : ℕ). IsPrefix (calls_by k (before ++ Did n c r ∷ [])) program) same (there program (ap (slice_get w.programs) same ∙ at))
 follows_step w m program before n c r false e at there so_far =
-    subst (StartsWith program) (sym (same_calls m before (Did n c r) (calls_cons m n c r [] ∙ ap (λ (b : Bool). cond b (c ∷ []) []) e))) so_far
+    subst (λ xs. IsPrefix xs program) (sym (same_calls m before (Did n c r) (calls_cons m n c r [] ∙ ap (λ (b : Bool). cond b (c ∷ []) []) e))) so_far
 
-follows_next : (w : Workload) (m : ℕ) (program : List Call) (before : List Point) (p : Point) → slice_get w.programs m ≡ Some program → FollowsThere w before p
-    → StartsWith program (calls_by m before) → StartsWith program (calls_by m (before ++ p ∷ []))
-follows_next w m program before (Snap k) at there so_far = subst (StartsWith program) (sym (same_calls m before (Snap k) refl)) so_far
+follows_next : (w : Facts) (m : ℕ) (program : List Call) (before : List Point) (p : Point) → slice_get w.programs m ≡ Some program → FollowsThere w before p
+    → IsPrefix (calls_by m before) program → IsPrefix (calls_by m (before ++ p ∷ [])) program
+follows_next w m program before (Snap k) at there so_far = subst (λ xs. IsPrefix xs program) (sym (same_calls m before (Snap k) refl)) so_far
 follows_next w m program before (Did n c r) at there so_far = follows_step w m program before n c r (n == m) refl at there so_far
 
-follows_to : (w : Workload) (history : List Point) (m : ℕ) (program : List Call) → slice_get w.programs m ≡ Some program → EachPoint (FollowsThere w) history → (i : ℕ) → i ≤ length history
-    → StartsWith program (calls_by m (take i history))
+follows_to : (w : Facts) (history : List Point) (m : ℕ) (program : List Call) → slice_get w.programs m ≡ Some program → EachPoint (FollowsThere w) history → (i : ℕ) → i ≤ length history
+    → IsPrefix (calls_by m (take i history)) program
 follows_to w history m program at each zero l = (program, refl)
 follows_to w history m program at each (suc i) l =
     let p = get_or history i (Snap 0) in
     let there : slice_get history i ≡ Some p = slice_get-get_or history i (Snap 0) (omega arith) in
-    subst (λ ps. StartsWith program (calls_by m ps)) (sym (take-suc history i (Snap 0) (omega arith)))
+    subst (λ ps. IsPrefix (calls_by m ps) program) (sym (take-suc history i (Snap 0) (omega arith)))
     (follows_next w m program (take i history) p at (each i p (omega arith) there) (follows_to w history m program at each i (omega arith)))
 
-pub programs_iff : (w : Workload) (history : List Point) → FollowsPrograms w.programs history ↔ EachPoint (FollowsThere w) history
+pub programs_iff : (w : Facts) (history : List Point) → FollowsPrograms w.programs history ↔ EachPoint (FollowsThere w) history
 programs_iff w history = (
   (λ follows. each_split (FollowsThere w) history (λ before after p e. follows_from w history before after p e follows)),
-  (λ each m program at. subst (λ ps. StartsWith program (calls_by m ps)) (take_all (length history) history (omega arith)) (follows_to w history m program at each (length history) (omega arith))),
+  (λ each m program at. subst (λ ps. IsPrefix (calls_by m ps) program) (take_all (length history) history (omega arith)) (follows_to w history m program at each (length history) (omega arith))),
 )
 
 -- ---- all clauses
@@ -194,7 +195,7 @@ programs_iff w history = (
 nothing_at : (history : List Point) → EachPoint (λ before point. Unit {0}) history
 nothing_at history place point l at = tt
 
-pub parts_of : (w : Workload) (front : Seen) (c : Clause) → Holds w front c ↔ (HoldsApart w front c × HoldsBelow w front c (length front.history))
+pub parts_of : (w : Facts) (front : Seen) (c : Clause) → Holds w front c ↔ (HoldsApart w front c × HoldsBelow w front c (length front.history))
 parts_of w front clause.Legal = ((λ h. (tt, (legal_iff w front.history).0 h)), (λ p. (legal_iff w front.history).1 p.1))
 parts_of w front clause.Finished = ((λ h. (h, nothing_at front.history)), (λ p. p.0))
 parts_of w front clause.Unfinished = ((λ h. (h, nothing_at front.history)), (λ p. p.0))

@@ -1,5 +1,6 @@
 -- What a clause asks of a point of a given form.
 use Rattle.std.proofs.Common.{◌≡◌, ◌↔◌, ℕ, zero, suc, drop, ◌+◌, ◌-◌, ◌<◌, ◌≤◌, ⊎_elim, Bool, true, List, [], ◌∷◌, ◌++◌, length, Contains, map, take, get_or, slice_get, Option, Some, None, is_some, IsTrue, MatchOption, sym, ap, subst, refl, ◌∙◌, arith}
+use mathlib.Core.List.{IsPrefix}
 use Rattle.std.proofs.lemmas.List.{take_more, take_all, take-append-drop}
 use Rattle.std.proofs.lemmas.List.Elements.{Contains-push_cases}
 use Rattle.std.proofs.lemmas.Option.{same_Some, slice_get_within, get_or_from_slice_get}
@@ -8,8 +9,8 @@ use Rattle.mako_model.specs.declared.call.Call.{Call}
 use Rattle.mako_model.specs.declared.reply.Reply.{Reply}
 use Rattle.mako_model.specs.declared.point.Point.{Point}
 use Rattle.mako_model.specs.declared.point.Point.TheVariants.{Did}
-use Rattle.mako_model.specs.Fronts.{Seen, calls_by, StartsWith}
-use Rattle.mako_model.specs.Legal.{Workload, state_of}
+use Rattle.mako_model.specs.Fronts.{Seen, calls_by}
+use Rattle.mako_model.specs.Legal.{Facts, state_of}
 use Rattle.mako_model.specs.Dead.{names_made, IsDead}
 use Rattle.mako_judge.specs.Clauses.{IsReuse, FollowsProgram}
 use Rattle.mako_judge.proofs.Kept.{first_in, in_cases, none_in, false_true}
@@ -29,7 +30,7 @@ none_iff P names is = subst (λ ns. IsTrue true ↔ ((x : Name) → Contains ns 
 abbrev pub name_before : Name → Name
 name_before name = record { entry = name.entry; generation = name.generation - 1 }
 
-pub reuse_iff : (w : Workload) (front : Seen) (before : List Point) (name : Name) (R : Type 0) → ¬ (name.generation ≡ 0)
+pub reuse_iff : (w : Facts) (front : Seen) (before : List Point) (name : Name) (R : Type 0) → ¬ (name.generation ≡ 0)
     → R ↔ (Contains (names_made before) (name_before name) × IsDead w front.history (state_of w before).snaps (name_before name)) → R ↔ IsReuse w front before name
 reuse_iff w front before name R used iff = (
   (λ r generation e.
@@ -46,19 +47,19 @@ module _ {A B : Type 0} where
   get_map f (x ∷ xs) zero d l = refl
   get_map f (x ∷ xs) (suc i) d l = get_map f xs i d (omega arith)
 
-starts_by : (program calls : List Call) (made : ℕ) → calls ≡ take made program → StartsWith program calls
-starts_by program calls made e = (drop made program, sym (take-append-drop made program) ∙ ap (λ xs. xs ++ drop made program) (sym e))
+starts_by : (program calls : List Call) (made : ℕ) → calls ≡ take made program → IsPrefix calls program
+starts_by program calls made e = (drop made program, ap (λ xs. xs ++ drop made program) e ∙ take-append-drop made program)
 
-starts_iff : (program calls : List Call) (o : Option ℕ) → MatchOption o (¬ StartsWith program calls) (λ made. (calls ≡ take made program) × (made ≤ length program)) → IsTrue (is_some o) ↔ StartsWith program calls
+starts_iff : (program calls : List Call) (o : Option ℕ) → MatchOption o (¬ IsPrefix calls program) (λ made. (calls ≡ take made program) × (made ≤ length program)) → IsTrue (is_some o) ↔ IsPrefix calls program
 starts_iff program calls None never = ((λ t. absurd (false_true t)), (λ s. absurd (never s)))
 starts_iff program calls (Some made) is = ((λ t. starts_by program calls made is.0), (λ s. refl))
 
-pub follows_iff : (w : Workload) (points : List Point) (m : ℕ) (call : Call) (reply : Reply) (p : Point) (program : List Call) (o : Option ℕ) (b : Bool) → p ≡ Did m call reply → slice_get w.programs m ≡ Some program
-    → MatchOption o (¬ StartsWith program (calls_by m points)) (λ made. (calls_by m points ≡ take made program) × (made ≤ length program)) → b ≡ is_some o → IsTrue b ↔ FollowsProgram w points p
+pub follows_iff : (w : Facts) (points : List Point) (m : ℕ) (call : Call) (reply : Reply) (p : Point) (program : List Call) (o : Option ℕ) (b : Bool) → p ≡ Did m call reply → slice_get w.programs m ≡ Some program
+    → MatchOption o (¬ IsPrefix (calls_by m points) program) (λ made. (calls_by m points ≡ take made program) × (made ≤ length program)) → b ≡ is_some o → IsTrue b ↔ FollowsProgram w points p
 follows_iff w points m call reply p program o b is at made e =
     let iff = starts_iff program (calls_by m points) o made in
     subst (λ q. IsTrue b ↔ FollowsProgram w points q) (sym is) (
-      (λ t other there. subst (λ q. StartsWith q (calls_by m points)) (same_Some program other (sym at ∙ there)) (iff.0 (sym e ∙ t))),
+      (λ t other there. subst (IsPrefix (calls_by m points)) (same_Some program other (sym at ∙ there)) (iff.0 (sym e ∙ t))),
       (λ follows. e ∙ iff.1 (follows program at)),
     )
 

@@ -11,7 +11,7 @@ use Rattle.mako_model.specs.declared.point.Point.TheVariants.{Did, Snap}
 use Rattle.mako_model.specs.Fronts.{Seen}
 use Rattle.mako_model.specs.Heaps.{Heap}
 use Rattle.mako_model.specs.Lawful.{IsLawful, heap_after}
-use Rattle.mako_model.specs.Legal.{Workload, state_of}
+use Rattle.mako_model.specs.Legal.{Facts, state_of}
 use Rattle.mako_model.specs.Reachable.{IsReachable}
 use Rattle.mako_model.specs.Dead.{names_made}
 use Rattle.mako_model.proofs.DeadApart.{snaps_replied}
@@ -47,8 +47,23 @@ same_cycle a b e = cc
 no_snap : (m : ℕ) (c : Call) (r : Reply) (cycle : ℕ) → Did m c r ≡ Snap cycle → ⊥
 no_snap m c r cycle e = cc
 
+none_listed : (cycle : ℕ) (x : Name) → IsListed [] cycle x → ⊥
+none_listed cycle x l = none-some l.1.0 l.1.1
+
+no_point : (before : List Point) (p : Point) (after : List Point) → [] ≡ before ++ p ∷ after → ⊥
+no_point [] p after e = cc
+no_point (q ∷ before) p after e = cc
+
+-- at the start there are none
+pub no_deaths : (w : Facts) (lists : List (List Name)) → lists ≡ [] → AreDeaths w [] lists
+no_deaths w lists none = subst (AreDeaths w []) (sym none) (record {
+  legal = tt;
+  count = refl;
+  each = λ cycle x. ((λ l. absurd (none_listed cycle x l)), (λ dead. absurd (no_point dead.before (Snap cycle) dead.after dead.split)));
+})
+
 -- a call changes no dead name
-pub deaths_did : (w : Workload) (history : List Point) (m : ℕ) (c : Call) (r : Reply) (lists : List (List Name)) → AreDeaths w history lists → IsLawful (state_of w history) (Did m c r)
+pub deaths_did : (w : Facts) (history : List Point) (m : ℕ) (c : Call) (r : Reply) (lists : List (List Name)) → AreDeaths w history lists → IsLawful (state_of w history) (Did m c r)
     → AreDeaths w (history ++ Did m c r ∷ []) lists
 deaths_did w history m c r lists deaths lawful = record {
   legal = legal_push w history (Did m c r) deaths.legal lawful;
@@ -70,7 +85,7 @@ listed_before : (lists : List (List Name)) (names : List Name) (cycle : ℕ) (x 
 listed_before lists names cycle x l = (l.0, (l.1.0, get_before lists (names ∷ []) (cycle - 1) l.1.0 l.1.1, l.1.2))
 
 -- a snapshot adds its dead names
-pub deaths_snap : (w : Workload) (history : List Point) (k : ℕ) (lists : List (List Name)) (names : List Name) → AreDeaths w history lists → IsLawful (state_of w history) (Snap k)
+pub deaths_snap : (w : Facts) (history : List Point) (k : ℕ) (lists : List (List Name)) (names : List Name) → AreDeaths w history lists → IsLawful (state_of w history) (Snap k)
     → ((x : Name) → Contains names x ↔ (Contains (names_made history) x × ¬ IsReachable (state_of w history) x))
     → AreDeaths w (history ++ Snap k ∷ []) (lists ++ names ∷ [])
 deaths_snap w history k lists names deaths lawful are =
@@ -100,13 +115,13 @@ deaths_snap w history k lists names deaths lawful are =
 
 -- ---- at a heap and a point that are those
 
-pub noted_did : (w : Workload) (history : List Point) (h : Heap) (p : Point) (m : ℕ) (c : Call) (r : Reply) (lists : List (List Name)) → p ≡ Did m c r → h ≡ state_of w history
+pub noted_did : (w : Facts) (history : List Point) (h : Heap) (p : Point) (m : ℕ) (c : Call) (r : Reply) (lists : List (List Name)) → p ≡ Did m c r → h ≡ state_of w history
     → AreDeaths w history lists → IsLawful h p → AreDeaths w (history ++ p ∷ []) lists
 noted_did w history h p m c r lists is e deaths lawful =
     subst (λ q. AreDeaths w (history ++ q ∷ []) lists) (sym is)
     (deaths_did w history m c r lists deaths (subst (λ g. IsLawful g (Did m c r)) e (subst (IsLawful h) is lawful)))
 
-pub noted_snap : (w : Workload) (history : List Point) (h : Heap) (p : Point) (k : ℕ) (lists after : List (List Name)) (names : List Name) → p ≡ Snap k → h ≡ state_of w history → after ≡ lists ++ names ∷ []
+pub noted_snap : (w : Facts) (history : List Point) (h : Heap) (p : Point) (k : ℕ) (lists after : List (List Name)) (names : List Name) → p ≡ Snap k → h ≡ state_of w history → after ≡ lists ++ names ∷ []
     → ((x : Name) → Contains names x ↔ (Contains (names_made history) x × ¬ IsReachable h x))
     → AreDeaths w history lists → IsLawful h p → AreDeaths w (history ++ p ∷ []) after
 noted_snap w history h p k lists after names is e more are deaths lawful =
@@ -117,13 +132,13 @@ noted_snap w history h p k lists after names is e more are deaths lawful =
 -- ---- up to a place
 
 -- the heap after one point more
-pub heap_more : (w : Workload) (points : List Point) (i : ℕ) (h after : Heap) → i < length points → h ≡ state_of w (take i points) → after ≡ heap_after h (get_or points i blank)
+pub heap_more : (w : Facts) (points : List Point) (i : ℕ) (h after : Heap) → i < length points → h ≡ state_of w (take i points) → after ≡ heap_after h (get_or points i blank)
     → after ≡ state_of w (take (i + 1) points)
 heap_more w points i h after l e changed =
     changed ∙ ap (λ g. heap_after g (get_or points i blank)) e ∙ sym (ap (state_of w) (take_more points i blank l) ∙ state_push w (take i points) (get_or points i blank))
 
 -- the points below a place meet a clause, and the one there does
-pub holds_more : (w : Workload) (front : Seen) (clause : Clause) (i : ℕ) → ((q : Point) → slice_get front.history i ≡ Some q → HoldsAt w front clause (take i front.history) q)
+pub holds_more : (w : Facts) (front : Seen) (clause : Clause) (i : ℕ) → ((q : Point) → slice_get front.history i ≡ Some q → HoldsAt w front clause (take i front.history) q)
     → HoldsBelow w front clause i → HoldsBelow w front clause (i + 1)
 holds_more w front clause i here below place point l at =
     ⊎_elim (λ e. subst (λ (k : ℕ). HoldsAt w front clause (take k front.history) point) (sym e) (here point (ap (slice_get front.history) (sym e) ∙ at)))

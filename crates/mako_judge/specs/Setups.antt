@@ -3,13 +3,12 @@ use Rattle.std.specs.Prelude.{List, map}
 use Rattle.mako_words.specs.declared.name.Name.{Name}
 use Rattle.mako_model.specs.declared.point.Point.{Point}
 use Rattle.mako_model.specs.Fronts.{Seen}
-use Rattle.mako_model.specs.Legal.{Workload}
+use Rattle.mako_model.specs.Legal.{Facts}
 use Rattle.mako_judge.specs.declared.setup.Setup.{Setup}
 
 -- the script
-abbrev pub script_of : Setup → Workload
+abbrev pub script_of : Setup → Facts
 script_of s = record {
-  mutators = s.mutators;
   roots = s.roots;
   board = s.board;
   tablets = s.tablets;
@@ -22,4 +21,4 @@ script_of s = record {
 
 -- the front
 abbrev pub front_of : List Point → List (List Name) → Seen
-front_of history cycles = record { history = history; cycles = cycles }
+front_of history cycles = record { history = history; finished = cycles }

@@ -3,7 +3,7 @@
 ghost use Rattle.std.specs.Prelude.{◌≡◌, ◌≤◌, ◌+◌, ◌↔◌, length, drop, min, ◌-◌, ◌^◌, IsTrue, ℕ};
 ghost use Rattle.std.specs.List.{Contains, sum_by};
 ghost use Rattle.mako_model.specs.declared.point.Point.TheVariants.{Snap};
-ghost use Rattle.mako_model.specs.Legal.{Workload, state_of};
+ghost use Rattle.mako_model.specs.Legal.{Facts, state_of};
 ghost use Rattle.mako_model.specs.LawfulFronts.{since};
 ghost use Rattle.mako_model.specs.Starved.{first_snap};
 
@@ -45,7 +45,7 @@ pub fn first_snap(points: &[Point]) -> Option<u32>
 
 /// The number of snapshots among the points.
 pub fn snaps(points: &[Point]) -> usize
-    ensures { (w : Workload) → result ≡ (state_of w points.now).snaps }
+    ensures { (w : Facts) → result ≡ (state_of w points.now).snaps }
 {
     let mut count = 0;
     for point in points {

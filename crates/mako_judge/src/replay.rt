@@ -2,7 +2,7 @@
 
 ghost use Rattle.std.specs.Prelude.{◌≡◌, ◌++◌, ◌∷◌, [], IfOk, OnOk};
 ghost use Rattle.mako_model.specs.Lawful.{IsLawful};
-ghost use Rattle.mako_model.specs.Legal.{Workload, state_of};
+ghost use Rattle.mako_model.specs.Legal.{Facts, state_of};
 ghost use Rattle.mako_judge.specs.Setups.{script_of};
 ghost use Rattle.mako_judge.specs.Deaths.{lists_in, AreDeaths};
 ghost use Rattle.mako_judge.specs.Replays.{IsReplayOf};
@@ -27,9 +27,9 @@ pub enum Replayed {
 pub fn replay(alloc: Global, setup: &Setup, points: &[Point]) -> Result<Replayed, Memory>
     ensures { IfOk result (IsReplayOf (script_of setup.now) points.now) }
 {
-    let mut heap = Immortal::start(
+    let mut heap = Immortal::opening(
         alloc,
-        setup.mutators,
+        setup.programs.len(),
         setup.roots,
         setup.board,
         setup.cycles,
@@ -52,7 +52,7 @@ fn note(
     point: Point,
     heap: &Immortal,
 ) -> Result<(), Memory>
-    ensures { OnOk result ((w : Workload) → heap.now ≡ state_of w before.now → AreDeaths w before.now (lists_in deaths.old) → IsLawful heap.now point → AreDeaths w (before.now ++ point ∷ []) (lists_in deaths.new)) }
+    ensures { OnOk result ((w : Facts) → heap.now ≡ state_of w before.now → AreDeaths w before.now (lists_in deaths.old) → IsLawful heap.now point → AreDeaths w (before.now ++ point ∷ []) (lists_in deaths.new)) }
 {
     match point {
         Point::Snap { .. } => deaths.push(unreached(alloc, before, heap)?),

@@ -5,7 +5,6 @@ use mako_model::Call;
 /// The numbers and the programs of a script, of which any are taken.
 #[derive(Drop)]
 pub struct Setup {
-    pub mutators: u32,
     /// Roots of each mutator.
     pub roots: u32,
     /// Fields of the board.
@@ -20,6 +19,6 @@ pub struct Setup {
     pub cycles: u32,
     /// How many objects an entry has one after another.
     pub generations: u32,
-    /// The calls of each mutator.
+    /// The calls of each mutator. There are as many mutators as programs.
     pub programs: Vec<Vec<Call>>,
 }

@@ -2,8 +2,8 @@
 
 ghost use Rattle.std.specs.Prelude.{ℕ, ◌≡◌, ◌<◌, ◌≤◌, ◌-◌, ◌^◌, ◌/◌, ◌↔◌, min, IsTrue};
 ghost use Rattle.mako_model.specs.Dead.{names_made};
-ghost use Rattle.mako_model.specs.Starved.{IsStarved, IsAwaited, AreSpent, IsTabletFull, IsEntryTaken, words_by, words_made};
-ghost use Rattle.mako_judge.specs.Trials.{script, front, IsFair, Takes, AreTabletsFull};
+ghost use Rattle.mako_model.specs.Starved.{IsStarved, IsAwaited, AreSpent, IsTabletFull, IsEntryUnavailable, words_by, words_made};
+ghost use Rattle.mako_judge.specs.Trials.{script, front, IsFair, Blocks, AreTabletsFull};
 
 use crate::points::{first_snap, since, snaps};
 use crate::trial::Trial;
@@ -73,14 +73,20 @@ impl<'a> Trial<'a> {
         ensures { IsTrue result ↔ IsTabletFull (script self.now) (front self.now) before.now cycle fields tablet }
     {
         let words = self.words_made(tablet, before);
-        self.are_entries_taken(before, made, cycle, tablet)
+        self.are_entries_unavailable(before, made, cycle, tablet)
             || (self.setup.words as u64) < words.saturating_add(fields as u64 + 1)
     }
 
-    fn are_entries_taken(&self, before: &[Point], made: &[Name], cycle: usize, tablet: u32) -> bool
+    fn are_entries_unavailable(
+        &self,
+        before: &[Point],
+        made: &[Name],
+        cycle: usize,
+        tablet: u32,
+    ) -> bool
         requires fair { IsFair self.now }
         requires made { made.now ≡ names_made before.now }
-        ensures { IsTrue result ↔ ((entry : ℕ) → entry / (script self.now).entries ≡ tablet → IsEntryTaken (script self.now) (front self.now) before.now cycle entry) }
+        ensures { IsTrue result ↔ ((entry : ℕ) → entry / (script self.now).entries ≡ tablet → IsEntryUnavailable (script self.now) (front self.now) before.now cycle entry) }
     {
         let entries = self.setup.entries as u64;
         if entries == 0 {
@@ -88,20 +94,26 @@ impl<'a> Trial<'a> {
         }
         let first = tablet as u64 * entries;
         for entry in first..first + entries {
-            if !self.is_entry_taken(before, made, cycle, entry) {
+            if !self.is_entry_unavailable(before, made, cycle, entry) {
                 return false;
             }
         }
         true
     }
 
-    fn is_entry_taken(&self, before: &[Point], made: &[Name], cycle: usize, entry: u64) -> bool
+    fn is_entry_unavailable(
+        &self,
+        before: &[Point],
+        made: &[Name],
+        cycle: usize,
+        entry: u64,
+    ) -> bool
         requires fair { IsFair self.now }
         requires made { made.now ≡ names_made before.now }
-        ensures { IsTrue result ↔ IsEntryTaken (script self.now) (front self.now) before.now cycle entry }
+        ensures { IsTrue result ↔ IsEntryUnavailable (script self.now) (front self.now) before.now cycle entry }
     {
         for name in made {
-            if self.takes(*name, cycle, entry) {
+            if self.blocks(*name, cycle, entry) {
                 return true;
             }
         }
@@ -109,9 +121,9 @@ impl<'a> Trial<'a> {
     }
 
     /// Whether the name is one of the entry that is not dead in the cycle, or its last.
-    fn takes(&self, name: Name, cycle: usize, entry: u64) -> bool
+    fn blocks(&self, name: Name, cycle: usize, entry: u64) -> bool
         requires { IsFair self.now }
-        ensures { IsTrue result ↔ Takes (script self.now) self.now.points.now cycle entry name }
+        ensures { IsTrue result ↔ Blocks (script self.now) self.now.points.now cycle entry name }
     {
         name.entry as u64 == entry
             && (name.generation == self.setup.generations.saturating_sub(1)

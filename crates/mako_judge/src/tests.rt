@@ -138,7 +138,6 @@ fn verdict(
     let mut programs = Vec::new(alloc);
     programs.push(Vec::from_slice(alloc, script.program)?)?;
     let setup = Setup {
-        mutators: 1,
         roots: 4,
         board: 1,
         tablets: script.tablets,

@@ -1,5 +1,5 @@
 -- The names made are those of the objects, and each name that stands anywhere is one of them.
-use Rattle.std.proofs.Common.{◌≡◌, ℕ, zero, suc, ◌-◌, ◌<◌, ◌⊎◌, inl, inr, ⊎_elim, ◌↔◌, List, [], ◌∷◌, ◌++◌, Contains, flat_map, set, replicate, slice_get, Some, sym, ap, subst, refl, ◌∙◌, arith, append-nil, append_assoc}
+use Rattle.std.proofs.Common.{◌≡◌, ℕ, zero, suc, ◌-◌, ◌<◌, ◌⊎◌, inl, inr, ⊎_elim, ◌↔◌, List, [], ◌∷◌, ◌++◌, length, Contains, flat_map, set, replicate, slice_get, Some, sym, ap, subst, refl, ◌∙◌, arith, append-nil, append_assoc}
 use Rattle.std.specs.List.{fold}
 use Rattle.std.specs.FinMap as map
 use Rattle.std.proofs.lemmas.List.Elements.{Contains-append_left, Contains-push, Contains-push_cases}
@@ -11,7 +11,7 @@ use Rattle.mako_words.specs.Names.{name_cmp}
 use Rattle.mako_model.specs.declared.point.Point.{Point}
 use Rattle.mako_model.specs.Heaps.{Heap, fields_of, with_root, with_fields, board_name, opening_roots}
 use Rattle.mako_model.specs.Lawful.{IsNoRef, IsLawful, heap_after}
-use Rattle.mako_model.specs.Legal.{Workload, opening_of, state_of, AreLawful, IsLegal}
+use Rattle.mako_model.specs.Legal.{Facts, opening_of, state_of, AreLawful, IsLegal}
 use Rattle.mako_model.specs.Dead.{made_by, names_made}
 use Rattle.mako_model.specs.Laws.{HasObject, IsClosed}
 use Rattle.mako_model.proofs.Lists.{get_set_cases, get_replicate, cell}
@@ -85,7 +85,7 @@ empty_has h x e has = none-some has.0 (sym (map.get-empty name_cmp x) ∙ ap (λ
 none_contains : (x : Name) → Contains [] x → ⊥
 none_contains x c = let l : c.0 < 0 = c.1 in omega arith
 
-opening_objects : (w : Workload) → AreObjects (board_name ∷ []) (opening_of w)
+opening_objects : (w : Facts) → AreObjects (board_name ∷ []) (opening_of w)
 opening_objects w x =
     let bare : Heap = record { objects = map.empty; roots = (opening_of w).roots; snaps = 0; cycles = w.cycles } in (
       (λ c. ⊎_elim (λ t. absurd (none_contains x t)) (λ t. subst (HasObject (opening_of w)) t (has_new bare board_name (replicate w.board Null))) (Contains-push_cases [] board_name x c)),
@@ -93,7 +93,7 @@ opening_objects w x =
     )
 
 -- in a legal history the names made are those of the objects
-pub made_are_objects : (w : Workload) (history : List Point) → IsLegal w history → (x : Name) → Contains (names_made history) x ↔ HasObject (state_of w history) x
+pub made_are_objects : (w : Facts) (history : List Point) → IsLegal w history → (x : Name) → Contains (names_made history) x ↔ HasObject (state_of w history) x
 made_are_objects w history legal = objects_along (board_name ∷ []) (opening_of w) history legal (opening_objects w)
 
 -- ---- closed heaps
@@ -145,15 +145,15 @@ closed_changed h after made (New m q name fields root fresh e one) closed =
     (closed_written h name nulls closed (λ i y is. absurd (no_null_ref y (get_replicate fields i Null (Ref y) is))))
     (λ x is. subst (HasObject (with_fields h name nulls)) (same_ref name x is) (has_new h name nulls)))
 
-closed_opening : (w : Workload) → IsClosed (opening_of w)
+closed_opening : (w : Facts) → IsClosed (opening_of w)
 closed_opening w =
     let bare : Heap = record { objects = map.empty; roots = (opening_of w).roots; snaps = 0; cycles = w.cycles } in
     let board : List Value = replicate w.board Null in record {
-      roots = λ m q x e. subst (HasObject (opening_of w)) (opening_root w.mutators w.roots m q x e) (has_new bare board_name board);
+      roots = λ m q x e. subst (HasObject (opening_of w)) (opening_root (length w.programs) w.roots m q x e) (has_new bare board_name board);
       fields = λ object y at. ⊎_elim (λ t. absurd (no_null_ref y (get_replicate w.board at.1 Null (Ref y) (ap (λ (fs : List Value). slice_get fs at.1) t.1 ∙ at.3))))
           (λ t. absurd (empty_has bare object refl (at.0, t.1))) (fields_cases bare board_name board object at.0 at.2);
     }
 
 -- in a legal history each name that stands in a root or a field is that of an object
-pub closed_heap : (w : Workload) (history : List Point) → IsLegal w history → IsClosed (state_of w history)
+pub closed_heap : (w : Facts) (history : List Point) → IsLegal w history → IsClosed (state_of w history)
 closed_heap w history legal = kept IsClosed (λ h p lawful closed. closed_changed h (heap_after h p) (made_by p) (change_of h p lawful) closed) w history legal (closed_opening w)

@@ -17,7 +17,7 @@ use Rattle.mako_model.specs.Heaps.{Heap, board_name}
 use Rattle.mako_model.specs.Legal.{state_of}
 use Rattle.mako_model.specs.Reachable.{IsReachable}
 use Rattle.mako_model.specs.Dead.{names_made, IsDead, AreFreed}
-use Rattle.mako_model.specs.Starved.{IsEntryTaken, IsStarved}
+use Rattle.mako_model.specs.Starved.{IsEntryUnavailable, IsStarved}
 use Rattle.mako_model.specs.Answering.{Answers, AnswersToEnd}
 use Rattle.mako_model.specs.Examples.{one, filling, crowded, before_crowded_snap, crowded_history, crowded_front, used_freed_front}
 use Rattle.mako_model.proofs.Growth.{IsNext, IsStarvedIfFull, with_point, with_cycle, answers_push, answers_finish, answers_opening, opening_front}
@@ -100,7 +100,7 @@ full_next = record {
 }
 
 -- entry 0 has the board, and entry 1 the first object
-entry_taken : (entry : ℕ) → entry < 2 → IsEntryTaken crowded crowded_front after_cycle.history 1 entry
+entry_taken : (entry : ℕ) → entry < 2 → IsEntryUnavailable crowded crowded_front after_cycle.history 1 entry
 entry_taken zero l = inl (0, (0, omega arith, refl), none_dead_at_end board_name)
 entry_taken (suc zero) l = inl (0, (1, omega arith, refl), none_dead_at_end one)
 entry_taken (suc (suc entry)) l = absurd (omega arith)

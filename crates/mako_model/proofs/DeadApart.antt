@@ -14,14 +14,14 @@ use Rattle.mako_model.specs.declared.point.Point.{Point}
 use Rattle.mako_model.specs.declared.point.Point.TheVariants.{Did, Snap}
 use Rattle.mako_model.specs.Heaps.{Heap, fields_of, root_of, with_root, with_fields}
 use Rattle.mako_model.specs.Lawful.{IsNoRef, heap_after, heap_replied, with_field}
-use Rattle.mako_model.specs.Legal.{Workload, opening_of, state_of, AreLawful, IsLegal}
+use Rattle.mako_model.specs.Legal.{Facts, opening_of, state_of, AreLawful, IsLegal}
 use Rattle.mako_model.specs.Reachable.{StandsInField, LeadsTo, IsReachable}
 use Rattle.mako_model.specs.Dead.{made_by, names_made, IsDead}
 use Rattle.mako_model.specs.Laws.{HasObject, DeadStandApart}
 use Rattle.mako_model.proofs.Lists.{get_set_cases, get_replicate}
 use Rattle.mako_model.proofs.Lookups.{fields_cases, root_cases}
 use Rattle.mako_model.proofs.Changes.{Change, Nothing, Snapped, Rooted, Written, New, IsAtHand, change_of}
-use Rattle.mako_model.proofs.Histories.{lawful_rest, legal_front, legal_at, kept_along, made_stays}
+use Rattle.mako_model.proofs.Histories.{lawful_rest, legal_prefix, legal_at, kept_along, made_stays}
 use Rattle.mako_model.proofs.Closed.{made_are_objects, has_still, no_null_ref, same_ref}
 use Rattle.mako_model.proofs.Splits.{split_of_append}
 
@@ -95,11 +95,11 @@ reached_next h object x reached stands = record {
 }
 
 -- made so far, and not reachable
-abbrev pub IsLost : Workload → List Point → Name → Type 0
+abbrev pub IsLost : Facts → List Point → Name → Type 0
 IsLost w before x = Contains (names_made before) x × ¬ IsReachable (state_of w before) x
 
 -- at a snapshot what is lost stands apart
-pub lost_apart : (w : Workload) (before : List Point) → IsLegal w before → StandApart (IsLost w before) (state_of w before)
+pub lost_apart : (w : Facts) (before : List Point) → IsLegal w before → StandApart (IsLost w before) (state_of w before)
 lost_apart w before legal = record {
   made = λ x lost. (made_are_objects w before legal x).0 lost.0;
   roots = λ m q x e lost. lost.1 (record { first = x; path = []; in_root = (m, q, e); leads = refl });
@@ -148,24 +148,24 @@ snap_stands_along h (Snap c ∷ points) cycle all low high =
     (Snap c ∷ rest.0, rest.1, ap (λ ps. Snap c ∷ ps) rest.2))
     (at_or_after (h.snaps + 1) cycle (omega arith))
 
-pub snap_stands : (w : Workload) (history : List Point) (cycle : ℕ) → IsLegal w history → 0 < cycle → cycle ≤ (state_of w history).snaps
+pub snap_stands : (w : Facts) (history : List Point) (cycle : ℕ) → IsLegal w history → 0 < cycle → cycle ≤ (state_of w history).snaps
     → (before : List Point) × (after : List Point) × (history ≡ before ++ Snap cycle ∷ after)
 snap_stands w history cycle legal low high = snap_stands_along (opening_of w) history cycle legal low high
 
 -- the number of a snapshot is that of those before it, and one
-pub snap_number : (w : Workload) (before : List Point) (cycle : ℕ) (after : List Point) → IsLegal w (before ++ Snap cycle ∷ after) → cycle ≡ (state_of w before).snaps + 1
+pub snap_number : (w : Facts) (before : List Point) (cycle : ℕ) (after : List Point) → IsLegal w (before ++ Snap cycle ∷ after) → cycle ≡ (state_of w before).snaps + 1
 snap_number w before cycle after legal = (legal_at w before (Snap cycle) after legal).0
 
-pub state_append : (w : Workload) (front rest : List Point) → state_of w (front ++ rest) ≡ fold heap_after (state_of w front) rest
+pub state_append : (w : Facts) (front rest : List Point) → state_of w (front ++ rest) ≡ fold heap_after (state_of w front) rest
 state_append w front rest = fold-append heap_after (opening_of w) front rest
 
-snaps_past : (w : Workload) (before : List Point) (cycle : ℕ) (after : List Point) → (state_of w before).snaps < (state_of w (before ++ Snap cycle ∷ after)).snaps
+snaps_past : (w : Facts) (before : List Point) (cycle : ℕ) (after : List Point) → (state_of w before).snaps < (state_of w (before ++ Snap cycle ∷ after)).snaps
 snaps_past w before cycle after =
     let grow = snaps_grow (heap_after (state_of w before) (Snap cycle)) after in
     let same : (state_of w (before ++ Snap cycle ∷ after)).snaps ≡ (fold heap_after (heap_after (state_of w before) (Snap cycle)) after).snaps = ap (λ h. h.snaps) (state_append w before (Snap cycle ∷ after)) in
     omega arith
 
-not_before : (w : Workload) (front rest : List Point) (cycle later : ℕ) (front2 rest2 more : List Point)
+not_before : (w : Facts) (front rest : List Point) (cycle later : ℕ) (front2 rest2 more : List Point)
     → IsLegal w (front ++ Snap cycle ∷ rest) → front2 ++ Snap later ∷ rest2 ≡ front ++ Snap cycle ∷ rest → cycle ≤ later
     → front ≡ front2 ++ more → Snap later ∷ rest2 ≡ more ++ Snap cycle ∷ rest → (more : List Point) × (front2 ≡ front ++ more)
 not_before w front rest cycle later front2 rest2 [] legal e le is next = ([], sym (append-nil front ∙ is ∙ append-nil front2))
@@ -178,7 +178,7 @@ not_before w front rest cycle later front2 rest2 (p ∷ more) legal e le is next
     absurd (omega arith)
 
 -- the history before a snapshot is that before an earlier one, and more
-before_later : (w : Workload) (front rest : List Point) (cycle later : ℕ) (front2 rest2 : List Point)
+before_later : (w : Facts) (front rest : List Point) (cycle later : ℕ) (front2 rest2 : List Point)
     → IsLegal w (front ++ Snap cycle ∷ rest) → front2 ++ Snap later ∷ rest2 ≡ front ++ Snap cycle ∷ rest → cycle ≤ later
     → (more : List Point) × (front2 ≡ front ++ more)
 before_later w front rest cycle later front2 rest2 legal e le =
@@ -186,39 +186,39 @@ before_later w front rest cycle later front2 rest2 legal e le =
     (λ t. not_before w front rest cycle later front2 rest2 t.0 legal e le t.1 t.2) (split_of_append front2 (Snap later ∷ rest2) front (Snap cycle) rest e)
 
 -- what is lost stays apart as the history goes on
-pub lost_stay_apart : (w : Workload) (before more : List Point) → IsLegal w (before ++ more) → StandApart (IsLost w before) (state_of w (before ++ more))
+pub lost_stay_apart : (w : Facts) (before more : List Point) → IsLegal w (before ++ more) → StandApart (IsLost w before) (state_of w (before ++ more))
 lost_stay_apart w before more legal =
     subst (StandApart (IsLost w before)) (sym (state_append w before more))
-    (apart_along (IsLost w before) (state_of w before) more (lawful_rest (opening_of w) before more legal) (lost_apart w before (legal_front w before more legal)))
+    (apart_along (IsLost w before) (state_of w before) more (lawful_rest (opening_of w) before more legal) (lost_apart w before (legal_prefix w before more legal)))
 
 -- and stays lost
-pub lost_stay : (w : Workload) (before more : List Point) (x : Name) → IsLegal w (before ++ more) → IsLost w before x → IsLost w (before ++ more) x
+pub lost_stay : (w : Facts) (before more : List Point) (x : Name) → IsLegal w (before ++ more) → IsLost w before x → IsLost w (before ++ more) x
 lost_stay w before more x legal lost = (
   made_stays before more x lost.0,
   (λ reached. never_reached (IsLost w before) (state_of w (before ++ more)) (lost_stay_apart w before more legal) x reached lost),
 )
 
-lost_later : (w : Workload) (before more after : List Point) (x : Name) → IsLegal w after → after ≡ before ++ more → IsLost w before x → IsLost w after x
+lost_later : (w : Facts) (before more after : List Point) (x : Name) → IsLegal w after → after ≡ before ++ more → IsLost w before x → IsLost w after x
 lost_later w before more after x legal e lost = subst (λ ps. IsLost w ps x) (sym e) (lost_stay w before more x (subst (IsLegal w) e legal) lost)
 
 -- a name that is dead at a snapshot is dead at each later one
-pub dead_later : (w : Workload) (history : List Point) (cycle later : ℕ) (x : Name) → IsLegal w history → cycle ≤ later → later ≤ (state_of w history).snaps
+pub dead_later : (w : Facts) (history : List Point) (cycle later : ℕ) (x : Name) → IsLegal w history → cycle ≤ later → later ≤ (state_of w history).snaps
     → IsDead w history cycle x → IsDead w history later x
 dead_later w history cycle later x legal le high dead =
     let numbered = dead.numbered in
     let s = snap_stands w history later legal (omega arith) high in
     let legal2 : IsLegal w (dead.before ++ Snap cycle ∷ dead.after) = subst (IsLegal w) dead.split legal in
     let more = before_later w dead.before dead.after cycle later s.0 s.1 legal2 (sym s.2 ∙ dead.split) le in
-    let lost = lost_later w dead.before more.0 s.0 x (legal_front w s.0 (Snap later ∷ s.1) (subst (IsLegal w) s.2 legal)) more.1 (dead.made, dead.unreached) in
+    let lost = lost_later w dead.before more.0 s.0 x (legal_prefix w s.0 (Snap later ∷ s.1) (subst (IsLegal w) s.2 legal)) more.1 (dead.made, dead.unreached) in
     record { before = s.0; after = s.1; numbered = omega arith; split = s.2; made = lost.0; unreached = lost.1 }
 
-dead_apart_now : (w : Workload) (history : List Point) (cycle : ℕ) (x : Name) → IsLegal w history → (dead : IsDead w history cycle x) → StandApart (IsLost w dead.before) (state_of w history)
+dead_apart_now : (w : Facts) (history : List Point) (cycle : ℕ) (x : Name) → IsLegal w history → (dead : IsDead w history cycle x) → StandApart (IsLost w dead.before) (state_of w history)
 dead_apart_now w history cycle x legal dead =
     subst (λ ps. StandApart (IsLost w dead.before) (state_of w ps)) (sym dead.split)
     (lost_stay_apart w dead.before (Snap cycle ∷ dead.after) (subst (IsLegal w) dead.split legal))
 
 -- so no dead name stands in a root again, or in a field of an object that is not dead
-pub dead_stand_apart : (w : Workload) (history : List Point) (cycle : ℕ) → IsLegal w history → DeadStandApart w history cycle
+pub dead_stand_apart : (w : Facts) (history : List Point) (cycle : ℕ) → IsLegal w history → DeadStandApart w history cycle
 dead_stand_apart w history cycle legal = record {
   roots = λ m q x e dead. (dead_apart_now w history cycle x legal dead).roots m q x e (dead.made, dead.unreached);
   fields = λ object x stands kept dead. (dead_apart_now w history cycle x legal dead).fields object x stands

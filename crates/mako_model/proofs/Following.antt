@@ -14,7 +14,7 @@ use Rattle.mako_model.specs.declared.point.Point.TheVariants.{Did, Snap}
 use Rattle.mako_model.specs.Fronts.{Seen, calls_by, FollowsPrograms}
 use Rattle.mako_model.specs.Heaps.{Heap, board_name, fields_of}
 use Rattle.mako_model.specs.Lawful.{IsLawful, heap_after}
-use Rattle.mako_model.specs.Legal.{Workload, state_of}
+use Rattle.mako_model.specs.Legal.{Facts, state_of}
 use Rattle.mako_model.specs.Reachable.{StandsInField, LeadsTo, IsReachable}
 use Rattle.mako_model.specs.Dead.{IsDead}
 use Rattle.mako_model.specs.LawfulFronts.{IsInRange}
@@ -34,7 +34,7 @@ pub in_none : (x : Name) → Contains [] x → ⊥
 in_none x c = let l : c.0 < 0 = c.1 in omega arith
 
 -- the next point, where it neither makes a name nor waits for a cycle
-pub plain_next : (w : Workload) (front : Seen) (m : ℕ) (c : Call) → IsLawful (state_of w front.history) (Did m c reply.Done) → (heap_after (state_of w front.history) (Did m c reply.Done)).snaps ≤ length front.cycles + 1 → IsNext w front (Did m c reply.Done)
+pub plain_next : (w : Facts) (front : Seen) (m : ℕ) (c : Call) → IsLawful (state_of w front.history) (Did m c reply.Done) → (heap_after (state_of w front.history) (Did m c reply.Done)).snaps ≤ length front.finished + 1 → IsNext w front (Did m c reply.Done)
 plain_next w front m c lawful unfinished = record {
   lawful = lawful;
   unfinished = unfinished;
@@ -43,12 +43,12 @@ plain_next w front m c lawful unfinished = record {
   reuses = λ n d entry generation e. absurd (let f = same_reply m n c d reply.Done (reply.Made _) e in (let g : ⊥ = cc in g));
 }
 
-pub plain_full : (w : Workload) (front : Seen) (m : ℕ) (c : Call) → IsStarvedIfFull w front (Did m c reply.Done)
+pub plain_full : (w : Facts) (front : Seen) (m : ℕ) (c : Call) → IsStarvedIfFull w front (Did m c reply.Done)
 plain_full w front m c n root fields e = absurd (let f = same_reply m n c (call.New root fields) reply.Done reply.Full e in (let g : ⊥ = cc in g))
 
 -- the next point, where it makes a name of generation 0
-pub made_next : (w : Workload) (front : Seen) (m root fields entry : ℕ) → IsLawful (state_of w front.history) (Did m (call.New root fields) (reply.Made (record { entry = entry; generation = 0 })))
-    → (state_of w front.history).snaps ≤ length front.cycles + 1 → IsInRange w (record { entry = entry; generation = 0 }) → IsNext w front (Did m (call.New root fields) (reply.Made (record { entry = entry; generation = 0 })))
+pub made_next : (w : Facts) (front : Seen) (m root fields entry : ℕ) → IsLawful (state_of w front.history) (Did m (call.New root fields) (reply.Made (record { entry = entry; generation = 0 })))
+    → (state_of w front.history).snaps ≤ length front.finished + 1 → IsInRange w (record { entry = entry; generation = 0 }) → IsNext w front (Did m (call.New root fields) (reply.Made (record { entry = entry; generation = 0 })))
 made_next w front m root fields entry lawful unfinished range =
     let x : Name = record { entry = entry; generation = 0 } in record {
       lawful = lawful;
@@ -63,12 +63,12 @@ made_next w front m root fields entry lawful unfinished range =
           absurd (omega arith);
     }
 
-pub made_full : (w : Workload) (front : Seen) (m root fields : ℕ) (x : Name) → IsStarvedIfFull w front (Did m (call.New root fields) (reply.Made x))
+pub made_full : (w : Facts) (front : Seen) (m root fields : ℕ) (x : Name) → IsStarvedIfFull w front (Did m (call.New root fields) (reply.Made x))
 made_full w front m root fields x n q f e = absurd (let s = same_reply m n (call.New root fields) (call.New q f) (reply.Made x) reply.Full e in (let g : ⊥ = cc in g))
 
 -- the one program is followed, and the calls of the other mutators are none
 pub follows : (program : List Call) (history : List Point) (rest : List Call) → program ≡ calls_by 0 history ++ rest → FollowsPrograms (program ∷ []) history
-follows program history rest is zero found e = (rest, sym (same_Some program found e) ∙ is)
+follows program history rest is zero found e = (rest, sym is ∙ same_Some program found e)
 follows program history rest is (suc m) found e = absurd (none-some found e)
 
 -- ---- the first snapshot
@@ -97,7 +97,7 @@ only_snap before after there rest (p ∷ more) none is e =
     absurd (no_snap_in 1 after more rest none tail)
 
 -- what is dead at the only snapshot was lost just before it
-pub lost_at_snap : (w : Workload) (before after : List Point) (x : Name) → snaps_in before ≡ 0 → snaps_in after ≡ 0 → IsDead w (before ++ Snap 1 ∷ after) 1 x → IsLost w before x
+pub lost_at_snap : (w : Facts) (before after : List Point) (x : Name) → snaps_in before ≡ 0 → snaps_in after ≡ 0 → IsDead w (before ++ Snap 1 ∷ after) 1 x → IsLost w before x
 lost_at_snap w before after x none_before none_after dead =
     ⊎_elim
     (λ t. absurd (no_snap_in 1 before dead.before t.0 none_before t.1))

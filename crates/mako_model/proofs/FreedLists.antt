@@ -10,7 +10,7 @@ use Rattle.std.proofs.lemmas.Map.Views.{All-after_first}
 use Rattle.mako_words.specs.declared.name.Name.{Name}
 use Rattle.mako_words.specs.Names.{name_cmp}
 use Rattle.mako_words.proofs.NamesInOrder.{names_total}
-use Rattle.mako_model.specs.Legal.{Workload}
+use Rattle.mako_model.specs.Legal.{Facts}
 use Rattle.mako_model.specs.declared.point.Point.{Point}
 use Rattle.mako_model.specs.Dead.{AreFreed}
 use Rattle.mako_model.proofs.Lookups.{name_cases}
@@ -52,5 +52,5 @@ rising_once (x ∷ xs) (y ∷ ys) a b to back =
     let rest : xs ≡ ys = rising_once xs ys (sorted_tail name_cmp x xs a) (sorted_tail name_cmp y ys b) (rest_of x y xs ys a e to) (rest_of y x ys xs b (sym e) back) in
     λ i. e i ∷ rest i
 
-pub freed_once : (w : Workload) (history : List Point) (cycle : ℕ) (a b : List Name) → AreFreed w history cycle a → AreFreed w history cycle b → a ≡ b
+pub freed_once : (w : Facts) (history : List Point) (cycle : ℕ) (a b : List Name) → AreFreed w history cycle a → AreFreed w history cycle b → a ≡ b
 freed_once w history cycle a b x y = rising_once a b x.rising y.rising (λ n c. (y.each n).1 ((x.each n).0 c)) (λ n c. (x.each n).1 ((y.each n).0 c))

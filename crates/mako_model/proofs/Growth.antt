@@ -13,10 +13,10 @@ use Rattle.mako_model.specs.declared.point.Point.TheVariants.{Did, Snap}
 use Rattle.mako_model.specs.Fronts.{Seen, FollowsPrograms}
 use Rattle.mako_model.specs.Heaps.{board_name}
 use Rattle.mako_model.specs.Lawful.{IsLawful, heap_after}
-use Rattle.mako_model.specs.Legal.{Workload, state_of, IsLegal}
+use Rattle.mako_model.specs.Legal.{Facts, state_of, IsLegal}
 use Rattle.mako_model.specs.Dead.{made_by, names_made, IsDead, AreFreed}
-use Rattle.mako_model.specs.LawfulFronts.{since, since_next, IsInRange, WaitsAreAnswered, ReusesAreOfDead, IsLawfulFront}
-use Rattle.mako_model.specs.Starved.{IsAwaited, AreSpent, IsEntryTaken, IsStarved}
+use Rattle.mako_model.specs.LawfulFronts.{since, since_next, IsInRange, AnsweredWaitsAreOver, ReusesAreOfDead, IsLawfulFront}
+use Rattle.mako_model.specs.Starved.{IsAwaited, AreSpent, IsEntryUnavailable, IsStarved}
 use Rattle.mako_model.specs.Answering.{FullsAreStarved, Answers}
 use Rattle.mako_model.proofs.Splits.{split_of_append}
 use Rattle.mako_model.proofs.Histories.{state_push, legal_push, names_push}
@@ -29,7 +29,7 @@ since_push m history p = fold_push (since_next m) [] history p
 -- ---- dead and freed
 
 -- what was dead is dead when the history goes on
-pub dead_stays : (w : Workload) (history rest : List Point) (cycle : ℕ) (x : Name) → IsDead w history cycle x → IsDead w (history ++ rest) cycle x
+pub dead_stays : (w : Facts) (history rest : List Point) (cycle : ℕ) (x : Name) → IsDead w history cycle x → IsDead w (history ++ rest) cycle x
 dead_stays w history rest cycle x dead = record {
   before = dead.before;
   after = dead.after ++ rest;
@@ -39,14 +39,14 @@ dead_stays w history rest cycle x dead = record {
   unreached = dead.unreached;
 }
 
-pub snaps_stay : (w : Workload) (history rest : List Point) → (state_of w history).snaps ≤ (state_of w (history ++ rest)).snaps
+pub snaps_stay : (w : Facts) (history rest : List Point) → (state_of w history).snaps ≤ (state_of w (history ++ rest)).snaps
 snaps_stay w history rest =
     let grow = snaps_grow (state_of w history) rest in
     let same : (state_of w (history ++ rest)).snaps ≡ (fold heap_after (state_of w history) rest).snaps = ap (λ h. h.snaps) (state_append w history rest) in
     omega arith
 
 -- what is dead in a cycle that has begun was dead before the history went on
-pub dead_was : (w : Workload) (history rest : List Point) (cycle : ℕ) (x : Name) → IsLegal w (history ++ rest) → cycle ≤ (state_of w history).snaps → IsDead w (history ++ rest) cycle x → IsDead w history cycle x
+pub dead_was : (w : Facts) (history rest : List Point) (cycle : ℕ) (x : Name) → IsLegal w (history ++ rest) → cycle ≤ (state_of w history).snaps → IsDead w (history ++ rest) cycle x → IsDead w history cycle x
 dead_was w history rest cycle x legal begun dead =
     ⊎_elim
     (λ t. record { before = dead.before; after = t.0; numbered = dead.numbered; split = t.1; made = dead.made; unreached = dead.unreached })
@@ -57,7 +57,7 @@ dead_was w history rest cycle x legal begun dead =
     absurd (omega arith))
     (split_of_append history rest dead.before (Snap cycle) dead.after dead.split)
 
-pub freed_stays : (w : Workload) (history rest : List Point) (cycle : ℕ) (names : List Name) → IsLegal w (history ++ rest) → cycle ≤ (state_of w history).snaps → AreFreed w history cycle names → AreFreed w (history ++ rest) cycle names
+pub freed_stays : (w : Facts) (history rest : List Point) (cycle : ℕ) (names : List Name) → IsLegal w (history ++ rest) → cycle ≤ (state_of w history).snaps → AreFreed w history cycle names → AreFreed w (history ++ rest) cycle names
 freed_stays w history rest cycle names legal begun freed = record {
   rising = freed.rising;
   each = λ x. (
@@ -85,25 +85,25 @@ last_or_before history q before p after e =
 -- What the next point of a lawful front has to meet, beside that it is lawful: a snapshot comes only when each
 -- cycle before is finished, a cycle that was waited for is finished and its snapshot was seen, and a name made
 -- is in range and used again only after it was dead.
-pub record IsNext (w : Workload) (front : Seen) (p : Point) : Type 0 where
+pub record IsNext (w : Facts) (front : Seen) (p : Point) : Type 0 where
   pub lawful : IsLawful (state_of w front.history) p
-  pub unfinished : (heap_after (state_of w front.history) p).snaps ≤ length front.cycles + 1
-  pub waits : (m : ℕ) (c : Call) (cycle : ℕ) → p ≡ Did m c (reply.Cycle cycle) → (cycle ≤ length front.cycles) × Contains (since m front.history) (Snap cycle)
+  pub unfinished : (heap_after (state_of w front.history) p).snaps ≤ length front.finished + 1
+  pub waits : (m : ℕ) (c : Call) (cycle : ℕ) → p ≡ Did m c (reply.Cycle cycle) → (cycle ≤ length front.finished) × Contains (since m front.history) (Snap cycle)
   pub names : (x : Name) → Contains (made_by p) x → IsInRange w x
   pub reuses : (m : ℕ) (c : Call) (entry generation : ℕ) → p ≡ Did m c (reply.Made (record { entry = entry; generation = generation + 1 }))
       → Contains (names_made front.history) (record { entry = entry; generation = generation })
       × IsDead w front.history (state_of w front.history).snaps (record { entry = entry; generation = generation })
 
 abbrev pub with_point : Seen → Point → Seen
-with_point front p = record { history = front.history ++ p ∷ []; cycles = front.cycles }
+with_point front p = record { history = front.history ++ p ∷ []; finished = front.finished }
 
-waits_push : (w : Workload) (front : Seen) (p : Point) → WaitsAreAnswered front → IsNext w front p → WaitsAreAnswered (with_point front p)
+waits_push : (w : Facts) (front : Seen) (p : Point) → AnsweredWaitsAreOver front → IsNext w front p → AnsweredWaitsAreOver (with_point front p)
 waits_push w front p waits next before after m c cycle e =
     ⊎_elim
     (λ t. let n = next.waits m c cycle t.1 in (n.0, subst (λ ps. Contains (since m ps) (Snap cycle)) (sym t.0) n.1))
     (λ t. waits before t.0 m c cycle t.1) (last_or_before front.history p before (Did m c (reply.Cycle cycle)) after e)
 
-reuses_push : (w : Workload) (front : Seen) (p : Point) → ReusesAreOfDead w front.history → IsNext w front p → ReusesAreOfDead w (front.history ++ p ∷ [])
+reuses_push : (w : Facts) (front : Seen) (p : Point) → ReusesAreOfDead w front.history → IsNext w front p → ReusesAreOfDead w (front.history ++ p ∷ [])
 reuses_push w front p reuses next before after m c entry generation e =
     let x : Name = record { entry = entry; generation = generation } in
     let made : Name = record { entry = entry; generation = generation + 1 } in
@@ -115,7 +115,7 @@ reuses_push w front p reuses next before after m c entry generation e =
     (last_or_before front.history p before (Did m c (reply.Made made)) after e)
 
 -- a lawful front goes on
-pub front_push : (w : Workload) (front : Seen) (p : Point) → IsLawfulFront w front → IsNext w front p → IsLawfulFront w (with_point front p)
+pub front_push : (w : Facts) (front : Seen) (p : Point) → IsLawfulFront w front → IsNext w front p → IsLawfulFront w (with_point front p)
 front_push w front p lawful next =
     let h = front.history in
     let legal : IsLegal w (h ++ p ∷ []) = legal_push w h p lawful.legal next.lawful in
@@ -127,7 +127,7 @@ front_push w front p lawful next =
       legal = legal;
       finished = omega arith;
       unfinished = omega arith;
-      freed = λ i names at. freed_stays w h (p ∷ []) (i + 1) names legal (let l = slice_get_within front.cycles i names at in omega arith) (lawful.freed i names at);
+      freed = λ i names at. freed_stays w h (p ∷ []) (i + 1) names legal (let l = slice_get_within front.finished i names at in omega arith) (lawful.freed i names at);
       waits = waits_push w front p lawful.waits next;
       names = λ x c. ⊎_elim (λ t. lawful.names x t) (λ t. next.names x t) (Contains-append_cases (names_made h) (made_by p) x (subst (λ names. Contains names x) (names_push h p) c));
       reuses = reuses_push w front p lawful.reuses next;
@@ -136,10 +136,10 @@ front_push w front p lawful next =
 -- ---- one finished cycle more
 
 abbrev pub with_cycle : Seen → List Name → Seen
-with_cycle front names = record { history = front.history; cycles = front.cycles ++ names ∷ [] }
+with_cycle front names = record { history = front.history; finished = front.finished ++ names ∷ [] }
 
-cycles_longer : (front : Seen) (names : List Name) → length (front.cycles ++ names ∷ []) ≡ length front.cycles + 1
-cycles_longer front names = length-append front.cycles (names ∷ [])
+cycles_longer : (front : Seen) (names : List Name) → length (front.finished ++ names ∷ []) ≡ length front.finished + 1
+cycles_longer front names = length-append front.finished (names ∷ [])
 
 freed_at : (cycles : List (List Name)) (freed names : List Name) (i : ℕ) → slice_get (cycles ++ freed ∷ []) i ≡ Some names → ((i ≡ length cycles) × (freed ≡ names)) ⊎ (slice_get cycles i ≡ Some names)
 freed_at [] freed names zero e = inl (refl, same_Some freed names e)
@@ -148,7 +148,7 @@ freed_at (c ∷ cycles) freed names zero e = inr e
 freed_at (c ∷ cycles) freed names (suc i) e = ⊎_elim (λ t. inl (ap suc t.0, t.1)) (λ t. inr t) (freed_at cycles freed names i e)
 
 -- a lawful front finishes its cycle
-pub front_finish : (w : Workload) (front : Seen) (names : List Name) → IsLawfulFront w front → length front.cycles < (state_of w front.history).snaps → AreFreed w front.history (length front.cycles + 1) names → IsLawfulFront w (with_cycle front names)
+pub front_finish : (w : Facts) (front : Seen) (names : List Name) → IsLawfulFront w front → length front.finished < (state_of w front.history).snaps → AreFreed w front.history (length front.finished + 1) names → IsLawfulFront w (with_cycle front names)
 front_finish w front names lawful begun freed =
     let longer = cycles_longer front names in
     let unfinished = lawful.unfinished in
@@ -157,8 +157,8 @@ front_finish w front names lawful begun freed =
       finished = omega arith;
       unfinished = omega arith;
       freed = λ i found at. ⊎_elim
-          (λ t. subst (λ n. AreFreed w front.history (n + 1) found) (sym t.0) (subst (AreFreed w front.history (length front.cycles + 1)) t.1 freed))
-          (λ t. lawful.freed i found t) (freed_at front.cycles names found i at);
+          (λ t. subst (λ n. AreFreed w front.history (n + 1) found) (sym t.0) (subst (AreFreed w front.history (length front.finished + 1)) t.1 freed))
+          (λ t. lawful.freed i found t) (freed_at front.finished names found i at);
       waits = λ before after m c cycle e. let n = lawful.waits before after m c cycle e in let l = n.0 in (omega arith, n.1);
       names = lawful.names;
       reuses = lawful.reuses;
@@ -166,12 +166,12 @@ front_finish w front names lawful begun freed =
 
 -- ---- starved
 
-entry_stays : (w : Workload) (front : Seen) (p : Point) (before : List Point) (cycle entry : ℕ) → IsLegal w (front.history ++ p ∷ []) → cycle ≤ (state_of w front.history).snaps → IsEntryTaken w front before cycle entry → IsEntryTaken w (with_point front p) before cycle entry
+entry_stays : (w : Facts) (front : Seen) (p : Point) (before : List Point) (cycle entry : ℕ) → IsLegal w (front.history ++ p ∷ []) → cycle ≤ (state_of w front.history).snaps → IsEntryUnavailable w front before cycle entry → IsEntryUnavailable w (with_point front p) before cycle entry
 entry_stays w front p before cycle entry legal begun taken =
     ⊎_elim (λ t. inl (t.0, t.1, (λ dead. t.2 (dead_was w front.history (p ∷ []) cycle (record { entry = entry; generation = t.0 }) legal begun dead)))) (λ t. inr t) taken
 
 -- a cycle that starved a call has begun
-starved_begun : (w : Workload) (front : Seen) (before after : List Point) (m cycle : ℕ) → IsLawfulFront w front → front.history ≡ before ++ after → IsAwaited front before m cycle ⊎ AreSpent w before cycle → cycle ≤ (state_of w front.history).snaps
+starved_begun : (w : Facts) (front : Seen) (before after : List Point) (m cycle : ℕ) → IsLawfulFront w front → front.history ≡ before ++ after → IsAwaited front before m cycle ⊎ AreSpent w before cycle → cycle ≤ (state_of w front.history).snaps
 starved_begun w front before after m cycle lawful e awaited =
     let stay = snaps_stay w before after in
     let same : (state_of w front.history).snaps ≡ (state_of w (before ++ after)).snaps = ap (λ ps. (state_of w ps).snaps) e in
@@ -179,7 +179,7 @@ starved_begun w front before after m cycle lawful e awaited =
     ⊎_elim (λ t. let f = t.finished in omega arith) (λ t. let a = t.all in let l = t.last in omega arith) awaited
 
 -- what was starved is starved when the front goes on
-starved_push : (w : Workload) (front : Seen) (p : Point) (before after : List Point) (m fields : ℕ) → IsLawfulFront w front → IsLegal w (front.history ++ p ∷ []) → front.history ≡ before ++ after
+starved_push : (w : Facts) (front : Seen) (p : Point) (before after : List Point) (m fields : ℕ) → IsLawfulFront w front → IsLegal w (front.history ++ p ∷ []) → front.history ≡ before ++ after
     → IsStarved w front before m fields → IsStarved w (with_point front p) before m fields
 starved_push w front p before after m fields lawful legal e starved =
     let begun = starved_begun w front before after m starved.cycle lawful e starved.awaited in record {
@@ -189,10 +189,10 @@ starved_push w front p before after m fields lawful legal e starved =
     }
 
 -- the point is starved, if it is a `Full`
-abbrev pub IsStarvedIfFull : Workload → Seen → Point → Type 0
+abbrev pub IsStarvedIfFull : Facts → Seen → Point → Type 0
 IsStarvedIfFull w front p = (m root fields : ℕ) → p ≡ Did m (call.New root fields) reply.Full → IsStarved w (with_point front p) front.history m fields
 
-pub fulls_push : (w : Workload) (front : Seen) (p : Point) → IsLawfulFront w front → IsLegal w (front.history ++ p ∷ []) → FullsAreStarved w front → IsStarvedIfFull w front p → FullsAreStarved w (with_point front p)
+pub fulls_push : (w : Facts) (front : Seen) (p : Point) → IsLawfulFront w front → IsLegal w (front.history ++ p ∷ []) → FullsAreStarved w front → IsStarvedIfFull w front p → FullsAreStarved w (with_point front p)
 fulls_push w front p lawful legal fulls full before after m root fields e =
     ⊎_elim
     (λ t. subst (λ ps. IsStarved w (with_point front p) ps m fields) (sym t.0) (full m root fields t.1))
@@ -200,7 +200,7 @@ fulls_push w front p lawful legal fulls full before after m root fields e =
     (last_or_before front.history p before (Did m (call.New root fields) reply.Full) after e)
 
 -- a front that answers a script goes on
-pub answers_push : (w : Workload) (front : Seen) (p : Point) → Answers w front → IsNext w front p → IsStarvedIfFull w front p → FollowsPrograms w.programs (front.history ++ p ∷ []) → Answers w (with_point front p)
+pub answers_push : (w : Facts) (front : Seen) (p : Point) → Answers w front → IsNext w front p → IsStarvedIfFull w front p → FollowsPrograms w.programs (front.history ++ p ∷ []) → Answers w (with_point front p)
 answers_push w front p answers next full programs = record {
   lawful = front_push w front p answers.lawful next;
   starved = fulls_push w front p answers.lawful (legal_push w front.history p answers.lawful.legal next.lawful) answers.starved full;
@@ -208,7 +208,7 @@ answers_push w front p answers next full programs = record {
 }
 
 -- and finishes its cycle
-pub answers_finish : (w : Workload) (front : Seen) (names : List Name) → Answers w front → length front.cycles < (state_of w front.history).snaps → AreFreed w front.history (length front.cycles + 1) names → Answers w (with_cycle front names)
+pub answers_finish : (w : Facts) (front : Seen) (names : List Name) → Answers w front → length front.finished < (state_of w front.history).snaps → AreFreed w front.history (length front.finished + 1) names → Answers w (with_cycle front names)
 answers_finish w front names answers begun freed = record {
   lawful = front_finish w front names answers.lawful begun freed;
   starved = λ before after m root fields e.
@@ -228,10 +228,10 @@ no_split [] x after e = nil_cons x after e
 no_split (y ∷ before) x after e = nil_cons y (before ++ x ∷ after) e
 
 abbrev pub opening_front : Seen
-opening_front = record { history = []; cycles = [] }
+opening_front = record { history = []; finished = [] }
 
 -- before the first point nothing is asked but that the board is in range
-pub answers_opening : (w : Workload) → IsInRange w board_name → Answers w opening_front
+pub answers_opening : (w : Facts) → IsInRange w board_name → Answers w opening_front
 answers_opening w board = record {
   lawful = record {
     legal = tt;

@@ -17,7 +17,7 @@ use Rattle.mako_model.specs.declared.point.Point.TheVariants.{Did, Snap}
 use Rattle.mako_model.specs.Fronts.{Seen, calls_by}
 use Rattle.mako_model.specs.Heaps.{Heap, board_name, fields_of}
 use Rattle.mako_model.specs.Lawful.{heap_after}
-use Rattle.mako_model.specs.Legal.{Workload, state_of, IsLegal}
+use Rattle.mako_model.specs.Legal.{Facts, state_of, IsLegal}
 use Rattle.mako_model.specs.Reachable.{IsReachable}
 use Rattle.mako_model.specs.Dead.{IsDead, AreFreed}
 use Rattle.mako_model.specs.LawfulFronts.{since}
@@ -30,14 +30,14 @@ use Rattle.mako_model.proofs.Following.{same_reply, no_snap_did, in_none, plain_
 
 -- ---- a snapshot stands once in a legal history
 
-more_snaps : (w : Workload) (before : List Point) (cycle : ℕ) (after : List Point) → (state_of w before).snaps < (state_of w (before ++ Snap cycle ∷ after)).snaps
+more_snaps : (w : Facts) (before : List Point) (cycle : ℕ) (after : List Point) → (state_of w before).snaps < (state_of w (before ++ Snap cycle ∷ after)).snaps
 more_snaps w before cycle after =
     let grow = snaps_grow (heap_after (state_of w before) (Snap cycle)) after in
     let same = ap (λ (h : Heap). h.snaps) (state_append w before (Snap cycle ∷ after)) in
     omega arith
 
 -- no snapshot has the number of one before it
-not_again : (w : Workload) (before : List Point) (cycle : ℕ) (more after rest there : List Point)
+not_again : (w : Facts) (before : List Point) (cycle : ℕ) (more after rest there : List Point)
     → IsLegal w (before ++ Snap cycle ∷ rest) → IsLegal w (there ++ Snap cycle ∷ after) → there ≡ before ++ Snap cycle ∷ more → ⊥
 not_again w before cycle more after rest there legal legal_there is =
     let number = snap_number w before cycle rest legal in
@@ -46,7 +46,7 @@ not_again w before cycle more after rest there legal legal_there is =
     let same = ap (λ ps. (state_of w ps).snaps) is in
     omega arith
 
-same_place : (w : Workload) (before after there rest more : List Point) (cycle : ℕ) → IsLegal w (before ++ Snap cycle ∷ after) → IsLegal w (there ++ Snap cycle ∷ rest)
+same_place : (w : Facts) (before after there rest more : List Point) (cycle : ℕ) → IsLegal w (before ++ Snap cycle ∷ after) → IsLegal w (there ++ Snap cycle ∷ rest)
     → there ≡ before ++ more → Snap cycle ∷ after ≡ more ++ Snap cycle ∷ rest → there ≡ before
 same_place w before after there rest [] cycle legal legal_there is e = is ∙ append-nil before
 same_place w before after there rest (p ∷ more) cycle legal legal_there is e =
@@ -54,7 +54,7 @@ same_place w before after there rest (p ∷ more) cycle legal legal_there is e =
     absurd (not_again w before cycle more rest after there legal legal_there (is ∙ ap (λ q. before ++ q ∷ more) first))
 
 -- what is dead at a snapshot was lost just before it
-lost_at : (w : Workload) (before after : List Point) (cycle : ℕ) (x : Name) → IsLegal w (before ++ Snap cycle ∷ after) → IsDead w (before ++ Snap cycle ∷ after) cycle x → IsLost w before x
+lost_at : (w : Facts) (before after : List Point) (cycle : ℕ) (x : Name) → IsLegal w (before ++ Snap cycle ∷ after) → IsDead w (before ++ Snap cycle ∷ after) cycle x → IsLost w before x
 lost_at w before after cycle x legal dead =
     let legal_there : IsLegal w (dead.before ++ Snap cycle ∷ dead.after) = subst (IsLegal w) dead.split legal in
     ⊎_elim
@@ -116,7 +116,7 @@ answers_drop = answers_push looped after_put (Did 0 (call.DropRoot 1) reply.Done
     (plain_full looped after_put 0 (call.DropRoot 1)) (follows looping after_drop.history (drop 3 looping) refl)
 
 -- the next point, where it is a snapshot
-snap_next : (front : Seen) (cycle : ℕ) → cycle ≡ (state_of looped front.history).snaps + 1 → cycle ≤ (state_of looped front.history).cycles → cycle ≤ length front.cycles + 1 → IsNext looped front (Snap cycle)
+snap_next : (front : Seen) (cycle : ℕ) → cycle ≡ (state_of looped front.history).snaps + 1 → cycle ≤ (state_of looped front.history).cycles → cycle ≤ length front.finished + 1 → IsNext looped front (Snap cycle)
 snap_next front cycle number most unfinished = record {
   lawful = (number, most);
   unfinished = omega arith;
@@ -165,7 +165,7 @@ answers_cycle = answers_finish looped after_snap (one ∷ []) answers_snap (omeg
 
 -- the next point, where the mutator waited for a cycle
 collect_next : (front : Seen) (cycle : ℕ) → 0 < length (state_of looped front.history).roots → 1 ≤ cycle → cycle ≤ (state_of looped front.history).snaps
-    → (state_of looped front.history).snaps ≤ length front.cycles + 1 → cycle ≤ length front.cycles → Contains (since 0 front.history) (Snap cycle) → IsNext looped front (Did 0 call.Collect (reply.Cycle cycle))
+    → (state_of looped front.history).snaps ≤ length front.finished + 1 → cycle ≤ length front.finished → Contains (since 0 front.history) (Snap cycle) → IsNext looped front (Did 0 call.Collect (reply.Cycle cycle))
 collect_next front cycle mutator positive begun unfinished finished seen = record {
   lawful = (mutator, positive, begun);
   unfinished = unfinished;
@@ -173,7 +173,7 @@ collect_next front cycle mutator positive begun unfinished finished seen = recor
       let first : 0 ≡ m = cc in
       let same = same_reply 0 m call.Collect c (reply.Cycle cycle) (reply.Cycle awaited) e in
       let number : cycle ≡ awaited = cc in
-      subst (λ n. (n ≤ length front.cycles) × Contains (since m front.history) (Snap n)) number (finished, subst (λ n. Contains (since n front.history) (Snap cycle)) first seen);
+      subst (λ n. (n ≤ length front.finished) × Contains (since m front.history) (Snap n)) number (finished, subst (λ n. Contains (since n front.history) (Snap cycle)) first seen);
   names = λ x in_made. absurd (in_none x in_made);
   reuses = λ m c entry generation e. absurd (let f = same_reply 0 m call.Collect c (reply.Cycle cycle) (reply.Made _) e in (let g : ⊥ = cc in g));
 }

@@ -4,7 +4,7 @@ use Rattle.std.proofs.Math.Seq.{drop-append_seam}
 use Rattle.std.proofs.lemmas.List.{take-append-le, drop-append-le}
 use Rattle.std.proofs.lemmas.List.Sums.{sum_by-cons}
 use Rattle.mako_model.specs.declared.cycles.Cycles.TheInside.{Inside}
-use Rattle.mako_model.specs.Freed.{pieces, start_of, lists_of, RiseTo, IsKept}
+use Rattle.mako_model.specs.CycleLists.{pieces, start_of, lists_of, RiseTo, IsKept}
 
 pub rise_le : (start : ℕ) (ends : List ℕ) (last : ℕ) → RiseTo start ends last → start ≤ last
 rise_le start [] last rise = omega arith

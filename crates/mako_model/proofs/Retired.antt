@@ -21,7 +21,7 @@ use Rattle.mako_model.specs.Dead.{IsDead, AreFreed}
 use Rattle.mako_model.specs.Starved.{IsStarved}
 use Rattle.mako_model.specs.Answering.{Answers, AnswersToEnd}
 use Rattle.mako_model.proofs.Growth.{IsNext, IsStarvedIfFull, with_point, with_cycle, answers_push, answers_finish, answers_opening, opening_front}
-use Rattle.mako_model.specs.Starved.{IsEntryTaken}
+use Rattle.mako_model.specs.Starved.{IsEntryUnavailable}
 use Rattle.mako_model.specs.Examples.{one, remaking, retiring, before_retiring_snap, retiring_history, retired_front, hasty_front}
 use Rattle.mako_model.proofs.Following.{same_reply, no_snap_did, in_none, plain_next, plain_full, made_next, made_full, follows, lost_at_snap, board_reached, other_not_reached}
 
@@ -113,7 +113,7 @@ full_next = record {
 }
 
 -- entry 0 has the board, and entry 1 had its last object
-entry_taken : (entry : ℕ) → entry < 2 → IsEntryTaken retiring retired_front after_cycle.history 1 entry
+entry_taken : (entry : ℕ) → entry < 2 → IsEntryUnavailable retiring retired_front after_cycle.history 1 entry
 entry_taken zero l = inl (0, (0, omega arith, refl), board_not_dead)
 entry_taken (suc zero) l = inr (1, omega arith, refl)
 entry_taken (suc (suc entry)) l = absurd (omega arith)

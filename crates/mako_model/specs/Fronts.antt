@@ -1,15 +1,16 @@
--- Histories and fronts.
-use Rattle.std.specs.Prelude.{ℕ, ◌≡◌, ◌≤◌, ◌==◌, length, List, [], ◌∷◌, ◌++◌, map, slice_get, Some, if◌then◌else◌}
+-- Fronts: histories with their finished cycles.
+use mathlib.Core.List.{IsPrefix}
+use Rattle.std.specs.Prelude.{ℕ, ◌≡◌, ◌≤◌, ◌==◌, length, List, [], ◌∷◌, map, slice_get, Some, if◌then◌else◌}
 use Rattle.mako_words.specs.declared.name.Name.{Name}
 use Rattle.mako_model.specs.declared.call.Call.{Call}
 use Rattle.mako_model.specs.declared.reply.Reply.{Reply}
 use Rattle.mako_model.specs.declared.point.Point.{Point}
 use Rattle.mako_model.specs.declared.point.Point.TheVariants.{Did, Snap}
 
--- a history, and the names freed in each finished cycle
+-- a front: a history, and the names freed in each finished cycle
 pub record Seen : Type 0 where
   pub history : List Point
-  pub cycles : List (List Name)
+  pub finished : List (List Name)
 
 -- the calls of a mutator that a history holds, each with its reply, in order
 abbrev pub answered_by : ℕ → List Point → List (Call × Reply)
@@ -25,16 +26,12 @@ calls_by m points = map (λ p. p.0) (answered_by m points)
 abbrev pub replies_to : ℕ → List Point → List Reply
 replies_to m points = map (λ p. p.1) (answered_by m points)
 
--- the second list is the front of the first
-abbrev pub StartsWith : {A : Type 0} → List A → List A → Type 0
-StartsWith {A} whole front = (rest : List A) × (whole ≡ front ++ rest)
-
--- the calls of each mutator in a history are the front of its program
+-- the calls of each mutator in a history are a prefix of its program
 abbrev pub FollowsPrograms : List (List Call) → List Point → Type 0
 FollowsPrograms programs history =
-    (m : ℕ) (program : List Call) → slice_get programs m ≡ Some program → StartsWith program (calls_by m history)
+    (m : ℕ) (program : List Call) → slice_get programs m ≡ Some program → IsPrefix (calls_by m history) program
 
 -- its history begins with the other's, and it has at least as many finished cycles
 pub record BeginsWith (whole front : Seen) : Type 0 where
-  pub history : StartsWith whole.history front.history
-  pub cycles : length front.cycles ≤ length whole.cycles
+  pub history : IsPrefix front.history whole.history
+  pub finished : length front.finished ≤ length whole.finished

@@ -1,14 +1,14 @@
 pub mod Answering
+pub mod CycleLists
 pub mod Dead
 pub mod Examples
-pub mod Freed
 pub mod Fronts
 pub mod Heaps
 pub mod Immortals
 pub mod Journals
-pub mod Laws
 pub mod Lawful
 pub mod LawfulFronts
+pub mod Laws
 pub mod Legal
 pub mod Outcomes
 pub mod Reachable

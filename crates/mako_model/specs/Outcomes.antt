@@ -8,7 +8,10 @@ use Rattle.mako_model.specs.Fronts.{replies_to}
 abbrev pub reply_lists : Outcome → List (List Reply)
 reply_lists o = map (λ v. v.items) o.replies.items
 
--- the lists of an outcome are those of its front
+-- the replies of an outcome are those that its front gave
 pub record IsWhole (o : Outcome) : Type 0 where
   pub replies : (m : ℕ) → m < length (reply_lists o) → slice_get (reply_lists o) m ≡ Some (replies_to m o.front.history)
-  pub cycles : o.cycles.lists ≡ o.front.cycles
+
+-- its finished cycles are those of its front
+abbrev pub AreCyclesOfFront : Outcome → Type 0
+AreCyclesOfFront o = o.cycles.lists ≡ o.front.finished

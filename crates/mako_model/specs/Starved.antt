@@ -7,7 +7,7 @@ use Rattle.mako_model.specs.declared.reply.Reply.TheVariants.{Made}
 use Rattle.mako_model.specs.declared.point.Point.{Point}
 use Rattle.mako_model.specs.declared.point.Point.TheVariants.{Did, Snap}
 use Rattle.mako_model.specs.Fronts.{Seen}
-use Rattle.mako_model.specs.Legal.{Workload, state_of}
+use Rattle.mako_model.specs.Legal.{Facts, state_of}
 use Rattle.mako_model.specs.Dead.{names_made, IsDead}
 use Rattle.mako_model.specs.LawfulFronts.{since}
 
@@ -20,37 +20,37 @@ first_snap (Did mutator call reply ∷ points) = first_snap points
 -- a finished cycle, the first whose snapshot came since the mutator's last point
 pub record IsAwaited (front : Seen) (before : List Point) (mutator cycle : ℕ) : Type 0 where
   pub first : first_snap (since mutator before) ≡ Some cycle
-  pub finished : cycle ≤ length front.cycles
+  pub finished : cycle ≤ length front.finished
 
 -- no cycle is left, and this is the one before the last, or 0 where there are none
-pub record AreSpent (w : Workload) (before : List Point) (cycle : ℕ) : Type 0 where
+pub record AreSpent (w : Facts) (before : List Point) (cycle : ℕ) : Type 0 where
   pub all : (state_of w before).snaps ≡ w.cycles
   pub last : cycle ≡ w.cycles - 1
 
--- the entry has a name that is not dead, or its last generation is used
-abbrev pub IsEntryTaken : Workload → Seen → List Point → ℕ → ℕ → Type 0
-IsEntryTaken w front before cycle entry =
+-- the entry can take no new object: a name of it was made and is not dead in the cycle, or that of its last generation was made
+abbrev pub IsEntryUnavailable : Facts → Seen → List Point → ℕ → ℕ → Type 0
+IsEntryUnavailable w front before cycle entry =
     ((generation : ℕ) × Contains (names_made before) (record { entry = entry; generation = generation })
     × ¬ IsDead w front.history cycle (record { entry = entry; generation = generation }))
     ⊎ Contains (names_made before) (record { entry = entry; generation = w.generations - 1 })
 
 -- how many words the object takes that a point makes in the tablet
-abbrev pub words_by : Workload → ℕ → Point → ℕ
+abbrev pub words_by : Facts → ℕ → Point → ℕ
 words_by w tablet (Did mutator (New root fields) (Made name)) = if name.entry / w.entries == tablet then fields + 1 else 0
 words_by w tablet point = 0
 
--- how many words all objects made in the tablet take, with the board, which is in tablet 0
-abbrev pub words_made : Workload → ℕ → List Point → ℕ
+-- how many words all objects that were ever made in the tablet take, with the board, which is in tablet 0
+abbrev pub words_made : Facts → ℕ → List Point → ℕ
 words_made w tablet history = (if tablet == 0 then w.board + 1 else 0) + sum_by (words_by w tablet) history
 
--- each entry of the tablet is taken, or its region has not the words for so many fields more
-abbrev pub IsTabletFull : Workload → Seen → List Point → ℕ → ℕ → ℕ → Type 0
+-- no entry of the tablet can take a new object, or all objects made in it, with one of so many fields more, take more words than a region has
+abbrev pub IsTabletFull : Facts → Seen → List Point → ℕ → ℕ → ℕ → Type 0
 IsTabletFull w front before cycle fields tablet =
-    ((entry : ℕ) → entry / w.entries ≡ tablet → IsEntryTaken w front before cycle entry)
+    ((entry : ℕ) → entry / w.entries ≡ tablet → IsEntryUnavailable w front before cycle entry)
     ⊎ (w.words < words_made w tablet before + fields + 1)
 
 -- after the cycle that the mutator waited for, or with no cycle left, no tablet has room for so many fields
-pub record IsStarved (w : Workload) (front : Seen) (before : List Point) (mutator fields : ℕ) : Type 0 where
+pub record IsStarved (w : Facts) (front : Seen) (before : List Point) (mutator fields : ℕ) : Type 0 where
   pub cycle : ℕ
   pub awaited : IsAwaited front before mutator cycle ⊎ AreSpent w before cycle
   pub full : (tablet : ℕ) → tablet < w.tablets → IsTabletFull w front before cycle fields tablet

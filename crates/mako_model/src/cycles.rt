@@ -1,7 +1,7 @@
 //! The finished cycles of a run, in room that was set aside.
 
 ghost use Rattle.std.specs.Prelude.{◌≡◌, ◌<◌, ◌≤◌, ◌+◌, ◌-◌, ◌++◌, ◌∷◌, [], length, slice_get, slice_index, sum_by, IfOk, Some};
-ghost use Rattle.mako_model.specs.Freed.{pieces, start_of, RiseTo};
+ghost use Rattle.mako_model.specs.CycleLists.{pieces, start_of, RiseTo};
 
 use mako_words::{Memory, Name};
 use std::alloc::Global;
@@ -17,7 +17,7 @@ pub struct Cycles {
 }
 
 impl Model for Cycles {
-    ghost use Rattle.mako_model.specs.Freed.{Lists, lists_of, IsKept};
+    ghost use Rattle.mako_model.specs.CycleLists.{Lists, lists_of, IsKept};
 
     ghost Value = { Lists };
 

@@ -20,13 +20,13 @@ impl Model for Front {
 
     ghost Value = { Seen };
 
-    ghost view = { λ f. record { history = f.history.value.points; cycles = f.cycles.value.lists } };
+    ghost view = { λ f. record { history = f.history.value.points; finished = f.cycles.value.lists } };
 }
 
 impl Front {
     /// The front before anything was done.
     pub fn empty(alloc: Global) -> Front
-        ensures { result ≡ record { history = []; cycles = [] } }
+        ensures { result ≡ record { history = []; finished = [] } }
     {
         Front::of(&Journal::new(alloc), &Cycles::new(alloc))
     }
@@ -34,7 +34,7 @@ impl Front {
     /// The front of a journal and of the finished cycles.
     pub fn of(journal: &Journal, cycles: &Cycles) -> Front
         ensures history { result.history ≡ journal.now.points }
-        ensures cycles { result.cycles ≡ cycles.now.lists }
+        ensures finished { result.finished ≡ cycles.now.lists }
     {
         Front {
             history: Snapshot::of(journal),

@@ -53,6 +53,19 @@ impl Immortal {
     ) -> Result<Immortal, Memory>
         ensures { IfOk result (λ h. h ≡ opening mutators roots board cycles) }
     {
+        Immortal::opening(alloc, mutators as usize, roots, board, cycles)
+    }
+
+    /// The same, for any number of mutators.
+    pub fn opening(
+        alloc: Global,
+        mutators: usize,
+        roots: u32,
+        board: u8,
+        cycles: u32,
+    ) -> Result<Immortal, Memory>
+        ensures { IfOk result (λ h. h ≡ opening mutators roots board cycles) }
+    {
         let name = Name {
             entry: 0,
             generation: 0,

@@ -2,38 +2,40 @@
 //! that has nothing to do.
 
 ghost use Rattle.std.specs.Prelude.{◌≡◌, ◌≤◌, ◌↔◌, ◌++◌, ◌∷◌, [], ℕ, List};
+ghost use mathlib.Core.List.{IsPrefix};
 ghost use Rattle.std.specs.List.{Contains};
 ghost use Rattle.mako_words.specs.declared.name.Name.{Name};
 ghost use Rattle.mako_model.specs.declared.point.Point.{Point};
 ghost use Rattle.mako_model.specs.Fronts.{Seen, BeginsWith};
 ghost use Rattle.mako_model.specs.Lawful.{IsLawful};
-ghost use Rattle.mako_model.specs.Legal.{Workload, state_of, IsLegal};
+ghost use Rattle.mako_model.specs.Legal.{Facts, state_of, IsLegal};
 ghost use Rattle.mako_model.specs.Dead.{names_made, IsDead, AreFreed};
+ghost use Rattle.mako_model.specs.LawfulFronts.{IsLawfulFront};
 ghost use Rattle.mako_model.specs.Laws.{HasObject, IsClosed, DeadStandApart};
 
 /// What was made stays made.
 pub fn made_names_stay()
-    ensures { (front rest : List Point) (name : Name) → Contains (names_made front) name → Contains (names_made (front ++ rest)) name }
+    ensures { (start rest : List Point) (name : Name) → Contains (names_made start) name → Contains (names_made (start ++ rest)) name }
 {}
 
 /// The names made are those of the objects.
 pub fn made_names_are_objects()
-    ensures { (w : Workload) (history : List Point) (name : Name) → IsLegal w history → Contains (names_made history) name ↔ HasObject (state_of w history) name }
+    ensures { (w : Facts) (history : List Point) (name : Name) → IsLegal w history → Contains (names_made history) name ↔ HasObject (state_of w history) name }
 {}
 
-/// The front of a legal history is legal.
-pub fn legal_histories_have_legal_fronts()
-    ensures { (w : Workload) (front rest : List Point) → IsLegal w (front ++ rest) → IsLegal w front }
+/// A prefix of a legal history is legal.
+pub fn legal_histories_have_legal_prefixes()
+    ensures { (w : Facts) (start rest : List Point) → IsLegal w (start ++ rest) → IsLegal w start }
 {}
 
 /// A legal history with one lawful point more is legal.
 pub fn legal_histories_grow()
-    ensures { (w : Workload) (history : List Point) (point : Point) → IsLegal w history → IsLawful (state_of w history) point → IsLegal w (history ++ point ∷ []) }
+    ensures { (w : Facts) (history : List Point) (point : Point) → IsLegal w history → IsLawful (state_of w history) point → IsLegal w (history ++ point ∷ []) }
 {}
 
 /// Each name that stands in a root or a field is that of an object.
 pub fn heaps_are_closed()
-    ensures { (w : Workload) (history : List Point) → IsLegal w history → IsClosed (state_of w history) }
+    ensures { (w : Facts) (history : List Point) → IsLegal w history → IsClosed (state_of w history) }
 {}
 
 /// A front begins with itself.
@@ -46,18 +48,23 @@ pub fn fronts_begin_transitively()
     ensures { (a b c : Seen) → BeginsWith a b → BeginsWith b c → BeginsWith a c }
 {}
 
+/// Of two lawful fronts of which one begins with the other, the finished cycles do too.
+pub fn finished_cycles_begin_with_those_before()
+    ensures { (w : Facts) (whole front : Seen) → IsLawfulFront w whole → IsLawfulFront w front → BeginsWith whole front → IsPrefix front.finished whole.finished }
+{}
+
 /// A name that is dead in a cycle is dead in each later one that has begun.
 pub fn dead_names_stay_dead()
-    ensures { (w : Workload) (history : List Point) (cycle later : ℕ) (name : Name) → IsLegal w history → cycle ≤ later → later ≤ (state_of w history).snaps
+    ensures { (w : Facts) (history : List Point) (cycle later : ℕ) (name : Name) → IsLegal w history → cycle ≤ later → later ≤ (state_of w history).snaps
         → IsDead w history cycle name → IsDead w history later name }
 {}
 
 /// A name that was dead in a cycle stands in no root, and in no field of an object that was not.
 pub fn dead_names_stand_apart()
-    ensures { (w : Workload) (history : List Point) (cycle : ℕ) → IsLegal w history → DeadStandApart w history cycle }
+    ensures { (w : Facts) (history : List Point) (cycle : ℕ) → IsLegal w history → DeadStandApart w history cycle }
 {}
 
 /// The names that a cycle freed are one list.
 pub fn freed_names_are_one_list()
-    ensures { (w : Workload) (history : List Point) (cycle : ℕ) (a b : List Name) → AreFreed w history cycle a → AreFreed w history cycle b → a ≡ b }
+    ensures { (w : Facts) (history : List Point) (cycle : ℕ) (a b : List Name) → AreFreed w history cycle a → AreFreed w history cycle b → a ≡ b }
 {}

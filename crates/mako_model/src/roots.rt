@@ -23,7 +23,7 @@ impl Model for Roots {
 
 impl Roots {
     /// The roots at the start: the board, and nulls.
-    pub fn opening(alloc: Global, mutators: u32, roots: u32) -> Result<Roots, Memory>
+    pub fn opening(alloc: Global, mutators: usize, roots: u32) -> Result<Roots, Memory>
         ensures { IfOk result (λ r. r ≡ replicate mutators (opening_roots roots)) }
     {
         let mut rows = Vec::new(alloc);

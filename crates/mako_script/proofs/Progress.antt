@@ -7,7 +7,8 @@ use Rattle.std.specs.List.{flat_map, enumerate_from, range_with_len}
 use Rattle.std.specs.Prelude.{slice_get}
 use Rattle.mako_words.specs.declared.name.Name.{Name}
 use Rattle.mako_model.specs.declared.point.Point.{Point}
-use Rattle.mako_model.specs.Fronts.{answered_by, calls_by, replies_to, StartsWith, FollowsPrograms}
+use mathlib.Core.List.{IsPrefix}
+use Rattle.mako_model.specs.Fronts.{answered_by, calls_by, replies_to, FollowsPrograms}
 use Rattle.mako_model.specs.Outcomes.{IsWhole, reply_lists}
 use Rattle.mako_model.specs.declared.outcome.Outcome.{Outcome}
 use Rattle.mako_script.specs.Programs.{ProgramView}
@@ -18,7 +19,7 @@ use Rattle.mako_model.specs.declared.reply.Reply.{Reply}
 use Rattle.mako_script.specs.Outputs.{WentOut, point_text, cycle_text, mutator_line, mutator_text}
 use Rattle.mako_script.specs.Written.{Writes, lines_text, sections_text, FitPrograms}
 
--- a front of the text went out, and this part of it is still to go
+-- a prefix of the text went out, and this part of it is still to go
 pub record Progress (text todo : List ℕ) (old now : Option (List ℕ)) (before went : ℕ) : Type 0 where
   pub front : List ℕ
   pub parts : front ++ todo ≡ text
@@ -106,7 +107,7 @@ answered_lines (p ∷ pairs) rest = ap (λ (t : List ℕ). point_text p ++ t) (a
 -- and so for the mutators from a number on
 pub answered_sections : (programs : List (List Call)) (lists : List (List Reply)) (history : List Point) (m : ℕ) → length lists ≡ length programs
     → ((k : ℕ) → k < length lists → slice_get lists k ≡ Some (replies_to (m + k) history))
-    → ((k : ℕ) (program : List Call) → slice_get programs k ≡ Some program → StartsWith program (calls_by (m + k) history))
+    → ((k : ℕ) (program : List Call) → slice_get programs k ≡ Some program → IsPrefix (calls_by (m + k) history) program)
     → sections_text m programs lists ≡ flat_map (mutator_text history) (range_with_len m (length programs))
 answered_sections [] [] history m same replies follows = refl
 answered_sections [] (l ∷ lists) history m same replies follows = absurd (omega arith)
@@ -116,10 +117,10 @@ answered_sections (p ∷ programs) (l ∷ lists) history m same replies follows 
     let l_is : l ≡ replies_to m history = same_some (replies 0 (omega arith)) ∙ ap (λ (n : ℕ). replies_to n history) zero_more in
     let p_is = rw zero_more at (follows 0 p refl) in
     let head : lines_text p l ≡ flat_map point_text (answered_by m history) =
-    ap (λ (x : List Call). lines_text x l) p_is.1 ∙ ap (λ (x : List Reply). lines_text (calls_by m history ++ p_is.0) x) l_is ∙ answered_lines (answered_by m history) p_is.0 in
+    ap (λ (x : List Call). lines_text x l) (sym p_is.1) ∙ ap (λ (x : List Reply). lines_text (calls_by m history ++ p_is.0) x) l_is ∙ answered_lines (answered_by m history) p_is.0 in
     let tail = answered_sections programs lists history (m + 1) (omega arith)
     (λ k below. replies (suc k) (omega arith) ∙ ap (λ (n : ℕ). Some (replies_to n history)) (omega arith))
-    (λ k program at. let h = follows (suc k) program at in subst (λ (n : ℕ). StartsWith program (calls_by n history)) (omega arith) h) in
+    (λ k program at. let h = follows (suc k) program at in subst (λ (n : ℕ). IsPrefix (calls_by n history) program) (omega arith) h) in
     ap (λ (t : List ℕ). mutator_line m ++ t ++ sections_text (m + 1) programs lists) head ∙ ap (λ (t : List ℕ). (mutator_line m ++ flat_map point_text (answered_by m history)) ++ t) tail
   where
     same_some : {A : Type 0} {x y : A} → Some x ≡ Some y → x ≡ y
@@ -134,7 +135,7 @@ module _ (programs : List ProgramView) (o : Outcome) (whole : IsWhole o) (same :
   output_sections =
       answered_sections (map (λ p. p.calls) programs) (reply_lists o) o.front.history 0 (same ∙ sym (length-map programs (λ p. p.calls)))
       (λ k below. whole.replies k below ∙ ap (λ (n : ℕ). Some (replies_to n o.front.history)) (omega arith))
-      (λ k program at. subst (λ (n : ℕ). StartsWith program (calls_by n o.front.history)) (omega arith) (follows k program at))
+      (λ k program at. subst (λ (n : ℕ). IsPrefix (calls_by n o.front.history) program) (omega arith) (follows k program at))
       ∙ ap (λ (n : ℕ). flat_map (mutator_text o.front.history) (range_with_len 0 n)) (length-map programs (λ p. p.calls))
 
   -- no mutator has more replies than calls

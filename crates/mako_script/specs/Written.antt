@@ -7,7 +7,7 @@ use Rattle.mako_model.specs.declared.call.Call.{Call}
 use Rattle.mako_model.specs.declared.reply.Reply.{Reply}
 use Rattle.mako_script.specs.Outputs.{WentOut, point_text, mutator_line}
 
--- the whole text went out and is counted, or only a front of it
+-- the whole text went out and is counted, or only a prefix of it
 abbrev pub Writes : List ℕ → Option (List ℕ) → Option (List ℕ) → ℕ → Result ℕ WriteFault → Type 0
 Writes text old new before (Ok now) = Appends old new text × (now ≡ min (before + length text) (2 ^ 64 - 1))
 Writes text old new before (Err fault) = WentOut text old new before fault.went

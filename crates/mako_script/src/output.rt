@@ -9,7 +9,7 @@ ghost use Rattle.mako_io.specs.Causes.{Rose};
 ghost use Rattle.mako_words.specs.Names.{name_text};
 ghost use Rattle.mako_words.specs.Values.{value_text};
 ghost use Rattle.mako_model.specs.Fronts.{FollowsPrograms};
-ghost use Rattle.mako_model.specs.Outcomes.{IsWhole, reply_lists};
+ghost use Rattle.mako_model.specs.Outcomes.{IsWhole, AreCyclesOfFront, reply_lists};
 ghost use Rattle.mako_script.specs.Texts.{command_word};
 ghost use Rattle.mako_script.specs.Outputs.{point_text, reply_text, mutator_line, freed_text, cycle_text, last_line, output_text, WentOut};
 ghost use Rattle.mako_script.specs.Written.{Writes, lines_text, sections_text, FitPrograms};
@@ -291,6 +291,7 @@ pub fn write_output<K: Sink>(
     finished: bool,
 ) -> Result<(), WriteFault>
     requires whole { IsWhole outcome.now }
+    requires freed { AreCyclesOfFront outcome.now }
     requires lists { length (reply_lists outcome.now) ≡ length script.now.programs }
     requires follows { FollowsPrograms (map (λ p. p.calls) script.now.programs) outcome.now.front.history }
     ensures written { OnOk result (Appends (K.taken sink.old) (K.taken sink.new)

@@ -1,5 +1,5 @@
 use Rattle.std.proofs.Common.{length, get_or, ap, sym, ◌≡◌, ◌-◌, ◌+◌, ◌∙◌, arith}
-use Rattle.mako_model.specs.Freed.{start_of}
+use Rattle.mako_model.specs.CycleLists.{start_of}
 use Rattle.mako_model.proofs.Pieces.{piece_bounds, start_behind}
 use Rattle.mako_model.proofs.cycles.bounds.Goals as goal
 

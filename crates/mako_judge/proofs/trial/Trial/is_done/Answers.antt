@@ -13,4 +13,4 @@ returns-in-None c = λ program at.
     let row : slice_get (script c.args.self.now).programs c.args.mutator ≡ Some c.deref.result.now =
     get_map (λ calls. calls.items) rows c.args.mutator c.index-program.result.now c.requires ∙ ap (λ calls. Some calls.items) (sym c.index-program.ensures) ∙ ap (λ calls. Some calls) (sym c.deref.ensures.value) in
     let same : c.deref.result.now ≡ program = same_Some c.deref.result.now program (sym row ∙ at) in
-    ((λ t. absurd (false_true t)), (λ e. absurd (c.in-None.ensures ([], same ∙ sym e ∙ sym (append-nil calls)))))
+    ((λ t. absurd (false_true t)), (λ e. absurd (c.in-None.ensures ([], append-nil calls ∙ e ∙ sym same))))

@@ -20,6 +20,7 @@ start_of start ends zero = start
 start_of start [] (suc i) = start
 start_of start (end ∷ ends) (suc i) = start_of end ends i
 
+-- the lists of names and the room, from how they are stored
 abbrev pub lists_of : Inside → Lists
 lists_of c = record { lists = pieces c.names.items 0 c.ends.items; names_room = c.names_room; cycles_room = c.cycles_room }
 

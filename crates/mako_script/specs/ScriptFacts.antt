@@ -1,11 +1,10 @@
 -- What the plain heap needs of a script.
 use Rattle.std.specs.Prelude.{◌*◌, map}
-use Rattle.mako_model.specs.Legal.{Workload}
+use Rattle.mako_model.specs.Legal.{Facts}
 use Rattle.mako_script.specs.Scripts.{ScriptView}
 
-abbrev pub workload_of : ScriptView → Workload
-workload_of s = record {
-  mutators = s.numbers.mutators;
+abbrev pub facts_of : ScriptView → Facts
+facts_of s = record {
   roots = s.numbers.roots;
   board = s.board;
   tablets = s.numbers.servers * s.numbers.tablets;

@@ -1,7 +1,0 @@
-use Rattle.std.proofs.Common.{take, Contains}
-use Rattle.mako_words.specs.declared.name.Name.{Name}
-use Rattle.mako_judge.specs.Trials.{script, Takes}
-use Rattle.mako_judge.proofs.trial.Trial.is_entry_taken.Given as goal
-
-abbrev pub invariant-loop-name : goal.invariant-loop-name
-invariant-loop-name l = (name : Name) → Contains (take l.name-index l.made) name → ¬ Takes (script l.self) l.self.points.now l.cycle l.entry name
