@@ -1,5 +1,5 @@
 -- What a lawful point changes: nothing, one root, one field, or it makes one object.
-use Rattle.std.proofs.Common.{◌≡◌, ℕ, ◌+◌, ◌⊎◌, inl, inr, List, [], ◌∷◌, set, replicate, Some, None, ap, refl, sym, subst, ◌∙◌, unwrap_or}
+use Rattle.std.proofs.Common.{◌≡◌, ℕ, ◌+◌, inl, inr, List, [], ◌∷◌, set, replicate, Some, None, ap, refl, sym, subst, ◌∙◌, unwrap_or}
 use Rattle.mako_words.specs.declared.name.Name.{Name}
 use Rattle.mako_words.specs.declared.value.Value.{Value}
 use Rattle.mako_words.specs.declared.value.Value.TheVariants as value
@@ -10,12 +10,8 @@ use Rattle.mako_model.specs.declared.reply.Reply.TheVariants as reply
 use Rattle.mako_model.specs.declared.point.Point.{Point}
 use Rattle.mako_model.specs.declared.point.Point.TheVariants.{Did, Snap}
 use Rattle.mako_model.specs.Heaps.{Heap, fields_of, root_of, with_root, with_fields}
-use Rattle.mako_model.specs.Lawful.{HasRoot, RefersTo, IsNoRef, HasField, IsLawful, IsLawfulReply, heap_replied, heap_after, with_field}
+use Rattle.mako_model.specs.Lawful.{HasRoot, RefersTo, IsNoRef, IsAtHand, IsLawful, IsLawfulReply, heap_replied, heap_after, with_field}
 use Rattle.mako_model.specs.Dead.{made_by}
-
--- null or a number, or what stands in a root or in a field of an object that a root names
-abbrev pub IsAtHand : Heap → Value → Type 0
-IsAtHand h v = IsNoRef v ⊎ ((m : ℕ) × (q : ℕ) × (root_of h m q ≡ Some v)) ⊎ ((m : ℕ) × (q : ℕ) × (i : ℕ) × HasField h m q i v)
 
 -- the heap that a point leaves, and the names that it makes
 pub data Change (h after : Heap) (made : List Name) : Type 0 where
@@ -58,3 +54,15 @@ change_of_reply h m c r l = absurd l
 pub change_of : (h : Heap) (p : Point) → IsLawful h p → Change h (heap_after h p) (made_by p)
 change_of h (Did m c r) l = change_of_reply h m c r l
 change_of h (Snap cycle) l = Snapped refl refl
+
+-- ---- what a reply puts into a root
+
+pub copy_at_hand : (h : Heap) (m to from : ℕ) (v : Value) (c : Call) (r : Reply) → c ≡ call.CopyRoot to from → r ≡ reply.Value v → IsLawfulReply h m c r → IsAtHand h v
+copy_at_hand h m to from v c r e f l =
+    let at : IsLawfulReply h m (call.CopyRoot to from) (reply.Value v) = subst (λ q. IsLawfulReply h m (call.CopyRoot to from) q) f (subst (λ d. IsLawfulReply h m d r) e l) in
+    inr (inl (m, from, at.1))
+
+pub field_at_hand : (h : Heap) (m to from field : ℕ) (v : Value) (c : Call) (r : Reply) → c ≡ call.Get to from field → r ≡ reply.Value v → IsLawfulReply h m c r → IsAtHand h v
+field_at_hand h m to from field v c r e f l =
+    let at : IsLawfulReply h m (call.Get to from field) (reply.Value v) = subst (λ q. IsLawfulReply h m (call.Get to from field) q) f (subst (λ d. IsLawfulReply h m d r) e l) in
+    inr (inr (m, from, field, at.1))

@@ -1,5 +1,5 @@
 -- The names made are those of the objects, and each name that stands anywhere is one of them.
-use Rattle.std.proofs.Common.{◌≡◌, ℕ, zero, suc, ◌-◌, ◌<◌, ◌⊎◌, inl, inr, ⊎_elim, ◌↔◌, List, [], ◌∷◌, ◌++◌, length, Contains, flat_map, set, replicate, slice_get, Some, sym, ap, subst, refl, ◌∙◌, arith, append-nil, append_assoc}
+use Rattle.std.proofs.Common.{◌≡◌, ℕ, zero, suc, ◌-◌, ◌<◌, ◌⊎◌, inl, inr, ⊎_elim, ◌↔◌, List, [], ◌∷◌, ◌++◌, length, Contains, flat_map, set, replicate, slice_get, unwrap_or, Option, Some, None, sym, ap, subst, refl, ◌∙◌, arith, append-nil, append_assoc}
 use Rattle.std.specs.List.{fold}
 use Rattle.std.specs.FinMap as map
 use Rattle.std.proofs.lemmas.List.Elements.{Contains-append_left, Contains-push, Contains-push_cases}
@@ -9,14 +9,15 @@ use Rattle.mako_words.specs.declared.value.Value.{Value}
 use Rattle.mako_words.specs.declared.value.Value.TheVariants.{Null, Ref}
 use Rattle.mako_words.specs.Names.{name_cmp}
 use Rattle.mako_model.specs.declared.point.Point.{Point}
-use Rattle.mako_model.specs.Heaps.{Heap, fields_of, with_root, with_fields, board_name, opening_roots}
-use Rattle.mako_model.specs.Lawful.{IsNoRef, IsLawful, heap_after}
+use Rattle.mako_model.specs.Heaps.{Heap, fields_of, root_of, with_root, with_fields, board_name, opening, opening_roots}
+use Rattle.mako_model.specs.Lawful.{IsNoRef, IsAtHand, IsLawful, heap_after}
 use Rattle.mako_model.specs.Legal.{Facts, opening_of, state_of, AreLawful, IsLegal}
 use Rattle.mako_model.specs.Dead.{made_by, names_made}
 use Rattle.mako_model.specs.Laws.{HasObject, IsClosed}
+use Rattle.mako_model.specs.Reachable.{StandsInField}
 use Rattle.mako_model.proofs.Lists.{get_set_cases, get_replicate, cell}
 use Rattle.mako_model.proofs.Lookups.{name_cases, fields_same, fields_other, fields_cases, root_cases}
-use Rattle.mako_model.proofs.Changes.{Change, Nothing, Snapped, Rooted, Written, New, IsAtHand, change_of}
+use Rattle.mako_model.proofs.Changes.{Change, Nothing, Snapped, Rooted, Written, New, change_of}
 use Rattle.mako_model.proofs.Histories.{kept}
 
 -- ---- objects
@@ -112,7 +113,7 @@ opening_root (suc mutators) roots zero (suc q) x e = absurd (no_null_ref x (get_
 opening_root (suc mutators) roots (suc m) q x e = opening_root mutators roots m q x e
 
 -- a value at hand names an object
-hand_has : (h : Heap) (v : Value) (x : Name) → IsClosed h → IsAtHand h v → v ≡ Ref x → HasObject h x
+pub hand_has : (h : Heap) (v : Value) (x : Name) → IsClosed h → IsAtHand h v → v ≡ Ref x → HasObject h x
 hand_has h v x closed at e =
     ⊎_elim (λ plain. absurd (subst IsNoRef e plain))
     (λ held. ⊎_elim (λ t. closed.roots t.0 t.1 x (t.2 ∙ ap (λ (u : Value). Some u) e))
@@ -145,15 +146,49 @@ closed_changed h after made (New m q name fields root fresh e one) closed =
     (closed_written h name nulls closed (λ i y is. absurd (no_null_ref y (get_replicate fields i Null (Ref y) is))))
     (λ x is. subst (HasObject (with_fields h name nulls)) (same_ref name x is) (has_new h name nulls)))
 
-closed_opening : (w : Facts) → IsClosed (opening_of w)
-closed_opening w =
-    let bare : Heap = record { objects = map.empty; roots = (opening_of w).roots; snaps = 0; cycles = w.cycles } in
-    let board : List Value = replicate w.board Null in record {
-      roots = λ m q x e. subst (HasObject (opening_of w)) (opening_root (length w.programs) w.roots m q x e) (has_new bare board_name board);
-      fields = λ object y at. ⊎_elim (λ t. absurd (no_null_ref y (get_replicate w.board at.1 Null (Ref y) (ap (λ (fs : List Value). slice_get fs at.1) t.1 ∙ at.3))))
-          (λ t. absurd (empty_has bare object refl (at.0, t.1))) (fields_cases bare board_name board object at.0 at.2);
+-- the opening is closed
+pub opening_closed : (mutators roots board cycles : ℕ) → IsClosed (opening mutators roots board cycles)
+opening_closed mutators roots board cycles =
+    let h = opening mutators roots board cycles in
+    let bare : Heap = record { objects = map.empty; roots = h.roots; snaps = 0; cycles = cycles } in
+    let nulls : List Value = replicate board Null in record {
+      roots = λ m q x e. subst (HasObject h) (opening_root mutators roots m q x e) (has_new bare board_name nulls);
+      fields = λ object y at. ⊎_elim (λ t. absurd (no_null_ref y (get_replicate board at.1 Null (Ref y) (ap (λ (fs : List Value). slice_get fs at.1) t.1 ∙ at.3))))
+          (λ t. absurd (empty_has bare object refl (at.0, t.1))) (fields_cases bare board_name nulls object at.0 at.2);
     }
+
+-- ---- closed heaps by their parts
+
+pub closed_open : (objects : map.FinMap name_cmp (List Value)) (table : List (List Value)) (mutators roots board cycles : ℕ) → objects ≡ (opening mutators roots board cycles).objects
+    → table ≡ (opening mutators roots board cycles).roots → IsClosed (record { objects = objects; roots = table; snaps = 0; cycles = cycles })
+closed_open objects table mutators roots board cycles e f =
+    let same : record { objects = objects; roots = table; snaps = 0; cycles = cycles } ≡ opening mutators roots board cycles = λ i. record { objects = e i; roots = f i; snaps = 0; cycles = cycles } in
+    subst IsClosed (sym same) (opening_closed mutators roots board cycles)
+
+pub closed_set : (h : Heap) (table : List (List Value)) (m q : ℕ) (v : Value) → IsClosed h → ((x : Name) → v ≡ Ref x → HasObject h x) → table ≡ (with_root h m q v).roots
+    → IsClosed (record h { roots = table })
+closed_set h table m q v closed names e = subst (λ (t : List (List Value)). IsClosed (record h { roots = t })) (sym e) (closed_rooted h m q v closed names)
+
+stands_at : (h : Heap) (object x : Name) (o : Option (List Value)) → fields_of h object ≡ o → (i : ℕ) → slice_get (unwrap_or o []) i ≡ Some (Ref x) → StandsInField h object x
+stands_at h object x None e i is = absurd (none-some (Ref x) is)
+stands_at h object x (Some fields) e i is = (fields, i, e, is)
+
+pub closed_put : (h : Heap) (objects : map.FinMap name_cmp (List Value)) (name : Name) (field m from : ℕ) (v : Value) → IsClosed h → root_of h m from ≡ Some v
+    → objects ≡ (with_fields h name (set (unwrap_or (fields_of h name) []) field v)).objects → IsClosed (record h { objects = objects })
+closed_put h objects name field m from v closed is e =
+    let fields = unwrap_or (fields_of h name) [] in
+    subst (λ (o : map.FinMap name_cmp (List Value)). IsClosed (record h { objects = o })) (sym e) (closed_written h name (set fields field v) closed (λ j y at.
+    ⊎_elim (λ t. closed.roots m from y (is ∙ ap (λ (u : Value). Some u) t.1)) (λ t. closed.fields name y (stands_at h name y (fields_of h name) refl j t.1)) (get_set_cases fields field j v (Ref y) at)))
+
+pub closed_made : (h : Heap) (objects : map.FinMap name_cmp (List Value)) (table : List (List Value)) (name : Name) (fields : List Value) (n m q : ℕ) → IsClosed h → fields ≡ replicate n Null
+    → objects ≡ (with_fields h name fields).objects → table ≡ (with_root h m q (Ref name)).roots → IsClosed (record h { objects = objects; roots = table })
+closed_made h objects table name fields n m q closed nulls e f =
+    let g = with_fields h name (replicate n Null) in
+    let made = closed_written h name (replicate n Null) closed (λ i y is. absurd (no_null_ref y (get_replicate n i Null (Ref y) is))) in
+    let there : objects ≡ g.objects = e ∙ ap (λ (fs : List Value). map.insert h.objects name fs) nulls in
+    subst (λ (o : map.FinMap name_cmp (List Value)). IsClosed (record h { objects = o; roots = table })) (sym there)
+    (closed_set g table m q (Ref name) made (λ x is. subst (HasObject g) (same_ref name x is) (has_new h name (replicate n Null))) f)
 
 -- in a legal history each name that stands in a root or a field is that of an object
 pub closed_heap : (w : Facts) (history : List Point) → IsLegal w history → IsClosed (state_of w history)
-closed_heap w history legal = kept IsClosed (λ h p lawful closed. closed_changed h (heap_after h p) (made_by p) (change_of h p lawful) closed) w history legal (closed_opening w)
+closed_heap w history legal = kept IsClosed (λ h p lawful closed. closed_changed h (heap_after h p) (made_by p) (change_of h p lawful) closed) w history legal (opening_closed (length w.programs) w.roots w.board w.cycles)

@@ -13,14 +13,14 @@ use Rattle.mako_model.specs.declared.reply.Reply.TheVariants as reply
 use Rattle.mako_model.specs.declared.point.Point.{Point}
 use Rattle.mako_model.specs.declared.point.Point.TheVariants.{Did, Snap}
 use Rattle.mako_model.specs.Heaps.{Heap, fields_of, root_of, with_root, with_fields}
-use Rattle.mako_model.specs.Lawful.{IsNoRef, heap_after, heap_replied, with_field}
+use Rattle.mako_model.specs.Lawful.{IsNoRef, IsAtHand, heap_after, heap_replied, with_field}
 use Rattle.mako_model.specs.Legal.{Facts, opening_of, state_of, AreLawful, IsLegal}
 use Rattle.mako_model.specs.Reachable.{StandsInField, LeadsTo, IsReachable}
 use Rattle.mako_model.specs.Dead.{made_by, names_made, IsDead}
 use Rattle.mako_model.specs.Laws.{HasObject, DeadStandApart}
 use Rattle.mako_model.proofs.Lists.{get_set_cases, get_replicate}
 use Rattle.mako_model.proofs.Lookups.{fields_cases, root_cases}
-use Rattle.mako_model.proofs.Changes.{Change, Nothing, Snapped, Rooted, Written, New, IsAtHand, change_of}
+use Rattle.mako_model.proofs.Changes.{Change, Nothing, Snapped, Rooted, Written, New, change_of}
 use Rattle.mako_model.proofs.Histories.{lawful_rest, legal_prefix, legal_at, kept_along, made_stays}
 use Rattle.mako_model.proofs.Closed.{made_are_objects, has_still, no_null_ref, same_ref}
 use Rattle.mako_model.proofs.Splits.{split_of_append}

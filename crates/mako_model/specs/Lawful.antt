@@ -1,5 +1,5 @@
 -- Which calls may be answered how, and which snapshots may be taken, in an immortal heap, and what they change.
-use Rattle.std.specs.Prelude.{ℕ, ◌≡◌, ◌+◌, ◌<◌, ◌≤◌, List, [], length, slice_get, slice_set, replicate, Some, None}
+use Rattle.std.specs.Prelude.{ℕ, ◌≡◌, ◌+◌, ◌<◌, ◌≤◌, ◌⊎◌, List, [], length, slice_get, slice_set, replicate, Some, None}
 use Rattle.std.specs.declared.option.Option.{Option}
 use Rattle.std.specs.Option.{unwrap_or}
 use Rattle.mako_words.specs.declared.name.Name.{Name}
@@ -36,6 +36,10 @@ HoldsNoRef h mutator root = (v : Value) × (root_of h mutator root ≡ Some v) �
 abbrev pub HasField : Heap → ℕ → ℕ → ℕ → Value → Type 0
 HasField h mutator root field v =
     (name : Name) × (fields : List Value) × RefersTo h mutator root name fields × (slice_get fields field ≡ Some v)
+
+-- null or a number, or what stands in a root or in a field of an object that a root names
+abbrev pub IsAtHand : Heap → Value → Type 0
+IsAtHand h v = IsNoRef v ⊎ ((m : ℕ) × (q : ℕ) × (root_of h m q ≡ Some v)) ⊎ ((m : ℕ) × (q : ℕ) × (i : ℕ) × HasField h m q i v)
 
 -- the root names an object with more fields than that
 abbrev pub HasMoreFields : Heap → ℕ → ℕ → ℕ → Type 0

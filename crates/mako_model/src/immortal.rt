@@ -4,7 +4,7 @@ ghost use Rattle.std.specs.Prelude.{◌≡◌, ◌<◌, ◌↔◌, ℕ, List, le
 ghost use Rattle.std.specs.Option.{option_map};
 ghost use Rattle.mako_words.specs.declared.value.Value.TheVariants.{Null, Ref};
 ghost use Rattle.mako_model.specs.Heaps.{Heap, fields_of, roots_of, root_of, with_root, with_fields, opening};
-ghost use Rattle.mako_model.specs.Lawful.{HasRoot, HoldsNoRef, HasField, HasMoreFields, HasNoMoreFields, IsLawful, IsLawfulReply, heap_after, heap_replied, with_field};
+ghost use Rattle.mako_model.specs.Lawful.{HasRoot, IsAtHand, HoldsNoRef, HasField, HasMoreFields, HasNoMoreFields, IsLawful, IsLawfulReply, heap_after, heap_replied, with_field};
 ghost use Rattle.mako_model.specs.Immortals.{fields_named};
 
 use crate::call::Call;
@@ -33,12 +33,15 @@ impl Model for Immortal {
     ghost use Rattle.mako_words.specs.contracts.value.Value as stored;
     ghost use Rattle.mako_model.specs.Heaps.{Heap};
     ghost use Rattle.mako_model.specs.Immortals.{coded_heap};
+    ghost use Rattle.mako_model.specs.Laws.{IsClosed};
 
     ghost Value = { Heap };
 
     ghost coded = { coded_heap (finite.code coded_name (coded_list stored.the_row.coded)) (coded_list (coded_list stored.the_row.coded)) };
 
     ghost view = { λ i. record { objects = i.objects; roots = i.roots; snaps = i.snaps; cycles = i.cycles } };
+
+    ghost invariant = { λ i. IsClosed (record { objects = i.objects; roots = i.roots; snaps = i.snaps; cycles = i.cycles }) };
 }
 
 impl Immortal {
@@ -310,7 +313,8 @@ impl Immortal {
     }
 
     fn set_root(&mut self, mutator: u8, root: u8, value: Value)
-        requires { HasRoot self.old mutator root }
+        requires root { HasRoot self.old mutator root }
+        requires value { IsAtHand self.old value }
         ensures { self.new ≡ with_root self.old mutator root value }
     {
         self.roots.set(mutator, root, value);
