@@ -1,5 +1,5 @@
 -- A run answers its script, to the end where all its calls are in the history.
-use Rattle.std.proofs.Common.{◌≡◌, ℕ, zero, suc, ◌+◌, ◌*◌, ◌<◌, ◌++◌, inl, inr, List, [], ◌∷◌, length, take, drop, map, arith, refl, ap, subst, ◌∙◌, sym}
+use Rattle.std.proofs.Common.{◌≡◌, ℕ, zero, suc, ◌+◌, ◌*◌, ◌<◌, ◌++◌, inl, inr, List, [], ◌∷◌, length, take, drop, map, arith, refl, ap, subst, ◌∙◌}
 use Rattle.std.specs.Prelude.{Some, slice_get}
 use Rattle.std.specs.List.{AllByRecursion, flat_map, fold, Contains}
 use Rattle.std.proofs.lemmas.List.{append-nil, take-append-drop}

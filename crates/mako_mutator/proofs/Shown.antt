@@ -11,12 +11,12 @@ use Rattle.mako_words.specs.declared.value.Value.TheVariants.{Null, Num as NumVa
 use Rattle.mako_words.specs.declared.phase_word.PhaseWord.{PhaseWord}
 use Rattle.mako_words.specs.declared.phase_word.PhaseWord.TheVariants.{Idle, Trace, Evac, Stop}
 use Rattle.mako_step.specs.Machines.{IsAct}
-use Rattle.mako_step.specs.Trails.{Observation, Goes}
+use Rattle.mako_step.specs.Trails.{Observation}
 use Rattle.mako_step.specs.Trails.Goes.{stays, steps}
 use Rattle.mako_step.specs.declared.act.Act.{Act}
 use Rattle.mako_step.specs.declared.act.Op.TheVariants.{Load}
 use Rattle.mako_step.specs.declared.step.Step.{Step}
-use Rattle.mako_step.specs.declared.step.Step.TheVariants.{Do, Ended as NoStep}
+use Rattle.mako_step.specs.declared.step.Step.TheVariants.{Do}
 use Rattle.mako_step.proofs.Along.{did, do_did, is_act, along}
 use Rattle.mako_step.proofs.Cases.{by_le, by_eq, by_bool}
 use Rattle.mako_model.specs.declared.call.Call.{Call}

@@ -121,14 +121,15 @@ impl RootStage {
                 object,
                 field,
                 value,
-            } => Errand::begun(
-                object,
-                Access::Put(Put {
+            } => {
+                let phase = phase_of(before);
+                let put = Put {
                     field,
                     value,
-                    phase: phase_of(before),
-                }),
-            ),
+                    phase,
+                };
+                Errand::begun(object, Access::Put(put))
+            }
         }
     }
 }

@@ -1,8 +1,7 @@
 -- A step of a copy keeps its numbers in their ranges, and lowers its rank.
-use Rattle.std.proofs.Common.{◌≡◌, ℕ, ◌+◌, ◌-◌, ◌*◌, ◌<◌, ◌≤◌, if◌then◌else◌, refl, arith}
+use Rattle.std.proofs.Common.{◌≡◌, ℕ, ◌+◌, ◌-◌, ◌*◌, ◌<◌, if◌then◌else◌, refl, arith}
 use Rattle.mako_words.specs.declared.entry_word.EntryWord.{EntryWord}
 use Rattle.mako_shape.specs.declared.numbers.Numbers.{Numbers}
-use Rattle.mako_shape.specs.Places.{total}
 use Rattle.mako_step.specs.Machines.{IsAct}
 use Rattle.mako_record.specs.declared.copier.CopyStage.{CopyStage}
 use Rattle.mako_record.specs.declared.copier.CopyStage.TheVariants.{LoadingTop, LoadingHeader, StoringHeader, LoadingField, StoringField, StoringEntry, RaisingTop, Ended}
@@ -19,8 +18,8 @@ field_goes : (n : Numbers) (e : EntryWord) (offset fields field r : ℕ) → Cop
     GoesOn n e r (before_field offset fields field)
 field_goes n e offset fields field r fits two more =
     by_lt (λ b. GoesOn n e r (if b then LoadingField offset fields field else StoringEntry offset fields)) field fields
-      (λ l. record { known = (fits, l); lower = more l })
-      (λ _. record { known = fits; lower = two })
+    (λ l. record { known = (fits, l); lower = more l })
+    (λ _. record { known = fits; lower = two })
 
 stage_goes : (c : Copying) (w : ℕ) (s : CopyStage) → c.stage ≡ s → IsKnown c → StageIsKnown c.shape c.entry s → StageFits c.shape c.entry s w →
     IsAct (copy_next c.shape c.number c.entry c.home s) → GoesOn c.shape c.entry (stage_rank s) (stage_fed c.shape c.home s w)

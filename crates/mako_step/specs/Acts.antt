@@ -1,5 +1,6 @@
 -- What acts make of words, and what they find. The equations are those of a shared table of atomic words.
-use Rattle.std.specs.Prelude.{◌≡◌, ◌≢◌, ℕ, ◌+◌, ◌-◌, ◌%◌, ◌<◌, ◌≤◌, ◌^◌, ◌==◌, max, bit_and, bit_or, List, length, slice_index, slice_set, if◌then◌else◌}
+use Rattle.std.specs.Prelude.{◌≡◌, ◌≢◌, ℕ, ◌+◌, ◌-◌, ◌%◌, ◌<◌, ◌≤◌, ◌^◌, ◌==◌, max, bit_and, bit_or, List, length, slice_index, slice_set}
+use prog.Atomic.{either}
 use Rattle.mako_step.specs.declared.act.Op.{Op}
 use Rattle.mako_step.specs.declared.act.Op.TheVariants.{Load, Store, Add, Sub, Or, And, Max, Exchange}
 use Rattle.mako_step.specs.declared.act.Act.{Act}
@@ -15,7 +16,7 @@ after_op (Sub x) n = (n + (2 ^ 64 - x)) % 2 ^ 64
 after_op (Or x) n = bit_or n x
 after_op (And x) n = bit_and n x
 after_op (Max x) n = max n x
-after_op (Exchange expect new) n = (if n == expect then new else n)
+after_op (Exchange expect new) n = either (n == expect) new n
 
 -- what the operation answers: the word before, or 0 for a store
 abbrev pub found : Op → ℕ → ℕ
