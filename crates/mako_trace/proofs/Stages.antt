@@ -1,0 +1,76 @@
+-- What a tracer does and becomes at a stage is the same whatever stage it kept.
+use Rattle.std.proofs.Common.{◌≡◌, ℕ, ◌+◌, ◌==◌, Bool, true, false, if◌then◌else◌, refl}
+use Rattle.mako_step.specs.Machines.{IsAct}
+use Rattle.mako_ring.specs.Tracing.{TracerView, owner, no_window, window_of, set_window, own_tablet, live_of, is_open, at_stage, work_on, next_work, stage_next, past_windows, windows_from, rest, past_rings, rings_from, after_source, advanced, scan_of, behind_field, field_found, send_fed, scan_fed, receive_fed, mark_fed, rest_fed, stage_fed, fed, new_tracer, begun, IsNamed, FieldFits, ScanFits, ReceiveFits, MarkFits, StageFits, Fits}
+use Rattle.mako_ring.specs.Windows.{tail_up}
+use Rattle.mako_ring.specs.declared.window.Window.{Window}
+use Rattle.mako_ring.specs.declared.tracing.Source.{Source}
+use Rattle.mako_ring.specs.declared.tracing.Source.TheVariants.{Collector, Server}
+use Rattle.mako_ring.specs.declared.tracing.SendStage.{SendStage}
+use Rattle.mako_ring.specs.declared.tracing.SendStage.TheVariants.{HeadLook, GhostRaise, HeadStore}
+use Rattle.mako_ring.specs.declared.tracing.ScanStage.{ScanStage}
+use Rattle.mako_ring.specs.declared.tracing.ScanStage.TheVariants.{FieldLoad, EntryLoad, HeaderLoad}
+use Rattle.mako_ring.specs.declared.tracing.ReceiveStage.{ReceiveStage}
+use Rattle.mako_ring.specs.declared.tracing.ReceiveStage.TheVariants.{SlotLook, BusyRaise, SlotClear}
+use Rattle.mako_ring.specs.declared.tracing.MarkStage.{MarkStage}
+use Rattle.mako_ring.specs.declared.tracing.MarkStage.TheVariants.{Considering, Measuring, Marking as EntryMark, Counting}
+use Rattle.mako_ring.specs.declared.tracing.RestStage.{RestStage}
+use Rattle.mako_ring.specs.declared.tracing.RestStage.TheVariants.{BusyLower, TailLook, GhostLower}
+use Rattle.mako_ring.specs.declared.tracing.TraceStage.{TraceStage}
+use Rattle.mako_ring.specs.declared.tracing.TraceStage.TheVariants.{Sending, Scanning, Receiving, Marking, Resting, Ended}
+use Rattle.mako_trace.specs.Held.{ScanKnown, SomeScanKnown, NameKnown, SomeNameKnown, AreHeld, IsHeld, SendKnown, ScanStageKnown, SourceKnown, ReceiveKnown, CountKnown, MarkKnown, RestKnown, StageKnown, IsKnown}
+
+-- the tracer at its end, as far as the stage is not read
+abbrev pub unstaged : TracerView → TracerView
+unstaged t = at_stage t Ended
+
+pub next_at : (t : TracerView) (s : TraceStage) → stage_next (unstaged t) s ≡ stage_next t s
+next_at t (Sending (HeadLook x)) = refl
+next_at t (Sending (GhostRaise x)) = refl
+next_at t (Sending (HeadStore x)) = refl
+next_at t (Scanning (FieldLoad s)) = refl
+next_at t (Scanning (EntryLoad x)) = refl
+next_at t (Scanning (HeaderLoad x address)) = refl
+next_at t (Receiving (SlotLook Collector)) = refl
+next_at t (Receiving (SlotLook (Server a))) = refl
+next_at t (Receiving (BusyRaise source x)) = refl
+next_at t (Receiving (SlotClear Collector x)) = refl
+next_at t (Receiving (SlotClear (Server a) x)) = refl
+next_at t (Marking (Considering x)) = refl
+next_at t (Marking (Measuring x e)) = refl
+next_at t (Marking (EntryMark x e fields)) = refl
+next_at t (Marking (Counting x fields)) = refl
+next_at t (Resting BusyLower) = refl
+next_at t (Resting (TailLook r)) = refl
+next_at t (Resting GhostLower) = refl
+next_at t Ended = refl
+
+pub fed_at : (t : TracerView) (s : TraceStage) (w : ℕ) → IsAct (stage_next t s) → stage_fed (unstaged t) s w ≡ stage_fed t s w
+fed_at t (Sending (HeadLook x)) w acts = refl
+fed_at t (Sending (GhostRaise x)) w acts = refl
+fed_at t (Sending (HeadStore x)) w acts = refl
+fed_at t (Scanning (FieldLoad s)) w acts = refl
+fed_at t (Scanning (EntryLoad x)) w acts = refl
+fed_at t (Scanning (HeaderLoad x address)) w acts = refl
+fed_at t (Receiving (SlotLook source)) w acts = refl
+fed_at t (Receiving (BusyRaise source x)) w acts = refl
+fed_at t (Receiving (SlotClear Collector x)) w acts = refl
+fed_at t (Receiving (SlotClear (Server a) x)) w acts = refl
+fed_at t (Marking (Considering x)) w acts = refl
+fed_at t (Marking (Measuring x e)) w acts = refl
+fed_at t (Marking (EntryMark x e fields)) w acts = refl
+fed_at t (Marking (Counting x fields)) w acts = refl
+fed_at t (Resting BusyLower) w acts = refl
+fed_at t (Resting (TailLook r)) w acts = looked (w == 0)
+  where
+    seen : Window
+    seen = tail_up t.shape.ring (window_of t r)
+
+    looked : (b : Bool) → windows_from (if b then set_window (unstaged t) r seen else unstaged t) (r + 1) ≡ windows_from (if b then set_window t r seen else t) (r + 1)
+    looked true = refl
+    looked false = refl
+fed_at t (Resting GhostLower) w acts = refl
+fed_at t Ended w acts = absurd acts
+
+pub begun_at : (t : TracerView) (c : ℕ) → begun (unstaged t) c ≡ begun t c
+begun_at t c = refl
