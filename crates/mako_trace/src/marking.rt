@@ -16,7 +16,7 @@ use mako_words::{EntryWord, LiveWord, Name};
 
 impl Holdings {
     /// The place of the name's tablet among those of its server.
-    fn own_tablet(&self, name: Name) -> usize
+    pub(crate) fn own_tablet(&self, name: Name) -> usize
         requires named { tracing.IsNamed self.now.shape name }
         ensures tablet { result ≡ tracing.own_tablet self.now.shape name.entry }
         ensures below { result < self.now.shape.tablets }

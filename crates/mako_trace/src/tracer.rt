@@ -18,8 +18,8 @@ use std::marker::Model;
 /// their records, and sends the names of others to their servers.
 #[derive(Drop)]
 pub struct Tracer {
-    holdings: Holdings,
-    stage: TraceStage,
+    pub(crate) holdings: Holdings,
+    pub(crate) stage: TraceStage,
 }
 
 impl Model for Tracer {
