@@ -1,24 +1,18 @@
 -- Each step of a server's tracing lowers the rank of its job, or ends the job.
-use Rattle.std.proofs.Common.{◌≡◌, ◌≢◌, ℕ, ◌+◌, ◌-◌, ◌*◌, ◌%◌, ◌<◌, ◌≤◌, ◌==◌, ◌&&◌, ◌||◌, ◌⊎◌, not, inl, inr, nat_lt, if◌then◌else◌, Bool, true, false, Option, Some, None, is_some, is_none, List, ◌∷◌, [], ◌++◌, length, take, drop, slice_index, slice_index_or, slice_set, ap, sym, subst, refl, ◌∙◌, arith}
+use Rattle.std.proofs.Common.{◌≡◌, ℕ, ◌+◌, ◌-◌, ◌<◌, ◌≤◌, ◌&&◌, ◌||◌, not, nat_lt, if◌then◌else◌, false, Option, Some, None, is_some, is_none, drop, arith}
 use Rattle.std.specs.List.{position}
 use Rattle.mako_step.specs.Machines.{IsAct, Lowers}
 use Rattle.mako_step.proofs.Cases.{by_eq, by_lt, when_eq, when_test}
 use Rattle.mako_trace.specs.Ranks.{is_name, send_renews, scan_renews, receive_renews, mark_renews, stage_renews, is_renewed, send_rank, scan_rank, rings_left, receive_rank, mark_rank, rest_rank, stage_rank, rank}
-use Rattle.mako_words.specs.Entries.{entry_at, FitsEntry}
+use Rattle.mako_words.specs.Entries.{entry_at}
 use Rattle.mako_words.specs.Names.{name_at}
-use Rattle.mako_words.specs.Values.{value_at, IsPacked, FitsValue}
+use Rattle.mako_words.specs.Values.{value_at}
 use Rattle.mako_words.specs.declared.name.Name.{Name}
 use Rattle.mako_words.specs.declared.value.Value.{Value}
 use Rattle.mako_words.specs.declared.value.Value.TheVariants.{Null, Num, Ref}
 use Rattle.mako_shape.specs.declared.numbers.Numbers.{Numbers}
-use Rattle.mako_shape.specs.Belongings.{tablet_of_entry}
-use Rattle.mako_shape.specs.Limits.{IsShape, all_entries}
-use Rattle.mako_shape.specs.Places.{total}
-use Rattle.mako_shape.proofs.BelongingLaws.{belongings_in_range}
-use Rattle.mako_ring.specs.Contents.{after_place}
-use Rattle.mako_ring.specs.Tracing.{TracerView, owner, no_window, window_of, set_window, own_tablet, live_of, is_open, at_stage, work_on, next_work, next_of, stage_next, past_windows, windows_from, rest, past_rings, rings_from, after_source, advanced, scan_of, behind_field, field_found, send_fed, scan_fed, receive_fed, mark_fed, rest_fed, stage_fed, fed, new_tracer, begun, IsNamed, FieldFits, ScanFits, ReceiveFits, MarkFits, StageFits, Fits}
-use Rattle.mako_ring.specs.Windows.{IsWindow, tail_up, head_up, found_room}
-use Rattle.mako_ring.specs.declared.window.Window.{Window}
+use Rattle.mako_ring.specs.Tracing.{TracerView, owner, window_of, set_window, is_open, at_stage, work_on, next_work, next_of, stage_next, past_windows, windows_from, rest, past_rings, rings_from, after_source, advanced, behind_field, field_found, send_fed, scan_fed, receive_fed, mark_fed, rest_fed, stage_fed, fed, ScanFits, StageFits, Fits}
+use Rattle.mako_ring.specs.Windows.{tail_up, found_room}
 use Rattle.mako_ring.specs.declared.tracing.Scan.{Scan}
 use Rattle.mako_ring.specs.declared.tracing.Source.{Source}
 use Rattle.mako_ring.specs.declared.tracing.Source.TheVariants.{Collector, Server}
@@ -34,7 +28,7 @@ use Rattle.mako_ring.specs.declared.tracing.RestStage.{RestStage}
 use Rattle.mako_ring.specs.declared.tracing.RestStage.TheVariants.{BusyLower, TailLook, GhostLower}
 use Rattle.mako_ring.specs.declared.tracing.TraceStage.{TraceStage}
 use Rattle.mako_ring.specs.declared.tracing.TraceStage.TheVariants.{Sending, Scanning, Receiving, Marking, Resting, Ended}
-use Rattle.mako_trace.specs.Held.{ScanKnown, SomeScanKnown, NameKnown, SomeNameKnown, AreHeld, IsHeld, SendKnown, ScanStageKnown, SourceKnown, ReceiveKnown, CountKnown, MarkKnown, RestKnown, StageKnown, IsKnown}
+use Rattle.mako_trace.specs.Held.{ScanKnown, ScanStageKnown, SourceKnown, ReceiveKnown, RestKnown, StageKnown, IsKnown}
 
 -- the steps that are left, of so many servers
 abbrev left : TracerView → ℕ

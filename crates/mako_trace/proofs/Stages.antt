@@ -1,24 +1,17 @@
 -- What a tracer does and becomes at a stage is the same whatever stage it kept.
 use Rattle.std.proofs.Common.{◌≡◌, ℕ, ◌+◌, ◌==◌, Bool, true, false, if◌then◌else◌, refl}
 use Rattle.mako_step.specs.Machines.{IsAct}
-use Rattle.mako_ring.specs.Tracing.{TracerView, owner, no_window, window_of, set_window, own_tablet, live_of, is_open, at_stage, work_on, next_work, stage_next, past_windows, windows_from, rest, past_rings, rings_from, after_source, advanced, scan_of, behind_field, field_found, send_fed, scan_fed, receive_fed, mark_fed, rest_fed, stage_fed, fed, new_tracer, begun, IsNamed, FieldFits, ScanFits, ReceiveFits, MarkFits, StageFits, Fits}
+use Rattle.mako_ring.specs.Tracing.{TracerView, window_of, set_window, at_stage, stage_next, windows_from, stage_fed, begun}
 use Rattle.mako_ring.specs.Windows.{tail_up}
 use Rattle.mako_ring.specs.declared.window.Window.{Window}
-use Rattle.mako_ring.specs.declared.tracing.Source.{Source}
 use Rattle.mako_ring.specs.declared.tracing.Source.TheVariants.{Collector, Server}
-use Rattle.mako_ring.specs.declared.tracing.SendStage.{SendStage}
 use Rattle.mako_ring.specs.declared.tracing.SendStage.TheVariants.{HeadLook, GhostRaise, HeadStore}
-use Rattle.mako_ring.specs.declared.tracing.ScanStage.{ScanStage}
 use Rattle.mako_ring.specs.declared.tracing.ScanStage.TheVariants.{FieldLoad, EntryLoad, HeaderLoad}
-use Rattle.mako_ring.specs.declared.tracing.ReceiveStage.{ReceiveStage}
 use Rattle.mako_ring.specs.declared.tracing.ReceiveStage.TheVariants.{SlotLook, BusyRaise, SlotClear}
-use Rattle.mako_ring.specs.declared.tracing.MarkStage.{MarkStage}
 use Rattle.mako_ring.specs.declared.tracing.MarkStage.TheVariants.{Considering, Measuring, Marking as EntryMark, Counting}
-use Rattle.mako_ring.specs.declared.tracing.RestStage.{RestStage}
 use Rattle.mako_ring.specs.declared.tracing.RestStage.TheVariants.{BusyLower, TailLook, GhostLower}
 use Rattle.mako_ring.specs.declared.tracing.TraceStage.{TraceStage}
 use Rattle.mako_ring.specs.declared.tracing.TraceStage.TheVariants.{Sending, Scanning, Receiving, Marking, Resting, Ended}
-use Rattle.mako_trace.specs.Held.{ScanKnown, SomeScanKnown, NameKnown, SomeNameKnown, AreHeld, IsHeld, SendKnown, ScanStageKnown, SourceKnown, ReceiveKnown, CountKnown, MarkKnown, RestKnown, StageKnown, IsKnown}
 
 -- the tracer at its end, as far as the stage is not read
 abbrev pub unstaged : TracerView → TracerView

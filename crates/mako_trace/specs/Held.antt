@@ -1,9 +1,8 @@
 -- What a server's tracing keeps between its steps, and the ranges of its numbers.
-use Rattle.std.specs.Prelude.{ℕ, ◌≡◌, ◌≢◌, ◌+◌, ◌*◌, ◌<◌, ◌≤◌, ◌^◌, Option, Some, None, All, length, vec_capacity}
+use Rattle.std.specs.Prelude.{ℕ, ◌≡◌, ◌+◌, ◌*◌, ◌<◌, ◌≤◌, ◌^◌, Option, Some, None, All, length, vec_capacity}
 use Rattle.mako_words.specs.Entries.{FitsEntry}
 use Rattle.mako_words.specs.Names.{FitsName}
 use Rattle.mako_words.specs.declared.name.Name.{Name}
-use Rattle.mako_words.specs.declared.entry_word.EntryWord.{EntryWord}
 use Rattle.mako_shape.specs.declared.numbers.Numbers.{Numbers}
 use Rattle.mako_shape.specs.Belongings.{IsAddress}
 use Rattle.mako_shape.specs.Limits.{IsShape, all_entries}

@@ -1,5 +1,5 @@
 -- The jobs of a server's tracing: the work on one name or on one record, and one round of looks.
-use Rattle.std.specs.Prelude.{ℕ, Bool, true, false, ◌+◌, ◌-◌, ◌≡◌, ◌==◌, ◌&&◌, ◌||◌, not, nat_lt, is_some, is_none}
+use Rattle.std.specs.Prelude.{ℕ, Bool, true, false, ◌+◌, ◌-◌, ◌==◌, ◌&&◌, ◌||◌, not, nat_lt, is_some, is_none}
 use Rattle.mako_words.specs.Entries.{entry_at}
 use Rattle.mako_words.specs.Values.{value_at}
 use Rattle.mako_words.specs.declared.value.Value.{Value}

@@ -1,5 +1,4 @@
-use Rattle.std.proofs.Common.{◌≡◌, ◌*◌, ◌≤◌, ap, subst, sym, ◌∙◌, vec_capacity}
-use Rattle.mako_shape.specs.declared.numbers.Numbers.{Numbers}
+use Rattle.std.proofs.Common.{ap, subst, sym, ◌∙◌}
 use Rattle.mako_step.specs.Machines.{IsAct, Lowers}
 use Rattle.mako_ring.specs.Tracing.{TracerView, next_of, Fits, fed}
 use Rattle.mako_trace.specs.Held.{tracer_in, IsKnown}
