@@ -1,0 +1,5 @@
+pub mod Owners
+pub mod Passing
+pub mod Tablets
+pub mod Freeing
+pub mod Evacuating

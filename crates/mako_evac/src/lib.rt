@@ -1,0 +1,15 @@
+//! Evacuation by a server: its tablets that leave a region are copied home, and its dead entries are freed.
+#![tactic(auto)]
+
+mod evacuator;
+mod freeing;
+mod owner;
+mod stage;
+mod tablet;
+mod words;
+
+pub use evacuator::Evacuator;
+pub use freeing::FreeStage;
+pub use owner::Owner;
+pub use stage::EvacStage;
+pub use tablet::TabletStage;
