@@ -54,3 +54,7 @@ after_below size at h = by_eq (λ b. (if b then 0 else at + 1) < size) (at + 1) 
 -- so is an entry of one of its tablets
 pub record_within : (o : Owner) (t x : ℕ) → IsOwner o → IsOwnTablet o t → IsEntryOf o.shape t x → x < all_entries o.shape
 record_within o t x h own of = entry_within o x h (entry_is_own o t x own of)
+
+-- the first of its tablets is not past the end
+pub first_is_before_end : (o : Owner) → first_tablet o ≤ tablets_end o
+first_is_before_end o = first_entry_rises o.shape.tablets o.server (o.server + 1) (omega arith)

@@ -1,2 +1,5 @@
 pub mod Bounds
 pub mod Going
+pub mod Trails
+pub mod Shown
+pub mod Rising

@@ -3,6 +3,7 @@
 
 mod evacuator;
 mod freeing;
+pub mod laws;
 mod owner;
 mod stage;
 mod tablet;
