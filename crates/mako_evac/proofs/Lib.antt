@@ -3,3 +3,4 @@ pub mod Going
 pub mod Trails
 pub mod Shown
 pub mod Rising
+pub mod Low

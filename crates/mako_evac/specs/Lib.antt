@@ -6,3 +6,4 @@ pub mod Evacuating
 pub mod Runs
 pub mod Evidence
 pub mod Rising
+pub mod Low

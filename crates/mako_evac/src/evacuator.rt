@@ -22,9 +22,9 @@ use std::marker::Model;
 /// collector each name, and the end.
 #[derive(Drop)]
 pub struct Evacuator {
-    owner: Owner,
-    at: u64,
-    stage: EvacStage,
+    pub(crate) owner: Owner,
+    pub(crate) at: u64,
+    pub(crate) stage: EvacStage,
 }
 
 impl Model for Evacuator {

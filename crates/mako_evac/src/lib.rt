@@ -14,3 +14,6 @@ pub use freeing::FreeStage;
 pub use owner::Owner;
 pub use stage::EvacStage;
 pub use tablet::TabletStage;
+
+#[cfg(test)]
+mod tests;
