@@ -3,9 +3,10 @@
 ghost use Rattle.std.specs.Prelude.{◌≡◌, ◌<◌, ◌+◌, ◌*◌};
 ghost use Rattle.mako_shape.specs.Places.{total};
 ghost use Rattle.mako_step.specs.Acts.{IsWithin};
+ghost use Rattle.mako_record.specs.Copying.{next_of};
 ghost use Rattle.mako_evac.specs.Owners as owners;
 ghost use Rattle.mako_evac.specs.Owners.{IsOwner, IsOwnTablet};
-ghost use Rattle.mako_evac.specs.Tablets.{tablet_next, tablet_fed, tablet_waits, TabletFits, TabletIsKnown};
+ghost use Rattle.mako_evac.specs.Tablets.{tablet_next, tablet_fed, tablet_waits, copy_fed, IsPlaced, TabletFits, TabletIsKnown};
 
 use crate::owner::Owner;
 use crate::stage::{EvacStage, at_record, at_tablet};
@@ -84,8 +85,7 @@ impl TabletStage {
             TabletStage::Draining if !counts_somebody(before) => TabletStage::LoadingHome,
             TabletStage::Shutting | TabletStage::Draining => TabletStage::Draining,
             TabletStage::LoadingHome => {
-                let first = owner.first_entry(tablet);
-                return at_record(owner, tablet, before as u32, first);
+                return at_record(owner, tablet, before as u32, owner.first_entry(tablet));
             }
             TabletStage::LoadingEntry { home, entry } => {
                 let found = entry_of(before);
@@ -105,19 +105,32 @@ impl TabletStage {
                 mut copier,
             } => {
                 copier.feed(before);
-                match copier.next() {
-                    Step::Do(_) => TabletStage::Copying {
-                        home,
-                        entry,
-                        copier,
-                    },
-                    Step::Ended => return at_record(owner, tablet, home, entry + 1),
-                }
+                return after_copy(owner, tablet, home, entry, copier);
             }
             TabletStage::Clearing => TabletStage::Reopening,
             TabletStage::Reopening => return at_tablet(owner, tablet + 1),
         };
         EvacStage::Evacuating(tablet, stage)
+    }
+}
+
+/// The copy goes on, or past its end the tablet's next entry is due.
+fn after_copy(owner: &Owner, tablet: u32, home: u32, entry: u32, copier: Copier) -> EvacStage
+    requires owner { IsOwner owner.now }
+    requires tablet { IsOwnTablet owner.now tablet }
+    requires placed { IsPlaced owner.now tablet home entry }
+    ensures { result ≡ copy_fed owner.now tablet home entry copier (next_of copier) }
+{
+    match copier.next() {
+        Step::Do(_) => EvacStage::Evacuating(
+            tablet,
+            TabletStage::Copying {
+                home,
+                entry,
+                copier,
+            },
+        ),
+        Step::Ended => at_record(owner, tablet, home, entry + 1),
     }
 }
 
