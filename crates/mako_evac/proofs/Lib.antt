@@ -4,3 +4,4 @@ pub mod Trails
 pub mod Shown
 pub mod Rising
 pub mod Low
+pub mod Worked

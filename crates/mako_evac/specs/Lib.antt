@@ -7,3 +7,4 @@ pub mod Runs
 pub mod Evidence
 pub mod Rising
 pub mod Low
+pub mod Examples

@@ -2,6 +2,7 @@
 #![tactic(auto)]
 
 mod evacuator;
+pub mod examples;
 mod freeing;
 pub mod laws;
 mod owner;
