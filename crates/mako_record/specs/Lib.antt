@@ -1,2 +1,3 @@
 pub mod Regions
 pub mod Copying
+pub mod Runs

@@ -6,3 +6,6 @@ mod region;
 
 pub use copier::{Copier, CopyStage};
 pub use region::is_in_region;
+
+#[cfg(test)]
+mod tests;
