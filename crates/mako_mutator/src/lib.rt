@@ -34,3 +34,6 @@ pub use place::Place;
 pub use progress::{Progress, Task};
 pub use putting::PutStage;
 pub use rooting::RootStage;
+
+#[cfg(test)]
+mod tests;
