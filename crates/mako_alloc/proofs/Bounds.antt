@@ -3,6 +3,8 @@ use Rattle.std.proofs.Common.{◌≡◌, ℕ, zero, suc, ◌+◌, ◌*◌, ◌-�
 use Rattle.std.proofs.Math.Nat.{suc-mul}
 use Rattle.mako_alloc.specs.Causes.{RankIsSmall}
 use Rattle.std.proofs.lemmas.Nat.{mod_below}
+use Rattle.mako_words.specs.Gates.{IsPackedGate}
+use Rattle.mako_words.proofs.GateWords.{gate_forms}
 use Rattle.mako_shape.specs.declared.numbers.Numbers.{Numbers}
 use Rattle.mako_shape.specs.Limits.{IsShape, all_entries}
 use Rattle.mako_shape.specs.Places.{index, total, region_word}
@@ -48,3 +50,10 @@ tablets_apart (suc rest) entries fields some few =
 pub rank_is_small : RankIsSmall
 rank_is_small job h =
     tablets_apart (all_tablets job.shape) job.shape.entries job.fields (some_tablet job.shape h.shape) h.fields
+
+-- the words of gates are those below two shut bits
+pub small_is_gate : (w : ℕ) → w < 131072 → IsPackedGate w
+small_is_gate w h = (gate_forms w).1 h
+
+pub gate_is_small : (w : ℕ) → IsPackedGate w → w < 131072
+gate_is_small w h = (gate_forms w).0 h

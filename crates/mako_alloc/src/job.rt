@@ -1,6 +1,6 @@
 //! What a `new` is to make, and how it goes about it.
 
-ghost use Rattle.std.specs.Prelude.{◌≡◌, ◌<◌, ◌≤◌, ◌*◌, ◌%◌, ◌+◌};
+ghost use Rattle.std.specs.Prelude.{◌≡◌, ◌<◌, ◌≤◌, ◌*◌, ◌%◌, ◌+◌, ◌↔◌, IsTrue};
 ghost use Rattle.mako_shape.specs.Limits.{all_entries};
 ghost use Rattle.mako_shape.specs.Places.{total};
 ghost use Rattle.mako_step.specs.Acts.{IsWithin};
@@ -136,6 +136,22 @@ impl Job {
             Part::Field(field) => Step::store(self.record_word(made, field + 1), 0),
             Part::Top => Step::store(self.shape.top(tablet), u64::from(made.top) + fields + 1),
             Part::Entry => Step::store(self.shape.entry(made.name.entry), self.published(made)),
+        }
+    }
+
+    /// Whether it can go on with this word.
+    #[tactic(auto, using(crate::proofs::Bounds::small_is_gate, crate::proofs::Bounds::gate_is_small))]
+    pub(crate) fn can_go_on(&self, progress: &Progress, before: u64) -> bool
+        ensures { IsTrue result ↔ FitsBy self.now.shape progress.now.stage before }
+    {
+        let numbers = self.shape.numbers();
+        match progress.stage {
+            NewStage::Arriving => before < 2 * GateWord::SHUT,
+            NewStage::LoadingTop => before <= u64::from(numbers.words),
+            NewStage::LoadingHome { .. } => {
+                before < u64::from(numbers.servers * (numbers.tablets + numbers.spare))
+            }
+            _ => true,
         }
     }
 

@@ -1,6 +1,6 @@
 //! The machine of `new`.
 
-ghost use Rattle.std.specs.Prelude.{◌≡◌, ◌<◌, ◌≤◌, false};
+ghost use Rattle.std.specs.Prelude.{◌≡◌, ◌<◌, ◌≤◌, false, ◌↔◌, IsTrue};
 
 use crate::found::Found;
 use crate::job::Job;
@@ -31,6 +31,7 @@ impl Model for NewMachine {
 }
 
 impl NewMachine {
+    ghost use Rattle.mako_alloc.specs.Allocating as allocating;
     ghost use Rattle.mako_step.specs.declared.step.Step.TheVariants.{Ended};
     ghost use Rattle.mako_alloc.specs.Allocating.{opening, next_of, IsFoundKnown};
     ghost use Rattle.mako_alloc.specs.declared.progress.NewStage.TheVariants as stages;
@@ -56,6 +57,13 @@ impl NewMachine {
                 stage: NewStage::Arriving,
             },
         }
+    }
+
+    /// Whether it can go on with this word. A word that is not read may be any.
+    pub fn can_go_on(&self, before: u64) -> bool
+        ensures { IsTrue result ↔ allocating.Fits self.now before }
+    {
+        self.job.can_go_on(&self.progress, before)
     }
 
     /// What it came to.

@@ -9,3 +9,4 @@ pub mod Decided
 pub mod Evidence
 pub mod Shown
 pub mod Stopping
+pub mod ReadWords

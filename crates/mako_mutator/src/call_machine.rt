@@ -1,6 +1,6 @@
 //! An attempt of a call, as a machine.
 
-ghost use Rattle.std.specs.Prelude.{◌≡◌, ◌<◌, ◌≤◌, false, IfSome, Some, None};
+ghost use Rattle.std.specs.Prelude.{◌≡◌, ◌<◌, ◌≤◌, false, IfSome, Some, None, ◌↔◌, IsTrue};
 ghost use Rattle.mako_shape.specs.Places.{total};
 ghost use Rattle.mako_step.specs.Acts.{IsWithin};
 ghost use Rattle.mako_step.specs.declared.step.Step.TheVariants as steps;
@@ -13,6 +13,7 @@ use crate::allocating::AllocStage;
 use crate::asking::AskStage;
 use crate::call_stage::CallStage;
 use crate::caller::Caller;
+use crate::fitting::is_gate;
 use crate::leaving::LeaveStage;
 use crate::putting::PutStage;
 use crate::rooting::RootStage;
@@ -77,6 +78,24 @@ impl CallMachine {
             last,
             slot: keep.barrier_at as u32,
             stage,
+        }
+    }
+
+    /// Whether it can go on with this word. A word that is not read may be any.
+    pub fn can_go_on(&self, before: u64) -> bool
+        ensures { IsTrue result ↔ calls.Fits self.now before }
+    {
+        let shape = &self.caller.shape;
+        match self.stage {
+            CallStage::Arriving => is_gate(before),
+            CallStage::Rooting(stage) => stage.can_go_on(shape, before),
+            CallStage::Entering(_, stage) => stage.can_go_on(shape, before),
+            CallStage::Moving(_, stage) => stage.can_go_on(shape, before),
+            CallStage::Getting(located, _, stage) => stage.can_go_on(shape, located, before),
+            CallStage::Putting(located, _, stage) => stage.can_go_on(shape, located, before),
+            CallStage::Allocating(stage) => stage.can_go_on(shape, before),
+            CallStage::Asking(stage) => stage.can_go_on(shape, before),
+            CallStage::Leaving(_) | CallStage::Ended(_) => true,
         }
     }
 

@@ -1,13 +1,13 @@
 //! A mutator's whole program, as a machine.
 
-ghost use Rattle.std.specs.Prelude.{◌≡◌, ◌<◌, ◌≤◌, ◌+◌, ◌++◌, ℕ, false, IfOk, length, slice_get, Some, vec_len, vec_capacity};
+ghost use Rattle.std.specs.Prelude.{◌≡◌, ◌<◌, ◌≤◌, ◌+◌, ◌++◌, ℕ, false, IfOk, length, slice_get, Some, vec_len, vec_capacity, ◌↔◌, IsTrue};
 ghost use Rattle.mako_shape.specs.Places.{total};
 ghost use Rattle.mako_step.specs.Acts.{IsWithin};
 ghost use Rattle.mako_mutator.specs.Drivers as drivers;
 
 use crate::caller::Caller;
 use crate::place::Place;
-use crate::progress::Progress;
+use crate::progress::{Progress, Task};
 use mako_model::{Call, Event, Point, Reply};
 use mako_script::Script;
 use mako_step::{Machine, Step};
@@ -62,6 +62,16 @@ impl Driver {
             replies,
             progress,
         })
+    }
+
+    /// Whether it can go on with this word. A word that is not read may be any.
+    pub fn can_go_on(&self, before: u64) -> bool
+        ensures { IsTrue result ↔ drivers.Fits self.now before }
+    {
+        match self.progress.task {
+            Task::Attempting(machine) | Task::Awaiting(machine) => machine.can_go_on(before),
+            Task::Finishing | Task::Ended => true,
+        }
     }
 
     /// How far it has come.

@@ -8,6 +8,7 @@ mod call_stage;
 mod caller;
 mod driver;
 mod entering;
+mod fitting;
 mod getting;
 pub mod laws;
 mod leaving;

@@ -3,16 +3,15 @@
 //! barrier slots from 8 on, the tablet's gate at 17, its turn at 18, home at 19, top at 20 and leaving at
 //! 21, entries from 23 on, region 0 from 27 on and region 1 from 43 on.
 
-ghost use Rattle.std.specs.Prelude.{◌≡◌, ◌<◌, true, length, replicate, IfSome};
-ghost use Rattle.mako_record.specs.Runs.{CanGo, gone, written};
+ghost use Rattle.std.specs.Prelude.{◌≡◌, ◌<◌, length, IfSome};
 ghost use Rattle.mako_mutator.specs.Agreeing.{AskedFits};
 ghost use Rattle.mako_mutator.specs.Callers.{CallFits};
-ghost use Rattle.mako_mutator.specs.Calls as calls;
 
-use crate::{CallMachine, Keep};
+use crate::{CallMachine, Driver, Keep, Place};
 use mako_model::{Attempt, Call, Event, Pause, Point, Reply};
+use mako_script::parse;
 use mako_shape::{Numbers, Shape};
-use mako_step::{Act, FlatWords, Machine, Op, Step, Stepped, Words, make_step};
+use mako_step::{Act, FlatWords, Machine, Op, Step, Words};
 use mako_words::{Name, Value};
 use std::alloc::Global;
 
@@ -45,27 +44,38 @@ const ASKED: Keep = Keep {
     barrier_at: 0,
 };
 
-/// The phase in which the servers trace in cycle 1, and a shut gate that counts nobody.
+/// The next name goes into the second slot.
+const SECOND: Keep = Keep {
+    asked: None,
+    barrier_at: 1,
+};
+
+/// The phase in which the servers trace in cycle 1.
 const TRACE: u64 = 0x1_0000_0001;
 
+/// A shut gate that counts nobody.
 const SHUT: u64 = 0x1_0000;
 
 /// The word of the number 7.
 const SEVEN: u64 = 0x4000_0000_0000_0007;
 
-/// The name of entry 1, of generation 0, and its word.
+/// The name of entry 1, of generation 0.
 const ENTRY_ONE: Name = Name {
     entry: 1,
     generation: 0,
 };
 
+/// The word of that name.
 const FIRST: u64 = 0x8000_0000_0000_0001;
 
-/// The entry of a record at the third word of region 0, and of one at the third word of region 1.
-
+/// The entry of a record at the third word of region 0.
 const OLD: u64 = 0x8000_0000_0000_001d;
 
+/// The entry of a record at the third word of region 1.
 const NEW: u64 = 0x8000_0000_0000_002d;
+
+/// The entry of the board, at the first word of region 0.
+const BOARD: u64 = 0x8000_0000_0000_001b;
 
 /// What an attempt told, with the number of the step, what it came to and kept, and the words that it left.
 #[derive(Drop)]
@@ -75,44 +85,40 @@ struct Ran {
     words: FlatWords,
 }
 
-/// Writes these words, each given with its index. Whether there are all of them.
-fn write(words: &mut FlatWords, given: &[(u32, u64)]) -> bool
-    requires { length words.old ≡ COUNT }
-    ensures count { length words.new ≡ COUNT }
-    ensures written { result ≡ true → words.new ≡ written words.old given.now }
+/// The words that are 0 but for those given, each with its index. `None` where one of them is none.
+fn heap(alloc: Global, given: &[(u32, u64)]) -> Option<FlatWords>
+    ensures { IfSome result (λ words. length words ≡ COUNT) }
 {
+    let mut words = FlatWords::zeros(alloc, COUNT).ok()?;
     for &(word, new) in given {
-        if word >= COUNT {
-            return false;
-        }
         let op = Op::Store(new);
-        words.act(Act { word, op });
+        carry_out(&mut words, Act { word, op })?;
     }
-    true
+    Some(words)
 }
 
-/// Makes so many steps, and answers the last event with the number of its step, from 1.
-fn run<M: Machine<Event = Event>>(
-    machine: &mut M,
-    words: &mut FlatWords,
-    steps: u32,
-) -> Option<(u32, Event)>
-    requires { CanGo M.next_of M.Fits M.fed steps machine.old words.old }
-    ensures count { length words.new ≡ length words.old }
-    ensures gone { (machine.new, words.new) ≡ gone M.next_of M.fed steps machine.old words.old }
+/// Carries out the act. `None` where there is no such word, or a sum or a difference would leave it.
+fn carry_out(words: &mut FlatWords, act: Act) -> Option<u64>
+    requires { length words.old ≡ COUNT }
+    ensures { length words.new ≡ COUNT }
 {
-    let mut told = None;
-    for step in 0..steps {
-        match make_step(machine, words) {
-            Stepped::Ended | Stepped::Waiting(_) | Stepped::Moved(Event::Nothing) => {}
-            Stepped::Moved(event) => told = Some((step + 1, event)),
-        }
+    if act.word >= COUNT {
+        return None;
     }
-    told
+    let before = words.word(act.word);
+    let fits = match act.op {
+        Op::Add(more) => more <= u64::MAX - before,
+        Op::Sub(less) => less <= before,
+        _ => true,
+    };
+    if !fits {
+        return None;
+    }
+    Some(words.act(act))
 }
 
 /// An attempt of a call that has so many steps, on words that are 0 but for those given. `None` where it
-/// has not ended then.
+/// ends before or later, or finds a word that it cannot go on with.
 fn attempt(
     alloc: Global,
     call: Call,
@@ -124,16 +130,25 @@ fn attempt(
     requires call { CallFits NUMBERS call }
     requires asked { AskedFits NUMBERS keep.asked }
     requires barrier { keep.barrier_at < 2 }
-    requires goes { CanGo calls.next_of calls.Fits calls.fed steps (calls.opening (record { shape = NUMBERS; mutator = 0 }) call last keep.asked keep.barrier_at) (written (replicate COUNT 0) given.now) }
     ensures { IfSome result (λ ran. length ran.words ≡ COUNT) }
 {
     let shape = Shape::new(NUMBERS).ok()?;
-    let mut words = FlatWords::zeros(alloc, COUNT).ok()?;
-    if !write(&mut words, given) {
-        return None;
-    }
+    let mut words = heap(alloc, given)?;
     let mut machine = CallMachine::new(shape, 0, call, last, keep);
-    let told = run(&mut machine, &mut words, steps);
+    let mut told = None;
+    for step in 1..=steps {
+        let Step::Do(act) = machine.next() else {
+            return None;
+        };
+        let found = carry_out(&mut words, act)?;
+        if !machine.can_go_on(found) {
+            return None;
+        }
+        let event = machine.feed(found);
+        if event != Event::Nothing {
+            told = Some((step, event));
+        }
+    }
     let Step::Ended = machine.next() else {
         return None;
     };
@@ -413,4 +428,247 @@ fn finds_no_room(rt: HostRuntime) {
     let ran = attempt(rt.alloc(), call, FRESH, true, &[(20, 16)], 9);
     assert!(rt; decided(&ran, 9, call, Reply::Full, FRESH));
     assert!(rt; left(&ran, &[(7, 0), (3, 0)]));
+}
+
+#[test]
+fn gets_a_field_of_a_record_that_it_moves(rt: HostRuntime) {
+    let call = Call::Get {
+        to: 1,
+        from: 0,
+        field: 1,
+    };
+    let ran = attempt(
+        rt.alloc(),
+        call,
+        FRESH,
+        false,
+        &[
+            (4, FIRST),
+            (19, 1),
+            (20, 2),
+            (24, OLD),
+            (29, 2),
+            (30, SEVEN),
+            (31, FIRST),
+        ],
+        22,
+    );
+    assert!(rt; decided(&ran, 19, call, Reply::Value(Value::Ref(ENTRY_ONE)), FRESH));
+    assert!(rt;
+        left(
+            &ran,
+            &[
+                (5, FIRST),
+                (18, 0),
+                (20, 5),
+                (24, NEW),
+                (45, 2),
+                (46, SEVEN),
+                (47, FIRST)
+            ]
+        )
+    );
+}
+
+#[test]
+fn makes_an_object(rt: HostRuntime) {
+    let call = Call::New { root: 3, fields: 1 };
+    let ran = attempt(
+        rt.alloc(),
+        call,
+        FRESH,
+        false,
+        &[(0, TRACE), (23, BOARD), (20, 2)],
+        17,
+    );
+    assert!(rt; decided(&ran, 13, call, Reply::Made(ENTRY_ONE), FRESH));
+    assert!(rt;
+        left(
+            &ran,
+            &[
+                (7, FIRST),
+                (20, 4),
+                (24, 0x8000_0000_0080_001d),
+                (29, 1),
+                (18, 0),
+                (17, 0),
+                (3, 0)
+            ]
+        )
+    );
+}
+
+#[test]
+fn pauses_at_a_barrier_slot_that_is_filled(rt: HostRuntime) {
+    let call = Call::Put {
+        to: 0,
+        field: 0,
+        from: 1,
+    };
+    let ran = attempt(
+        rt.alloc(),
+        call,
+        FRESH,
+        false,
+        &[
+            (0, TRACE),
+            (4, FIRST),
+            (8, FIRST),
+            (19, 1),
+            (24, NEW),
+            (45, 2),
+            (46, FIRST),
+        ],
+        12,
+    );
+    assert!(rt;
+        undecided(
+            &ran,
+            Attempt::Pause(Pause::Barrier {
+                slot: 0,
+                word: FIRST
+            }),
+            FRESH
+        )
+    );
+    assert!(rt; left(&ran, &[(46, FIRST), (8, FIRST), (3, 0), (17, 0)]));
+}
+
+#[test]
+fn records_an_overwritten_name_while_the_servers_trace(rt: HostRuntime) {
+    let call = Call::Put {
+        to: 0,
+        field: 0,
+        from: 1,
+    };
+    let ran = attempt(
+        rt.alloc(),
+        call,
+        SECOND,
+        false,
+        &[
+            (0, TRACE),
+            (4, FIRST),
+            (5, SEVEN),
+            (19, 1),
+            (24, NEW),
+            (45, 2),
+            (46, FIRST),
+        ],
+        14,
+    );
+    assert!(rt; decided(&ran, 12, call, Reply::Done, FRESH));
+    assert!(rt; left(&ran, &[(9, FIRST), (8, 0), (46, SEVEN)]));
+    let call = Call::Put {
+        to: 0,
+        field: 0,
+        from: 1,
+    };
+    let ran = attempt(
+        rt.alloc(),
+        call,
+        FRESH,
+        false,
+        &[
+            (0, TRACE),
+            (4, FIRST),
+            (5, SEVEN),
+            (19, 1),
+            (24, NEW),
+            (45, 2),
+            (46, SEVEN),
+        ],
+        12,
+    );
+    assert!(rt; decided(&ran, 10, call, Reply::Done, FRESH));
+    assert!(rt; left(&ran, &[(8, 0), (46, SEVEN)]));
+}
+
+/// How far a driver came with its program, what it had replied then, and the words that it left.
+#[derive(Drop)]
+struct Driven {
+    place: Place,
+    replies: Vec<Reply>,
+    words: FlatWords,
+}
+
+/// Drives the one program of this text so many steps on words that are 0 but for those given. `None`
+/// where the text is no script with this program, or where it finds a word that it cannot go on with.
+fn drive(alloc: Global, text: &[u8], given: &[(u32, u64)], steps: u32) -> Option<Driven>
+    ensures { IfSome result (λ driven. length driven.words ≡ COUNT) }
+{
+    let script = parse(alloc, text).ok()?;
+    if script.programs.len() != 1 {
+        return None;
+    }
+    let mut driver = Driver::new(alloc, &script, 0).ok()?;
+    let mut words = heap(alloc, given)?;
+    for _ in 0..steps {
+        let Step::Do(act) = driver.next() else {
+            return None;
+        };
+        let found = carry_out(&mut words, act)?;
+        if !driver.can_go_on(found) {
+            return None;
+        }
+        let _event = driver.feed(found);
+    }
+    let place = driver.place();
+    let replies = driver.into_replies();
+    Some(Driven {
+        place,
+        replies,
+        words,
+    })
+}
+
+/// The usual geometry, and a program that sets its first root to 7.
+const NUM: &[u8] =
+    b"mako 1\nservers 1\ntablets 1\nentries 4\nwords 16\nspare 1\nring 2\nroots 4\ncycles 5\ngens 3\nboard 1\nmutator\nnum n 7\nend\n";
+
+/// The usual geometry, and a program that makes an object of one field.
+const MAKE: &[u8] =
+    b"mako 1\nservers 1\ntablets 1\nentries 4\nwords 16\nspare 1\nring 2\nroots 4\ncycles 5\ngens 3\nboard 1\nmutator\nnew a 1\nend\n";
+
+/// Whether it came so far with these replies, and the words 1 and 2, the demand and the number of
+/// finished programs, are these.
+fn came(driven: Option<Driven>, place: Place, replies: &[Reply], demand: u64, finished: u64) -> bool
+    requires { IfSome driven (λ d. length d.words ≡ COUNT) }
+{
+    match driven {
+        Some(driven) => {
+            driven.place == place
+                && driven.replies.as_slice() == replies
+                && driven.words.word(1) == demand
+                && driven.words.word(2) == finished
+        }
+        None => false,
+    }
+}
+
+#[test]
+fn drives_a_program_to_its_end(rt: HostRuntime) {
+    let seven = [Reply::Value(Value::Num(7))];
+    let begun = drive(rt.alloc(), NUM, &[], 0);
+    assert!(rt; came(begun, Place::Before(0), &[], 0, 0));
+    let arrived = drive(rt.alloc(), NUM, &[], 1);
+    assert!(rt; came(arrived, Place::Within(0), &[], 0, 0));
+    let decided = drive(rt.alloc(), NUM, &[], 2);
+    assert!(rt; came(decided, Place::Within(0), &seven, 0, 0));
+    let answered = drive(rt.alloc(), NUM, &[], 3);
+    assert!(rt; came(answered, Place::Before(1), &seven, 0, 0));
+    let ended = drive(rt.alloc(), NUM, &[], 4);
+    assert!(rt; came(ended, Place::Ended, &seven, 0, 1));
+}
+
+#[test]
+fn waits_for_a_cycle_where_there_is_no_room(rt: HostRuntime) {
+    let waits = drive(rt.alloc(), MAKE, &[(20, 16)], 13);
+    assert!(rt; came(waits, Place::Within(0), &[], 1, 0));
+}
+
+#[test]
+fn makes_its_last_attempt_at_once_where_no_cycle_is_left(rt: HostRuntime) {
+    let full = drive(rt.alloc(), MAKE, &[(0, 5), (20, 16)], 20);
+    assert!(rt; came(full, Place::Ended, &[Reply::Full], 0, 1));
 }

@@ -1,6 +1,6 @@
 //! The copy of a record.
 
-ghost use Rattle.std.specs.Prelude.{◌≡◌, ◌<◌, ◌+◌, ◌*◌, false};
+ghost use Rattle.std.specs.Prelude.{◌≡◌, ◌<◌, ◌+◌, ◌*◌, ◌↔◌, IsTrue, false};
 ghost use Rattle.mako_words.specs.Entries.{FitsEntry};
 ghost use Rattle.mako_shape.specs.Limits.{all_entries};
 ghost use Rattle.mako_shape.specs.Places.{total};
@@ -107,6 +107,22 @@ impl Copier {
         match self.stage {
             CopyStage::Ended { address } => address,
             _ => unreachable!(),
+        }
+    }
+
+    /// Whether the copy can go on with this word. A word that is not read may be any.
+    pub fn can_go_on(&self, before: u64) -> bool
+        ensures { IsTrue result ↔ copying.Fits self.now before }
+    {
+        let words = u64::from(self.shape.numbers().words);
+        match self.stage {
+            CopyStage::LoadingTop => before <= words,
+            CopyStage::LoadingHeader { offset } => {
+                before <= 14
+                    && u64::from(self.entry.address) + before < u64::from(self.shape.words())
+                    && u64::from(offset) + before < words
+            }
+            _ => true,
         }
     }
 

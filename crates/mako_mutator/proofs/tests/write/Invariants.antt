@@ -1,6 +1,0 @@
-use Rattle.std.proofs.Common.{◌≡◌, length, drop}
-use Rattle.mako_record.specs.Runs.{written}
-use Rattle.mako_mutator.proofs.tests.write.Given as goal
-
-abbrev pub invariant-loop-word : goal.invariant-loop-word
-invariant-loop-word l = (length l.words ≡ 59) × (written l.words (drop l.word-index l.given) ≡ written l.fn.words l.given)

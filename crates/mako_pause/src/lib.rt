@@ -1,0 +1,26 @@
+//! The collector, and the choice of the tablets that are evacuated.
+#![tactic(auto)]
+
+mod barriers;
+mod chooser;
+mod choosing;
+mod collector;
+mod forwarding;
+mod idling;
+mod kept;
+pub mod laws;
+mod noticing;
+mod pausing;
+mod regions;
+mod stage;
+#[cfg(test)]
+mod tests;
+
+pub use chooser::{Candidate, Chooser, Used};
+pub use collector::Collector;
+pub use kept::Kept;
+pub use regions::Role;
+pub use stage::{
+    BarrierStage, ChoiceStage, CollectStage, ForwardStage, Gift, IdleStage, NoticeStage, Pause,
+    PauseStage,
+};
