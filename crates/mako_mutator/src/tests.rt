@@ -90,11 +90,21 @@ fn heap(alloc: Global, given: &[(u32, u64)]) -> Option<FlatWords>
     ensures { IfSome result (λ words. length words ≡ COUNT) }
 {
     let mut words = FlatWords::zeros(alloc, COUNT).ok()?;
+    store(&mut words, given).then_some(words)
+}
+
+/// Stores these words, each given with its index. Whether there are all of them.
+fn store(words: &mut FlatWords, given: &[(u32, u64)]) -> bool
+    requires { length words.old ≡ COUNT }
+    ensures { length words.new ≡ COUNT }
+{
     for &(word, new) in given {
         let op = Op::Store(new);
-        carry_out(&mut words, Act { word, op })?;
+        if carry_out(words, Act { word, op }).is_none() {
+            return false;
+        }
     }
-    Some(words)
+    true
 }
 
 /// Carries out the act. `None` where there is no such word, or a sum or a difference would leave it.
@@ -592,9 +602,48 @@ struct Driven {
     words: FlatWords,
 }
 
-/// Drives the one program of this text so many steps on words that are 0 but for those given. `None`
-/// where the text is no script with this program, or where it finds a word that it cannot go on with.
-fn drive(alloc: Global, text: &[u8], given: &[(u32, u64)], steps: u32) -> Option<Driven>
+/// Makes so many steps. Whether the driver had them, and could go on with each word that they found.
+fn advance(driver: &mut Driver, words: &mut FlatWords, steps: u32) -> bool
+    requires { length words.old ≡ COUNT }
+    ensures { length words.new ≡ COUNT }
+{
+    for _ in 0..steps {
+        let Step::Do(act) = driver.next() else {
+            return false;
+        };
+        let Some(found) = carry_out(words, act) else {
+            return false;
+        };
+        if !driver.can_go_on(found) {
+            return false;
+        }
+        let _event = driver.feed(found);
+    }
+    true
+}
+
+/// What others store while a driver waits, and the steps that it makes after that.
+#[derive(Clone, Copy)]
+struct Later<'a> {
+    stored: &'a [(u32, u64)],
+    steps: u32,
+}
+
+/// Nothing is stored, and no step is made.
+const NOTHING: Later<'static> = Later {
+    stored: &[],
+    steps: 0,
+};
+
+/// Drives the one program of this text so many steps on words that are 0 but for those given, and then on.
+/// `None` where the text is no script with this program, or where the driver cannot make the steps.
+fn drive(
+    alloc: Global,
+    text: &[u8],
+    given: &[(u32, u64)],
+    steps: u32,
+    later: Later,
+) -> Option<Driven>
     ensures { IfSome result (λ driven. length driven.words ≡ COUNT) }
 {
     let script = parse(alloc, text).ok()?;
@@ -603,15 +652,11 @@ fn drive(alloc: Global, text: &[u8], given: &[(u32, u64)], steps: u32) -> Option
     }
     let mut driver = Driver::new(alloc, &script, 0).ok()?;
     let mut words = heap(alloc, given)?;
-    for _ in 0..steps {
-        let Step::Do(act) = driver.next() else {
-            return None;
-        };
-        let found = carry_out(&mut words, act)?;
-        if !driver.can_go_on(found) {
-            return None;
-        }
-        let _event = driver.feed(found);
+    if !advance(&mut driver, &mut words, steps) || !store(&mut words, later.stored) {
+        return None;
+    }
+    if !advance(&mut driver, &mut words, later.steps) {
+        return None;
     }
     let place = driver.place();
     let replies = driver.into_replies();
@@ -649,26 +694,36 @@ fn came(driven: Option<Driven>, place: Place, replies: &[Reply], demand: u64, fi
 #[test]
 fn drives_a_program_to_its_end(rt: HostRuntime) {
     let seven = [Reply::Value(Value::Num(7))];
-    let begun = drive(rt.alloc(), NUM, &[], 0);
+    let begun = drive(rt.alloc(), NUM, &[], 0, NOTHING);
     assert!(rt; came(begun, Place::Before(0), &[], 0, 0));
-    let arrived = drive(rt.alloc(), NUM, &[], 1);
+    let arrived = drive(rt.alloc(), NUM, &[], 1, NOTHING);
     assert!(rt; came(arrived, Place::Within(0), &[], 0, 0));
-    let decided = drive(rt.alloc(), NUM, &[], 2);
+    let decided = drive(rt.alloc(), NUM, &[], 2, NOTHING);
     assert!(rt; came(decided, Place::Within(0), &seven, 0, 0));
-    let answered = drive(rt.alloc(), NUM, &[], 3);
+    let answered = drive(rt.alloc(), NUM, &[], 3, NOTHING);
     assert!(rt; came(answered, Place::Before(1), &seven, 0, 0));
-    let ended = drive(rt.alloc(), NUM, &[], 4);
+    let ended = drive(rt.alloc(), NUM, &[], 4, NOTHING);
     assert!(rt; came(ended, Place::Ended, &seven, 0, 1));
 }
 
 #[test]
 fn waits_for_a_cycle_where_there_is_no_room(rt: HostRuntime) {
-    let waits = drive(rt.alloc(), MAKE, &[(20, 16)], 13);
+    let waits = drive(rt.alloc(), MAKE, &[(20, 16)], 13, NOTHING);
     assert!(rt; came(waits, Place::Within(0), &[], 1, 0));
 }
 
 #[test]
 fn makes_its_last_attempt_at_once_where_no_cycle_is_left(rt: HostRuntime) {
-    let full = drive(rt.alloc(), MAKE, &[(0, 5), (20, 16)], 20);
+    let full = drive(rt.alloc(), MAKE, &[(0, 5), (20, 16)], 20, NOTHING);
     assert!(rt; came(full, Place::Ended, &[Reply::Full], 0, 1));
+}
+
+#[test]
+fn makes_its_last_attempt_once_the_cycle_has_ended(rt: HostRuntime) {
+    let later = Later {
+        stored: &[(0, 1), (20, 2), (23, BOARD)],
+        steps: 19,
+    };
+    let made = drive(rt.alloc(), MAKE, &[(20, 16)], 13, later);
+    assert!(rt; came(made, Place::Ended, &[Reply::Made(ENTRY_ONE)], 1, 1));
 }

@@ -1,5 +1,5 @@
 use Rattle.std.proofs.Common.{◌≡◌, length}
-use Rattle.mako_mutator.proofs.tests.heap.Given as goal
+use Rattle.mako_mutator.proofs.tests.store.Given as goal
 
 abbrev pub invariant-loop-word : goal.invariant-loop-word
 invariant-loop-word l = length l.words ≡ 59
