@@ -21,7 +21,7 @@ use Rattle.mako_step.specs.Acts.{does}
 use Rattle.mako_step.specs.declared.act.Op.TheVariants.{Load, Store, Or, And}
 use Rattle.mako_step.specs.declared.step.Step.{Step}
 use Rattle.mako_step.specs.declared.step.Step.TheVariants.{Ended as NoStep}
-use Rattle.mako_model.specs.Freed.{Lists}
+use Rattle.mako_model.specs.CycleLists.{Lists}
 use Rattle.mako_model.specs.declared.event.Event.{Event}
 use Rattle.mako_model.specs.declared.event.Event.TheVariants.{Nothing, Snapped, Finished}
 use Rattle.mako_ring.specs.Contents.{after_place}
