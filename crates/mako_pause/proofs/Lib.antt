@@ -2,7 +2,10 @@ pub mod Candidates
 pub mod ChoiceExamples
 pub mod Going
 pub mod Lowering
+pub mod Moments
 pub mod NameWords
 pub mod OneChoice
 pub mod Openings
 pub mod Places
+pub mod Rising
+pub mod Standing

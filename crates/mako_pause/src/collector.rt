@@ -1,6 +1,6 @@
 //! The collector, as a machine.
 
-ghost use Rattle.std.specs.Prelude.{◌≡◌, ◌<◌, ◌^◌, IfOk, count_by, sum_by};
+ghost use Rattle.std.specs.Prelude.{◌≡◌, ◌<◌, ◌^◌, true, IfOk, count_by, sum_by};
 ghost use Rattle.mako_pause.specs.Opening.{is_new, names_of_all, news_of, opening};
 ghost use Rattle.mako_shape.specs.Places.{total};
 ghost use Rattle.mako_step.specs.Acts.{IsWithin};
@@ -155,6 +155,16 @@ impl Collector {
     {
         let Collector { kept, stage: _ } = self;
         kept.into_cycles()
+    }
+}
+
+#[cfg(test)]
+impl Collector {
+    /// Whether it can go on with this word, for tests.
+    pub(crate) fn can_go_on(&self, before: u64) -> bool
+        ensures { result ≡ true → collecting.Fits self.now before }
+    {
+        self.stage.can_go_on(&self.kept, before)
     }
 }
 

@@ -1,9 +1,9 @@
 //! What the collector keeps from step to step.
 
-ghost use Rattle.std.specs.Prelude.{◌≡◌, ◌<◌, ◌≤◌, ◌+◌, ◌*◌, ◌%◌, ◌^◌, ◌++◌, ◌∷◌, [], ℕ, All, false, IfOk, IfSome, length, map, position, replicate, sum_by, slice_index, slice_set, vec_capacity};
+ghost use Rattle.std.specs.Prelude.{◌≡◌, true, ◌<◌, ◌≤◌, ◌+◌, ◌*◌, ◌%◌, ◌^◌, ◌++◌, ◌∷◌, [], ℕ, All, false, IfOk, IfSome, length, map, position, replicate, sum_by, slice_index, slice_set, vec_capacity};
 ghost use Rattle.std.specs.VecDeque.{deque_capacity};
 ghost use Rattle.mako_words.specs.Lives.{IsPackedLive};
-ghost use Rattle.mako_words.specs.Values.{FitsValue};
+ghost use Rattle.mako_words.specs.Values.{FitsValue, IsPacked, value_at};
 ghost use Rattle.mako_shape.specs.Limits.{IsShape};
 ghost use Rattle.mako_shape.specs.Places.{index, total, work};
 ghost use Rattle.mako_step.specs.Acts.{does, IsWithin};
@@ -569,5 +569,31 @@ fn keep_chosen(chosen: &mut Vec<u32>, places: &[u32], first: u32)
 {
     for place in places {
         chosen.push_reserved(first + *place);
+    }
+}
+
+/// Whether a word fits, for tests.
+#[cfg(test)]
+impl Kept {
+    /// Whether the word is that of a value, and if it is a name, of an entry that there is, and there is room for it.
+    pub(crate) fn can_keep_root(&self, word: u64) -> bool
+        ensures packed { result ≡ true → IsPacked word }
+        ensures fits { result ≡ true → FieldFits self.now.shape (value_at word) }
+        ensures room { result ≡ true → length self.now.pending < self.now.shape.mutators * self.now.shape.roots }
+    {
+        let numbers = self.numbers();
+        let known = match Value::unpack(word) {
+            Some(Value::Ref(name)) => name.entry < numbers.servers * numbers.tablets * numbers.entries,
+            Some(_) => true,
+            None => false,
+        };
+        known && self.pending.len() < (numbers.mutators * numbers.roots) as usize
+    }
+
+    /// Whether the word is one of flags.
+    pub(crate) fn can_poll(&self, word: u64) -> bool
+        ensures { result ≡ true → polls.Fits self.now.poll word }
+    {
+        word < 8
     }
 }

@@ -1,8 +1,10 @@
-//! What is true of the choice. Each law is a contract, and its function has nothing to do.
+//! What is true of the choice, and of the collector's trails. Each law is a contract, and its function has nothing to do.
 
 ghost use Rattle.std.specs.Prelude.{[], ◌∷◌};
 ghost use Rattle.mako_pause.specs.Choices.{ChoicesAreOne, IsChoice};
 ghost use Rattle.mako_pause.specs.Examples.{four_tablets};
+ghost use Rattle.mako_pause.specs.Hearing.{ListsRise};
+ghost use Rattle.mako_pause.specs.Moments.{CollectorsGo};
 
 /// There is one choice: whatever is a choice of the same tablets is the same list, the one that the definition computes.
 pub fn choices_are_one()
@@ -14,4 +16,17 @@ pub fn examples()
     ensures two { IsChoice four_tablets 2 (2 ∷ 1 ∷ []) }
     ensures three { IsChoice four_tablets 8 (2 ∷ 1 ∷ 3 ∷ []) }
     ensures none { IsChoice [] 8 [] }
+{}
+
+/// At every moment the phase word that the trail stored last is that of the stage. Trace and Evac are stored only after
+/// each mutator's gate was shut and then found counting nobody, and opened again after the store alone. In each cycle
+/// completion is told at least twice, first with the gates open, and Evac is stored only after it is told with the gates
+/// drained. The names freed in a cycle are those that the servers tell, one server after another, each up to its Done.
+pub fn cycles()
+    ensures { CollectorsGo }
+{}
+
+/// Where each server tells names of its own entries in rising order, the names freed in a cycle rise, and none is there twice.
+pub fn freed_names()
+    ensures { ListsRise }
 {}

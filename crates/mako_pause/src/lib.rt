@@ -5,6 +5,8 @@ mod barriers;
 mod chooser;
 mod choosing;
 mod collector;
+#[cfg(test)]
+mod fitting;
 mod forwarding;
 mod idling;
 mod kept;
