@@ -1,5 +1,6 @@
 pub mod Candidates
 pub mod ChoiceExamples
+pub mod Gifts
 pub mod Going
 pub mod Lowering
 pub mod Moments
@@ -8,4 +9,5 @@ pub mod OneChoice
 pub mod Openings
 pub mod Places
 pub mod Rising
+pub mod Roles
 pub mod Standing

@@ -181,20 +181,26 @@ poll_goes n k w trail some same stands acts fits shown = go (polls.fed k.poll w)
   where
     p : PollShown k trail
     p = shown.1
+
     plain : IsPlain k.shape (did (polls.next_of k.poll))
     plain = subst (λ (q : Numbers). IsPlain q (did (polls.next_of k.poll))) p.shape (plain_poll k.poll.shape k.poll.stage acts)
+
     on : InRound n k (trail ++ sees (did (polls.next_of k.poll)) w ∷ [])
     on = round_on n k trail (did (polls.next_of k.poll)) w plain (in_round n k trail same stands (shown.0, p.here))
+
     made : trail ++ sees (did (polls.next_of k.poll)) w ∷ [] ≡ p.front ++ (p.poll ++ sees (did (polls.next_of k.poll)) w ∷ [])
     made = ap (λ (q : List Observation). q ++ sees (did (polls.next_of k.poll)) w ∷ []) p.made ∙ append_assoc p.front p.poll (sees (did (polls.next_of k.poll)) w ∷ [])
+
     goes : Goes polls.next_of polls.Fits polls.fed (record { shape = k.shape; stage = Asking 0 }) (p.poll ++ sees (did (polls.next_of k.poll)) w ∷ []) (polls.fed k.poll w)
     goes = steps _ k.poll p.poll (did (polls.next_of k.poll)) w p.goes (do_did (polls.next_of k.poll) acts) fits
+
     polling : Moment n (at (record k { poll = polls.fed k.poll w }) Polling) (trail ++ sees (did (polls.next_of k.poll)) w ∷ [])
     polling = record {
       shape = same;
       phase = on.traces;
       shown = (shown.0, record { shape = p.shape; here = on.round; front = p.front; poll = p.poll ++ sees (did (polls.next_of k.poll)) w ∷ []; before = p.before; traces = p.traces; goes = goes; made = made });
     }
+
     go : (s : PollStage) → (polls.fed k.poll w).stage ≡ s → Moment n (polled_at (record k { poll = polls.fed k.poll w }) s) (longer trail (polls.next_of k.poll) w)
     go (Asking s) e = polling
     go (Reading s) e = polling
@@ -408,8 +414,8 @@ noticed_shown n k s word w Done at_next trail same stands shut twice opened belo
     let one = ends heard.lists heard.names heard.taken slot word w heard.hears found.some reads in
     let taken = (heard.taken ++ at_notice k.shape s slot Load word ∷ []) ++ at_notice k.shape s slot (Store 0) w ∷ [] in
     let hears : Hears k.shape (heard.lists ++ heard.names ∷ []) [] taken = subst
-        (λ (q : ℕ). Hears k.shape (heard.lists ++ heard.names ∷ []) [] ((heard.taken ++ at_notice k.shape q slot Load word ∷ []) ++ at_notice k.shape q slot (Store 0) w ∷ []))
-        count one in
+    (λ (q : ℕ). Hears k.shape (heard.lists ++ heard.names ∷ []) [] ((heard.taken ++ at_notice k.shape q slot Load word ∷ []) ++ at_notice k.shape q slot (Store 0) w ∷ []))
+    count one in
     let more : length (heard.lists ++ heard.names ∷ []) ≡ s + 1 = omega (arith, length_push heard.lists heard.names, count) in
     let made = taken_more trail found.before heard.front heard.taken _ _ found.made heard.made in
     let freed : k.freed ≡ joined (heard.lists ++ heard.names ∷ []) = heard.freed ∙ joined_more heard.lists heard.names in

@@ -45,13 +45,13 @@ rises_from n first (names ∷ lists) shape each =
     let rest = rises_from n (first + 1) lists shape
     (λ i l. (let e : first + suc i ≡ first + 1 + i = omega arith in subst (λ (s : ℕ). RiseAt n s (get_or lists i [])) e (each (suc i) (omega (arith, l))))) in (
       pairs_append (λ a b. a.entry < b.entry) names (joined lists) here.rising rest.0
-      (λ i j d l m. (let a = own i d l in
-      let b = rest.1 j d m in
-      let x = get_or names i d in
-      let y = get_or (joined lists) j d in
-      ⊎_elim (λ (less : x.entry < y.entry). less) (λ (more : y.entry ≤ x.entry). absurd (let up = server_rises n y.entry x.entry shape more in omega (arith, a, b, up))) (cases_lt x.entry y.entry))),
+          (λ i j d l m. (let a = own i d l in
+          let b = rest.1 j d m in
+          let x = get_or names i d in
+          let y = get_or (joined lists) j d in
+          ⊎_elim (λ (less : x.entry < y.entry). less) (λ (more : y.entry ≤ x.entry). absurd (let up = server_rises n y.entry x.entry shape more in omega (arith, a, b, up))) (cases_lt x.entry y.entry))),
       All-append (λ x. first ≤ server_of_entry n x.entry) names (joined lists) (λ i d l. (let a = own i d l in omega (arith, a)))
-      (λ i d l. (let b = rest.1 i d l in omega (arith, b))),
+          (λ i d l. (let b = rest.1 i d l in omega (arith, b))),
     )
 
 pub lists_rise : ListsRise

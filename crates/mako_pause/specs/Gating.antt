@@ -46,4 +46,3 @@ IsOpen n m trail = Stands (λ _. Unit {0}) (opens n m) (λ _. Unit {0}) (shuts n
 -- so it is with the gates of the mutators below this one
 abbrev pub EachBelow : (Numbers → ℕ → List Observation → Type 0) → Numbers → ℕ → List Observation → Type 0
 EachBelow Gate n count trail = (m : ℕ) → m < count → Gate n m trail
-

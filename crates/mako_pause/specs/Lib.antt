@@ -8,6 +8,7 @@ pub mod Ranks
 pub mod Regions
 pub mod Gating
 pub mod Hearing
+pub mod Housing
 pub mod Moments
 pub mod Phasing
 pub mod Telling

@@ -583,7 +583,8 @@ impl Kept {
     {
         let numbers = self.numbers();
         let known = match Value::unpack(word) {
-            Some(Value::Ref(name)) => name.entry < numbers.servers * numbers.tablets * numbers.entries,
+            Some(Value::Ref(name)) => name.entry
+                < numbers.servers * numbers.tablets * numbers.entries,
             Some(_) => true,
             None => false,
         };

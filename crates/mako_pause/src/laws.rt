@@ -4,6 +4,7 @@ ghost use Rattle.std.specs.Prelude.{[], ◌∷◌};
 ghost use Rattle.mako_pause.specs.Choices.{ChoicesAreOne, IsChoice};
 ghost use Rattle.mako_pause.specs.Examples.{four_tablets};
 ghost use Rattle.mako_pause.specs.Hearing.{ListsRise};
+ghost use Rattle.mako_pause.specs.Housing.{CollectorsGive};
 ghost use Rattle.mako_pause.specs.Moments.{CollectorsGo};
 
 /// There is one choice: whatever is a choice of the same tablets is the same list, the one that the definition computes.
@@ -29,4 +30,12 @@ pub fn cycles()
 /// Where each server tells names of its own entries in rising order, the names freed in a cycle rise, and none is there twice.
 pub fn freed_names()
     ensures { ListsRise }
+{}
+
+/// Each tablet has a home of its own, a region of its server. Each chosen tablet gets, in the order of choice, a spare
+/// region of its server that is nobody's home, and before Evac is stored every chosen tablet has got one: wherever the
+/// home of a chosen tablet is loaded, its server has a spare region left. This is so as long as each load of a home finds
+/// what the collector stored there last, or the home at the opening; nobody else stores homes.
+pub fn gifts()
+    ensures { CollectorsGive }
 {}
