@@ -251,8 +251,10 @@ module _ (n : Numbers) (cycle : ℕ) (roles : List Role) (region former t s : �
     where
       moved_here : (u : ℕ) → u ≡ t → moved homes t region u ≡ region
       moved_here u e = ap (λ (b : Bool). cond b region (homes u)) (eq-eqb u t e)
+
       moved_other : (u : ℕ) → u ≢ t → moved homes t region u ≡ homes u
       moved_other u ne = ap (λ (b : Bool). cond b region (homes u)) (ne_eqb u t ne)
+
       free : (u : ℕ) → u < n.servers * n.tablets → homes u ≡ region → ⊥
       free u l e = spare_is_no_home cycle (role_at roles region) spare (subst (λ (x : ℕ). role_at roles x ≡ Home) e (h.role u l))
 

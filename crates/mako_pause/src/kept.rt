@@ -1,35 +1,33 @@
 //! What the collector keeps from step to step.
 
-ghost use Rattle.std.specs.Prelude.{◌≡◌, true, ◌<◌, ◌≤◌, ◌+◌, ◌*◌, ◌%◌, ◌^◌, ◌++◌, ◌∷◌, [], ℕ, All, false, IfOk, IfSome, length, map, position, replicate, sum_by, slice_index, slice_set, vec_capacity};
-ghost use Rattle.std.specs.VecDeque.{deque_capacity};
-ghost use Rattle.mako_words.specs.Lives.{IsPackedLive};
-ghost use Rattle.mako_words.specs.Values.{FitsValue, IsPacked, value_at};
+ghost use Rattle.std.specs.Prelude.{◌≡◌, ◌<◌, ◌≤◌, ◌+◌, ◌*◌, ◌%◌, ◌^◌, ◌++◌, ◌∷◌, [], false, IfOk, IfSome, length, position, replicate, sum_by};
+ghost use Rattle.mako_words.specs.Values.{FitsValue};
 ghost use Rattle.mako_shape.specs.Limits.{IsShape};
 ghost use Rattle.mako_shape.specs.Places.{index, total, work};
 ghost use Rattle.mako_step.specs.Acts.{does, IsWithin};
 ghost use Rattle.mako_step.specs.declared.act.Op.TheVariants.{Load};
 ghost use Rattle.mako_step.specs.Machines.{IsAct};
-ghost use Rattle.mako_ring.specs.Contents.{after_place};
 ghost use Rattle.mako_ring.specs.Tracing.{owner, no_window, is_open, IsNamed, FieldFits};
-ghost use Rattle.mako_ring.specs.Windows.{tail_up, head_up, found_room, IsWindow};
 ghost use Rattle.mako_poll.specs.Polls as polls;
 ghost use Rattle.mako_pause.specs.Collecting as collecting;
-ghost use Rattle.mako_pause.specs.Collecting.{at, window_of, set_window, running};
-ghost use Rattle.mako_pause.specs.Keeping.{Runs, IsKeptKnown, EmptyIsKnown, all_regions};
+ghost use Rattle.mako_pause.specs.Collecting.{at, window_of, running};
+ghost use Rattle.mako_pause.specs.Keeping.{Runs, IsKeptKnown, EmptyIsKnown};
 ghost use Rattle.mako_pause.specs.Opening.{new_holdings};
-ghost use Rattle.mako_pause.specs.declared.regions.Role.TheVariants as roles;
+
+mod choices;
+#[cfg(test)]
+mod fitting;
+mod rings;
 
 use crate::chooser::{Chooser, Used};
-use crate::regions::{Role, opening_roles, spare_between};
-use crate::stage::{
-    BarrierStage, ChoiceStage, CollectStage, ForwardStage, Gift, Pause, PauseStage,
-};
+use crate::regions::{Role, opening_roles};
+use crate::stage::{BarrierStage, ChoiceStage, CollectStage, ForwardStage, Pause, PauseStage};
 use mako_model::Cycles;
 use mako_poll::{Polled, Poller};
-use mako_ring::{Window, next_place};
+use mako_ring::Window;
 use mako_shape::{Numbers, Shape};
 use mako_step::{Machine, Step};
-use mako_words::{LiveWord, Memory, Name, Value};
+use mako_words::{Memory, Name, Value};
 use std::alloc::Global;
 use std::collections::VecDeque;
 use std::marker::Model;
@@ -154,23 +152,6 @@ impl Kept {
         name.entry / numbers.entries / numbers.tablets
     }
 
-    /// The window of a server's work ring.
-    pub(crate) fn window(&self, server: u32) -> Window
-        requires { server < self.now.shape.servers }
-        ensures window { result ≡ window_of self.now server }
-        ensures bounds { IsWindow self.now.shape.ring result }
-    {
-        self.windows[server as usize]
-    }
-
-    fn set_window(&mut self, server: u32, window: Window)
-        requires server { server < self.old.shape.servers }
-        requires bounds { IsWindow self.old.shape.ring window }
-        ensures { self.new ≡ set_window self.old server window }
-    {
-        self.windows[server as usize] = window;
-    }
-
     /// Part 2 goes on with the first of the pending names, and without one the barrier rings are next.
     pub(crate) fn forward(&mut self) -> CollectStage
         ensures { at self.new result ≡ collecting.forward self.old }
@@ -196,95 +177,8 @@ impl Kept {
     }
 }
 
+/// Where its parts begin and end.
 impl Kept {
-    /// The slot at the head of a server's work ring was found empty.
-    pub(crate) fn found_room(&mut self, server: u32)
-        requires { server < self.old.shape.servers }
-        ensures { self.new ≡ set_window self.old server (found_room self.old.shape.ring (window_of self.old server)) }
-    {
-        let window = self
-            .window(server)
-            .found_room(u64::from(self.numbers().ring));
-        self.set_window(server, window);
-    }
-
-    /// A name was put into a server's work ring.
-    pub(crate) fn head_up(&mut self, server: u32)
-        requires server { server < self.old.shape.servers }
-        requires room { (window_of self.old server).head < (window_of self.old server).tail + self.old.shape.ring }
-        ensures { self.new ≡ set_window self.old server (head_up (window_of self.old server)) }
-    {
-        let window = self.window(server).head_up(u64::from(self.numbers().ring));
-        self.set_window(server, window);
-    }
-
-    /// The slot at the tail of a server's work ring was found empty.
-    pub(crate) fn tail_up(&mut self, server: u32)
-        requires known { EmptyIsKnown self.old server }
-        ensures { self.new ≡ set_window self.old server (tail_up self.old.shape.ring (window_of self.old server)) }
-    {
-        let window = self.window(server).tail_up(u64::from(self.numbers().ring));
-        self.set_window(server, window);
-    }
-
-    /// The position in a mutator's barrier ring.
-    pub(crate) fn barrier_at(&self, mutator: u32) -> u32
-        requires { mutator < self.now.shape.mutators }
-        ensures at { result ≡ slice_index self.now.barrier_at mutator }
-        ensures below { result < self.now.shape.ring }
-    {
-        self.barrier_at[mutator as usize] as u32
-    }
-
-    fn set_barrier(&mut self, mutator: u32, at: u64)
-        requires mutator { mutator < self.old.shape.mutators }
-        requires below { at < self.old.shape.ring }
-        ensures { self.new ≡ record self.old { barrier_at = slice_set self.old.barrier_at mutator at } }
-    {
-        self.barrier_at[mutator as usize] = at;
-    }
-
-    /// A name was taken from a mutator's barrier ring.
-    pub(crate) fn barrier_up(&mut self, mutator: u32)
-        requires { mutator < self.old.shape.mutators }
-        ensures { self.new ≡ record self.old { barrier_at = slice_set self.old.barrier_at mutator (after_place self.old.shape.ring (slice_index self.old.barrier_at mutator)) } }
-    {
-        let at = next_place(
-            u64::from(self.numbers().ring),
-            u64::from(self.barrier_at(mutator)),
-        );
-        self.set_barrier(mutator, at);
-    }
-
-    /// The position in a server's notice ring.
-    pub(crate) fn notice_at(&self, server: u32) -> u32
-        requires { server < self.now.shape.servers }
-        ensures at { result ≡ slice_index self.now.notice_at server }
-        ensures below { result < self.now.shape.ring }
-    {
-        self.notice_at[server as usize] as u32
-    }
-
-    fn set_notice(&mut self, server: u32, at: u64)
-        requires server { server < self.old.shape.servers }
-        requires below { at < self.old.shape.ring }
-        ensures { self.new ≡ record self.old { notice_at = slice_set self.old.notice_at server at } }
-    {
-        self.notice_at[server as usize] = at;
-    }
-
-    /// A notice was taken from a server's notice ring.
-    pub(crate) fn notice_up(&mut self, server: u32)
-        requires { server < self.old.shape.servers }
-        ensures { self.new ≡ record self.old { notice_at = slice_set self.old.notice_at server (after_place self.old.shape.ring (slice_index self.old.notice_at server)) } }
-    {
-        let at = next_place(
-            u64::from(self.numbers().ring),
-            u64::from(self.notice_at(server)),
-        );
-        self.set_notice(server, at);
-    }
-
     /// Part 4 goes on with the first window that has a slot which was not seen emptied, and without one
     /// the poll is next.
     pub(crate) fn empty(&mut self) -> CollectStage
@@ -452,149 +346,4 @@ fn first_open(windows: &[Window]) -> Option<usize>
     ensures below { IfSome result (λ place. place < length windows.now) }
 {
     windows.iter().position(|window| window.tail < window.head)
-}
-
-/// What is loaded of the tablets, and which of them are chosen.
-impl Kept {
-    /// The words of a live word: those of another cycle do not count.
-    pub(crate) fn live_words(&self, word: u64) -> u32
-        requires { IsPackedLive word }
-        ensures { result ≡ collecting.live_words self.now word }
-    {
-        match LiveWord::unpack(word) {
-            Some(live) if live.cycle == self.cycle + 1 => live.words,
-            _ => 0,
-        }
-    }
-
-    /// Keeps what was loaded of a tablet.
-    pub(crate) fn keep_used(&mut self, top: u32, live: u32)
-        requires { length self.old.used < self.old.shape.tablets }
-        ensures { self.new ≡ record self.old { used = self.old.used ++ record { top = top; live = live } ∷ [] } }
-    {
-        self.used.push_reserved(Used { top, live });
-    }
-
-    /// All tablets of the server are loaded: chooses among them.
-    pub(crate) fn choose(&mut self, server: u32)
-        requires server { server < self.old.shape.servers }
-        requires used { length self.old.used ≡ self.old.shape.tablets }
-        requires chosen { length self.old.chosen ≤ server * self.old.shape.spare }
-        ensures { self.new ≡ collecting.server_chosen self.old server }
-    {
-        let numbers = self.numbers();
-        self.chooser.select(&self.used, numbers.spare);
-        keep_chosen(
-            &mut self.chosen,
-            self.chooser.chosen(),
-            server * numbers.tablets,
-        );
-        self.used.clear();
-    }
-
-    /// The tablets of the next server are loaded, and past the last server the chosen tablets get regions.
-    pub(crate) fn servers_from(&mut self, server: u32) -> CollectStage
-        ensures { at self.new result ≡ collecting.servers_from self.old server }
-    {
-        if server == self.numbers().servers {
-            self.gifts_from(0)
-        } else {
-            CollectStage::Choosing(ChoiceStage::LoadingLive { server, place: 0 })
-        }
-    }
-
-    /// The chosen tablet behind this one, and past the last the phase Evac.
-    pub(crate) fn gifts_after(&self, number: usize) -> CollectStage
-        requires { number < length self.now.chosen }
-        ensures { at self.now result ≡ collecting.gifts_from self.now (number + 1) }
-    {
-        let count = self.chosen.len();
-        if number + 1 < count {
-            CollectStage::Choosing(ChoiceStage::LoadingHome(number + 1))
-        } else {
-            CollectStage::Choosing(ChoiceStage::StoringEvac)
-        }
-    }
-
-    /// The chosen tablet with this number, and past the last the phase Evac.
-    fn gifts_from(&self, number: usize) -> CollectStage
-        ensures { at self.now result ≡ collecting.gifts_from self.now number }
-    {
-        if number < self.chosen.len() {
-            CollectStage::Choosing(ChoiceStage::LoadingHome(number))
-        } else {
-            CollectStage::Choosing(ChoiceStage::StoringEvac)
-        }
-    }
-
-    /// The chosen tablet with this number.
-    pub(crate) fn chosen_tablet(&self, number: usize) -> u32
-        requires { number < length self.now.chosen }
-        ensures tablet { result ≡ collecting.chosen_tablet self.now number }
-        ensures below { result < self.now.shape.servers * self.now.shape.tablets }
-    {
-        self.chosen[number]
-    }
-
-    /// The lowest region that the tablet's server has to give.
-    pub(crate) fn spare_for(&self, tablet: u32) -> Option<u32>
-        requires { tablet < self.now.shape.servers * self.now.shape.tablets }
-        ensures { result ≡ collecting.spare_for self.now tablet }
-    {
-        let numbers = self.numbers();
-        let regions = numbers.tablets + numbers.spare;
-        let server = tablet / numbers.tablets;
-        spare_between(&self.roles, self.cycle + 1, server * regions, regions)
-    }
-
-    /// A tablet has a new home. The former region may be given out from the next cycle on.
-    pub(crate) fn give(&mut self, gift: Gift)
-        requires runs { Runs self.old }
-        requires region { gift.region < all_regions self.old }
-        requires former { gift.former < all_regions self.old }
-        ensures { self.new ≡ record self.old { roles = slice_set (slice_set self.old.roles gift.region roles.Home) gift.former (roles.Spare (running self.old + 1)) } }
-    {
-        let next = self.cycle + 2;
-        self.roles[gift.region as usize] = Role::Home;
-        self.roles[gift.former as usize] = Role::Spare(next);
-    }
-}
-
-/// The tablets at these places, behind the first of their server, go behind those that are chosen already.
-fn keep_chosen(chosen: &mut Vec<u32>, places: &[u32], first: u32)
-    requires room { length chosen.old.items + length places.now ≤ vec_capacity chosen.old }
-    requires few { All (λ place. first + place < 2 ^ 32) places.now }
-    ensures chosen { chosen.new.items ≡ chosen.old.items ++ map (λ place. first + place) places.now }
-    ensures capacity { vec_capacity chosen.new ≡ vec_capacity chosen.old }
-{
-    for place in places {
-        chosen.push_reserved(first + *place);
-    }
-}
-
-/// Whether a word fits, for tests.
-#[cfg(test)]
-impl Kept {
-    /// Whether the word is that of a value, and if it is a name, of an entry that there is, and there is room for it.
-    pub(crate) fn can_keep_root(&self, word: u64) -> bool
-        ensures packed { result ≡ true → IsPacked word }
-        ensures fits { result ≡ true → FieldFits self.now.shape (value_at word) }
-        ensures room { result ≡ true → length self.now.pending < self.now.shape.mutators * self.now.shape.roots }
-    {
-        let numbers = self.numbers();
-        let known = match Value::unpack(word) {
-            Some(Value::Ref(name)) => name.entry
-                < numbers.servers * numbers.tablets * numbers.entries,
-            Some(_) => true,
-            None => false,
-        };
-        known && self.pending.len() < (numbers.mutators * numbers.roots) as usize
-    }
-
-    /// Whether the word is one of flags.
-    pub(crate) fn can_poll(&self, word: u64) -> bool
-        ensures { result ≡ true → polls.Fits self.now.poll word }
-    {
-        word < 8
-    }
 }

@@ -5,8 +5,6 @@ mod barriers;
 mod chooser;
 mod choosing;
 mod collector;
-#[cfg(test)]
-mod fitting;
 mod forwarding;
 mod idling;
 mod kept;

@@ -1,11 +1,39 @@
 //! Whether the collector can go on with a word, for tests: what they do not need is not found to fit.
 
-ghost use Rattle.std.specs.Prelude.{◌≡◌, true};
+ghost use Rattle.std.specs.Prelude.{◌≡◌, true, ◌<◌, ◌*◌, length};
+ghost use Rattle.mako_words.specs.Values.{IsPacked, value_at};
+ghost use Rattle.mako_ring.specs.Tracing.{FieldFits};
+ghost use Rattle.mako_poll.specs.Polls as polls;
 ghost use Rattle.mako_pause.specs.Collecting.{StageFits, IdleFits, PauseFits, ChoiceFits, NoticeFits, BarrierFits};
 
 use crate::kept::Kept;
 use crate::stage::{BarrierStage, ChoiceStage, CollectStage, IdleStage, NoticeStage, PauseStage};
 use mako_words::{GateWord, LiveWord, NoticeWord, Value};
+
+impl Kept {
+    /// Whether the word is that of a value, and if it is a name, of an entry that there is, and there is room for it.
+    pub(crate) fn can_keep_root(&self, word: u64) -> bool
+        ensures packed { result ≡ true → IsPacked word }
+        ensures fits { result ≡ true → FieldFits self.now.shape (value_at word) }
+        ensures room { result ≡ true → length self.now.pending < self.now.shape.mutators * self.now.shape.roots }
+    {
+        let numbers = self.numbers();
+        let known = match Value::unpack(word) {
+            Some(Value::Ref(name)) => name.entry
+                < numbers.servers * numbers.tablets * numbers.entries,
+            Some(_) => true,
+            None => false,
+        };
+        known && self.pending.len() < (numbers.mutators * numbers.roots) as usize
+    }
+
+    /// Whether the word is one of flags.
+    pub(crate) fn can_poll(&self, word: u64) -> bool
+        ensures { result ≡ true → polls.Fits self.now.poll word }
+    {
+        word < 8
+    }
+}
 
 impl IdleStage {
     fn can_go_on(self, kept: &Kept, before: u64) -> bool

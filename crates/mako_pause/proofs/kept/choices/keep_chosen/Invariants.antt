@@ -1,5 +1,5 @@
 use Rattle.std.proofs.Common.{◌≡◌, ◌+◌, ◌++◌, map, take, vec_capacity, vec_len}
-use Rattle.mako_pause.proofs.kept.keep_chosen.Given as goal
+use Rattle.mako_pause.proofs.kept.choices.keep_chosen.Given as goal
 
 abbrev pub invariant-loop-place : goal.invariant-loop-place
 invariant-loop-place l = record {
