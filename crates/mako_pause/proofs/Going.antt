@@ -15,6 +15,7 @@ use Rattle.mako_shape.proofs.BelongingLaws.{belongings_in_range}
 use Rattle.mako_ring.specs.Tracing.{owner, no_window, is_open, IsNamed}
 use Rattle.mako_ring.specs.Windows.{IsWindow, found_room, tail_up, head_up}
 use Rattle.mako_ring.specs.declared.window.Window.{Window}
+use Rattle.mako_ring.proofs.Found.{owner_in_range}
 use Rattle.mako_poll.specs.declared.poller.PollStage.{PollStage}
 use Rattle.mako_poll.specs.declared.poller.PollStage.TheVariants.{Asking, Reading, Ended as Polled}
 use Rattle.mako_poll.specs.declared.poller.Polled.TheVariants.{Told, NotYet}
@@ -155,13 +156,10 @@ has_room size w ok = full (w.head == w.tail + size) refl (w.tail + 1 == size) re
     full true e false f = let same : w.head ≡ w.tail + size = is_same w.head (w.tail + size) e in omega (arith, same)
     full false e b f = let few = ok.few in is_less w.head (w.tail + size) e few
 
-owner_below : (k : Holdings) (x : Name) → IsNamed k.shape x → owner k.shape x < k.shape.servers
-owner_below k x named = belongings_in_range.tablet k.shape _ (belongings_in_range.entry k.shape x.entry named)
-
 forward_goes : (k : Holdings) (s : ForwardStage) (w : ℕ) → IsKeptKnown k → Runs k → ForwardIsKnown k s → Stands (forward_fed k s w)
 forward_goes k (Looking x) w known runs h =
     let s = owner k.shape x in
-    let below : s < length k.windows = (let b = owner_below k x h.0 in let count = known.windows_count in omega (arith, b, count)) in
+    let below : s < length k.windows = (let b = owner_in_range k.shape x h.0 in let count = known.windows_count in omega (arith, b, count)) in
     let v = found_room k.shape.ring (window_of k s) in
     let here : window_of (set_window k s v) s ≡ v = set_here k.windows s v no_window below in
     let room = has_room k.shape.ring (window_of k s) (known.windows s no_window below) in

@@ -12,7 +12,8 @@ use Rattle.mako_step.specs.declared.act.Op.TheVariants.{Load, Or, And}
 use Rattle.mako_step.specs.Trails.{Observation}
 
 -- the act was made and found such a word, after what had to be before it, and this other act was not made since
-pub record Stands (Before : List Observation → Type 0) (act : Act) (Found : ℕ → Type 0) (other : Act) (trail : List Observation) : Type 0 where
+pub record Stands (Before : List Observation → Type 0) (act : Act) (Found : ℕ → Type 0) (other : Act)
+    (trail : List Observation) : Type 0 where
   pub front : List Observation
   pub found : ℕ
   pub since : List Observation

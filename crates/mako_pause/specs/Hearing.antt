@@ -16,15 +16,24 @@ use Rattle.mako_step.specs.Trails.{Observation}
 abbrev pub at_notice : Numbers → ℕ → ℕ → Op → ℕ → Observation
 at_notice n s slot op w = record { act = record { word = index n (notice s slot); op = op }; found = w }
 
+-- the trail with a look at a slot, and with the store of 0 behind it
+abbrev pub looked : Numbers → ℕ → ℕ → List Observation → ℕ → List Observation
+looked n s slot trail w = trail ++ at_notice n s slot Load w ∷ []
+
+abbrev pub took : Numbers → ℕ → ℕ → List Observation → ℕ → ℕ → List Observation
+took n s slot trail w before = looked n s slot trail w ++ at_notice n s slot (Store 0) before ∷ []
+
 -- the trail took the notices of the first servers, each up to Done, with these names for each, and these of the next
 pub data Hears (n : Numbers) : List (List Name) → List Name → List Observation → Type 0 where
   begins : Hears n [] [] []
-  waits : (lists : List (List Name)) (names : List Name) (trail : List Observation) (slot w : ℕ) → Hears n lists names trail → w ≡ 0 →
-      Hears n lists names (trail ++ at_notice n (length lists) slot Load w ∷ [])
-  frees : (lists : List (List Name)) (names : List Name) (trail : List Observation) (slot w before : ℕ) (x : Name) → Hears n lists names trail → w ≢ 0 → notice_at w ≡ Freed x →
-      Hears n lists (names ++ x ∷ []) ((trail ++ at_notice n (length lists) slot Load w ∷ []) ++ at_notice n (length lists) slot (Store 0) before ∷ [])
-  ends : (lists : List (List Name)) (names : List Name) (trail : List Observation) (slot w before : ℕ) → Hears n lists names trail → w ≢ 0 → notice_at w ≡ Done →
-      Hears n (lists ++ names ∷ []) [] ((trail ++ at_notice n (length lists) slot Load w ∷ []) ++ at_notice n (length lists) slot (Store 0) before ∷ [])
+  waits : (lists : List (List Name)) (names : List Name) (trail : List Observation) (slot w : ℕ) →
+      Hears n lists names trail → w ≡ 0 → Hears n lists names (looked n (length lists) slot trail w)
+  frees : (lists : List (List Name)) (names : List Name) (trail : List Observation) (slot w before : ℕ) (x : Name) →
+      Hears n lists names trail → w ≢ 0 → notice_at w ≡ Freed x →
+      Hears n lists (names ++ x ∷ []) (took n (length lists) slot trail w before)
+  ends : (lists : List (List Name)) (names : List Name) (trail : List Observation) (slot w before : ℕ) →
+      Hears n lists names trail → w ≢ 0 → notice_at w ≡ Done →
+      Hears n (lists ++ names ∷ []) [] (took n (length lists) slot trail w before)
 
 -- the names of all servers one after another
 abbrev pub joined : List (List Name) → List Name
@@ -37,5 +46,6 @@ pub record RiseAt (n : Numbers) (server : ℕ) (names : List Name) : Type 0 wher
 
 -- where each server's names are of its own entries and rise, all names rise, so that none is there twice
 abbrev pub ListsRise : Type 0
-ListsRise = (n : Numbers) (lists : List (List Name)) → IsShape n → ((server : ℕ) → server < length lists → RiseAt n server (slice_index_or lists server [])) →
+ListsRise = (n : Numbers) (lists : List (List Name)) → IsShape n →
+    ((server : ℕ) → server < length lists → RiseAt n server (slice_index_or lists server [])) →
     AllPairs (λ a b. a.entry < b.entry) (joined lists)

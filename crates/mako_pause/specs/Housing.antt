@@ -1,4 +1,4 @@
--- The collector beside the home words, which it alone stores: each tablet that it chooses gets a spare region of its server.
+-- The collector beside the home words, which it alone stores: each tablet that it chooses gets a spare region.
 use Rattle.std.specs.Prelude.{◌≡◌, ◌≢◌, ℕ, ◌+◌, ◌*◌, ◌<◌, ◌==◌, if◌then◌else◌, Some, List, [], ◌∷◌, ◌++◌, length, take}
 use Rattle.mako_shape.specs.Belongings.{server_of_tablet, server_of_region, opening_home}
 use Rattle.mako_shape.specs.Limits.{IsShape}
@@ -86,9 +86,12 @@ pub record IsFreeFor (n : Numbers) (homes : ℕ → ℕ) (t region : ℕ) : Type
 -- a tablet whose home is loaded gets one, and once Evac is to be stored each chosen tablet has got one
 abbrev pub ChoiceGives : Holdings → ChoiceStage → (ℕ → ℕ) → List ℕ → Type 0
 ChoiceGives k (LoadingHome i) homes given =
-    (given ≡ take i k.chosen) × ((region : ℕ) × ((spare_for k (chosen_tablet k i) ≡ Some region) × IsFreeFor k.shape homes (chosen_tablet k i) region))
-ChoiceGives k (StoringLeaving i gift) homes given = (given ≡ take i k.chosen) × (gift.former ≡ homes (chosen_tablet k i)) × IsFreeFor k.shape homes (chosen_tablet k i) gift.region
-ChoiceGives k (StoringHome i gift) homes given = (given ≡ take i k.chosen) × (gift.former ≡ homes (chosen_tablet k i)) × IsFreeFor k.shape homes (chosen_tablet k i) gift.region
+    (given ≡ take i k.chosen)
+    × ((region : ℕ) × ((spare_for k (chosen_tablet k i) ≡ Some region) × IsFreeFor k.shape homes (chosen_tablet k i) region))
+ChoiceGives k (StoringLeaving i gift) homes given =
+    (given ≡ take i k.chosen) × (gift.former ≡ homes (chosen_tablet k i)) × IsFreeFor k.shape homes (chosen_tablet k i) gift.region
+ChoiceGives k (StoringHome i gift) homes given =
+    (given ≡ take i k.chosen) × (gift.former ≡ homes (chosen_tablet k i)) × IsFreeFor k.shape homes (chosen_tablet k i) gift.region
 ChoiceGives k (StoringTop i) homes given = given ≡ take (i + 1) k.chosen
 ChoiceGives k StoringEvac homes given = given ≡ k.chosen
 ChoiceGives k stage homes given = Unit {0}
@@ -99,5 +102,6 @@ StageGives k stage homes given = Unit {0}
 
 -- so it is at every moment of a collector that finds the homes as it stored them
 abbrev pub CollectorsGive : Type 0
-CollectorsGive = (s : ScriptView) (trail : List Observation) (v : Housed) → IsShape s.numbers → Goes housed_next HousedFits housed_fed (housed_opening s) trail v →
+CollectorsGive = (s : ScriptView) (trail : List Observation) (v : Housed) → IsShape s.numbers →
+    Goes housed_next HousedFits housed_fed (housed_opening s) trail v →
     AreHomes s.numbers v.homes × StageGives v.collector.kept v.collector.stage v.homes v.given

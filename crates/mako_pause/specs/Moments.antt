@@ -40,7 +40,8 @@ PauseBegan k Choice trail = ToldOpen k.shape (running k) trail
 abbrev pub PauseShown : Holdings → PauseStage → List Observation → Type 0
 PauseShown k (Shutting pause m) trail = PauseBegan k pause trail × EachBelow IsShut k.shape m trail
 PauseShown k (Draining pause m) trail =
-    PauseBegan k pause trail × (m < k.shape.mutators) × EachBelow IsShut k.shape k.shape.mutators trail × EachBelow IsDrained k.shape m trail
+    PauseBegan k pause trail × (m < k.shape.mutators) × EachBelow IsShut k.shape k.shape.mutators trail
+    × EachBelow IsDrained k.shape m trail
 PauseShown k (LoadingRoot m q) trail = EachBelow IsDrained k.shape k.shape.mutators trail
 PauseShown k StoringTrace trail = EachBelow IsDrained k.shape k.shape.mutators trail
 PauseShown k (Opening m) trail = EachBelow IsOpen k.shape m trail
@@ -63,7 +64,8 @@ pub record PollShown (k : Holdings) (trail : List Observation) : Type 0 where
 
 -- completion was told again, and until Evac is stored the gates stay drained
 abbrev pub ChoiceShown : Holdings → ChoiceStage → List Observation → Type 0
-ChoiceShown k (Reopening m) trail = (k.gates_shut ≡ false) × ToldTwice k.shape (running k) trail × EachBelow IsOpen k.shape m trail
+ChoiceShown k (Reopening m) trail =
+    (k.gates_shut ≡ false) × ToldTwice k.shape (running k) trail × EachBelow IsOpen k.shape m trail
 ChoiceShown k stage trail = ToldTwice k.shape (running k) trail × EachBelow IsDrained k.shape k.shape.mutators trail
 
 -- the notices of so many servers were taken, and the freed names are those that they told
@@ -96,7 +98,8 @@ pub record Found (k : Holdings) (server word : ℕ) (trail : List Observation) :
 
 abbrev pub NoticeShown : Holdings → NoticeStage → List Observation → Type 0
 NoticeShown k (NoticeLook s) trail = (s < k.shape.servers) × Heard k s trail
-NoticeShown k (NoticeClear s told) trail = (s < k.shape.servers) × ((word : ℕ) × ((notice_at word ≡ told) × Found k s word trail))
+NoticeShown k (NoticeClear s told) trail =
+    (s < k.shape.servers) × ((word : ℕ) × ((notice_at word ≡ told) × Found k s word trail))
 NoticeShown k StoringIdle trail = AllHeard k trail
 
 abbrev pub StageShown : Holdings → CollectStage → List Observation → Type 0
@@ -107,7 +110,9 @@ StageShown k (Barriers stage) trail = (k.freed ≡ []) × Round k.shape (running
 StageShown k (Emptying s) trail = (k.freed ≡ []) × Round k.shape (running k) k.gates_shut trail
 StageShown k Polling trail = (k.freed ≡ []) × PollShown k trail
 StageShown k (Choosing stage) trail = (k.freed ≡ []) × ChoiceShown k stage trail
-StageShown k (Noticing stage) trail = (k.gates_shut ≡ false) × ToldTwice k.shape (running k) trail × EachBelow IsOpen k.shape k.shape.mutators trail × NoticeShown k stage trail
+StageShown k (Noticing stage) trail =
+    (k.gates_shut ≡ false) × ToldTwice k.shape (running k) trail × EachBelow IsOpen k.shape k.shape.mutators trail
+    × NoticeShown k stage trail
 StageShown k Ended trail = Unit {0}
 
 -- the phase that the trail stored last is that of the stage, and the trail shows all that has to be made before it
@@ -118,4 +123,5 @@ pub record Moment (n : Numbers) (c : Collecting) (trail : List Observation) : Ty
 
 -- so it is at every moment of a collector
 abbrev pub CollectorsGo : Type 0
-CollectorsGo = (s : ScriptView) (trail : List Observation) (l : Collecting) → IsShape s.numbers → Goes next_of Fits fed (opening s) trail l → Moment s.numbers l trail
+CollectorsGo = (s : ScriptView) (trail : List Observation) (l : Collecting) → IsShape s.numbers →
+    Goes next_of Fits fed (opening s) trail l → Moment s.numbers l trail

@@ -10,7 +10,8 @@ use Rattle.mako_pause.specs.Gating.{IsDrained, IsOpen, EachBelow}
 
 -- in the phase Trace of this cycle, after what had to be before it and with the gates as they had to be, a poll of all
 -- servers told completion
-pub record Told (n : Numbers) (cycle : ℕ) (Before : List Observation → Type 0) (Gate : Numbers → ℕ → List Observation → Type 0) (trail : List Observation) : Type 0 where
+pub record Told (n : Numbers) (cycle : ℕ) (Before : List Observation → Type 0)
+    (Gate : Numbers → ℕ → List Observation → Type 0) (trail : List Observation) : Type 0 where
   pub front : List Observation
   pub poll : List Observation
   pub since : List Observation

@@ -14,6 +14,7 @@ use Rattle.mako_ring.specs.TracerFacets.{serving_of}
 use Rattle.mako_ring.specs.TracerFacts.{holds, TracerKeeps, TracerStands}
 use Rattle.mako_ring.specs.Tracing.{TracerView, no_window, window_of, is_open, at_stage, work_on, next_work, past_windows, windows_from, rest}
 use Rattle.mako_ring.specs.declared.window.Window.{Window}
+use Rattle.mako_ring.proofs.Found.{found_window}
 use Rattle.mako_ring.specs.declared.tracing.Scan.{Scan}
 use Rattle.mako_ring.specs.declared.tracing.Source.TheVariants.{Collector}
 use Rattle.mako_ring.specs.declared.tracing.ScanStage.TheVariants.{EntryLoad}
@@ -92,19 +93,6 @@ past_windows_facet t first None = low (t.ghost_up && is_none (position is_open t
 
 pub windows_facet : (t : TracerView) (first : ℕ) → serving_of (windows_from t first) ≡ rested t
 windows_facet t first = past_windows_facet t first (position is_open (drop first t.windows))
-
--- the window that is found is open
-found_window : (first : ℕ) (ws : List Window) (k : ℕ) → position is_open (drop first ws) ≡ Some k
-    → (first + k < length ws) × ((slice_index_or ws (first + k) no_window).tail < (slice_index_or ws (first + k) no_window).head)
-found_window first ws k e =
-    let f = position-Some is_open (drop first ws) k no_window e in
-    let l : length (drop first ws) ≡ length ws - first = length-drop first ws in
-    let w : get_or (drop first ws) k no_window ≡ get_or ws (first + k) no_window = get_or-drop first ws k no_window in
-    let is : is_open (get_or ws (first + k) no_window) ≡ true = ap is_open (sym w) ∙ f.1 in
-    (let h = f.0 in omega arith, open_is (get_or ws (first + k) no_window) is)
-  where
-    open_is : (w : Window) → is_open w ≡ true → w.tail < w.head
-    open_is w e = grind (arith, nat_tests)
 
 -- where none is found, none is open
 pub none_open : (ws : List Window) → is_none (position is_open ws) ≡ true → (r : ℕ) → r < length ws → (slice_index_or ws r no_window).head ≤ (slice_index_or ws r no_window).tail

@@ -23,6 +23,7 @@ use Rattle.mako_ring.specs.Facets.{Serving, incoming, IsSource}
 use Rattle.mako_ring.specs.TracerFacets.{serving_of}
 use Rattle.mako_ring.specs.TracerFacts.{holds, OutgoingStands, TracerKeeps, TracerStands}
 use Rattle.mako_ring.specs.Tracing.{TracerView, owner, no_window, window_of, set_window, slot_of, head_slot, own_tablet, live_of, at_stage, next_work, windows_from, rest, past_rings, after_source, rings_from, advanced, scan_of, behind_field, field_found, stage_next, stage_fed, IsNamed, IsOwnName, FieldFits, StageFits, begun}
+use Rattle.mako_ring.proofs.Found.{owner_in_range}
 use Rattle.mako_ring.proofs.Turns.{place_below}
 use Rattle.mako_ring.specs.Windows.{tail_up, head_up, found_room}
 use Rattle.mako_ring.specs.declared.window.Window.{Window}
@@ -49,10 +50,6 @@ use Rattle.mako_poll.proofs.Parts.{outgoing_holds, scan_holds, rested, next_work
 -- a name's word is not 0
 name_is_filled : (x : Name) → name_word x ≢ 0
 name_is_filled x e = absurd (omega arith)
-
--- the server of a name of an entry in range is in range
-owner_in_range : (n : Numbers) (x : Name) → IsNamed n x → owner n x < n.servers
-owner_in_range n x named = belongings_in_range.tablet n (tablet_of_entry n x.entry) (belongings_in_range.entry n x.entry named)
 
 -- the ring behind a ring leads from another server
 behind : (t : TracerView) (source : Source) → after_source t source ≢ t.server

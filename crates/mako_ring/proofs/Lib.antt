@@ -4,3 +4,4 @@ pub mod Over
 pub mod RingLaws
 pub mod Words
 pub mod Answering
+pub mod Found
