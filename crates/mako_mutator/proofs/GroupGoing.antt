@@ -18,7 +18,7 @@ use Rattle.mako_model.specs.declared.reply.Reply.TheVariants.{NoField, Cycle, Sp
 use Rattle.mako_model.specs.declared.attempt.Pause.TheVariants.{Stopped, Busy, Barrier, Cycle as NotYet}
 use Rattle.mako_record.specs.Regions.{is_in_region}
 use Rattle.mako_record.specs.Copying as copying
-use Rattle.mako_record.specs.Copying.{Copying}
+use Rattle.mako_record.specs.Copying.{Copying, opening_copy}
 use Rattle.mako_record.specs.declared.copier.CopyStage.{CopyStage}
 use Rattle.mako_record.specs.declared.copier.CopyStage.TheVariants.{LoadingTop, LoadingHeader as CopyHeader, StoringHeader, LoadingField as CopyField, StoringField as CopiedField, StoringEntry, RaisingTop, Ended as Copied}
 use Rattle.mako_record.proofs.Going.{copy_goes, copy_known}
@@ -60,7 +60,7 @@ use Rattle.mako_mutator.specs.Agreeing.{RootStageOf, AccessOf, AllocStageOf, Lea
 use Rattle.mako_mutator.specs.Objects.{ValueIsKnown, ErrandIsKnown, LocatedIsKnown, tablet_of, at_object}
 use Rattle.mako_mutator.specs.Rooting.{source_fed, target_fed, root_fed, RootFits, root_rank, RootIsKnown}
 use Rattle.mako_mutator.specs.Entering.{enter_fed, EnterFits, enter_rank, EnterIsKnown}
-use Rattle.mako_mutator.specs.Moving.{copy_fed, move_fed, giving_turn, opening_copy, MoveFits, move_rank, CopyGoesOn, MoveIsKnown}
+use Rattle.mako_mutator.specs.Moving.{copy_fed, move_fed, giving_turn, MoveFits, move_rank, CopyGoesOn, MoveIsKnown}
 use Rattle.mako_mutator.specs.Getting.{get_fed, GetFits, get_rank, GetIsKnown}
 use Rattle.mako_mutator.specs.Putting.{before_store, old_fed, put_fed, PutFits, put_rank, PutIsKnown}
 use Rattle.mako_mutator.specs.Allocating.{found_fed, search_fed, new_fed, NewFits, new_rank, SearchGoesOn, NewIsKnown}

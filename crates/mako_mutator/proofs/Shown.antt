@@ -28,7 +28,7 @@ use Rattle.mako_model.specs.declared.attempt.Pause.{Pause}
 use Rattle.mako_model.specs.declared.attempt.Pause.TheVariants.{Stopped, Shut, Busy, Moving as BeingMoved, Barrier, Cycle as NotYet}
 use Rattle.mako_record.specs.Regions.{is_in_region}
 use Rattle.mako_record.specs.Copying as copying
-use Rattle.mako_record.specs.Copying.{Copying}
+use Rattle.mako_record.specs.Copying.{Copying, opening_copy}
 use Rattle.mako_record.specs.declared.copier.CopyStage.{CopyStage}
 use Rattle.mako_record.specs.declared.copier.CopyStage.TheVariants.{LoadingTop, LoadingHeader as CopyHeader, StoringHeader, LoadingField as CopyField, StoringField as CopiedField, StoringEntry, RaisingTop, Ended as Copied}
 use Rattle.mako_alloc.specs.Allocating as allocating
@@ -68,7 +68,7 @@ use Rattle.mako_mutator.specs.Agreeing.{AccessOf, AllocStageOf, IsCollect, IsNew
 use Rattle.mako_mutator.specs.Objects.{tablet_of, at_record, at_object}
 use Rattle.mako_mutator.specs.Rooting.{source_fed, target_fed, root_next, root_fed}
 use Rattle.mako_mutator.specs.Entering.{enter_next, enter_fed}
-use Rattle.mako_mutator.specs.Moving.{copy_fed, giving_turn, opening_copy, move_next, move_fed}
+use Rattle.mako_mutator.specs.Moving.{copy_fed, giving_turn, move_next, move_fed}
 use Rattle.mako_mutator.specs.Getting.{get_next, get_fed}
 use Rattle.mako_mutator.specs.Putting.{before_store, old_fed, put_next, put_fed}
 use Rattle.mako_mutator.specs.Allocating.{found_fed, search_fed, opening_search, new_next, new_fed, NewFits, NewIsKnown}

@@ -10,7 +10,7 @@ use Rattle.mako_step.specs.declared.act.Op.TheVariants.{Load, Store, Exchange}
 use Rattle.mako_step.specs.declared.step.Step.{Step}
 use Rattle.mako_record.specs.Regions.{is_in_region}
 use Rattle.mako_record.specs.Copying as copying
-use Rattle.mako_record.specs.Copying.{Copying}
+use Rattle.mako_record.specs.Copying.{Copying, opening_copy}
 use Rattle.mako_record.specs.declared.copier.CopyStage.{CopyStage}
 use Rattle.mako_record.specs.declared.copier.CopyStage.TheVariants.{LoadingTop, LoadingHeader, StoringHeader, LoadingField, StoringField, StoringEntry, RaisingTop, Ended}
 use Rattle.mako_model.specs.declared.attempt.Attempt.TheVariants.{Pause as Paused}
@@ -33,10 +33,6 @@ move_next k e (GivingTurn address) = does (index k.shape (turn (tablet_of k.shap
 
 abbrev pub giving_turn : Errand → ℕ → CallStage
 giving_turn e address = Moving e (GivingTurn address)
-
--- the copy of the entry's record into this home, at its start
-abbrev pub opening_copy : Numbers → ℕ → EntryWord → ℕ → Copying
-opening_copy n x found home = record { shape = n; number = x; entry = found; home = home; stage = LoadingTop }
 
 -- under the turn a record that lies in the home by now is left there, and else copied
 abbrev pub again_fed : Numbers → Errand → ℕ → EntryWord → CallStage

@@ -87,11 +87,14 @@ pub record IsFreeFor (n : Numbers) (homes : ℕ → ℕ) (t region : ℕ) : Type
 abbrev pub ChoiceGives : Holdings → ChoiceStage → (ℕ → ℕ) → List ℕ → Type 0
 ChoiceGives k (LoadingHome i) homes given =
     (given ≡ take i k.chosen)
-    × ((region : ℕ) × ((spare_for k (chosen_tablet k i) ≡ Some region) × IsFreeFor k.shape homes (chosen_tablet k i) region))
+    × ((region : ℕ)
+    × ((spare_for k (chosen_tablet k i) ≡ Some region) × IsFreeFor k.shape homes (chosen_tablet k i) region))
 ChoiceGives k (StoringLeaving i gift) homes given =
-    (given ≡ take i k.chosen) × (gift.former ≡ homes (chosen_tablet k i)) × IsFreeFor k.shape homes (chosen_tablet k i) gift.region
+    (given ≡ take i k.chosen) × (gift.former ≡ homes (chosen_tablet k i))
+    × IsFreeFor k.shape homes (chosen_tablet k i) gift.region
 ChoiceGives k (StoringHome i gift) homes given =
-    (given ≡ take i k.chosen) × (gift.former ≡ homes (chosen_tablet k i)) × IsFreeFor k.shape homes (chosen_tablet k i) gift.region
+    (given ≡ take i k.chosen) × (gift.former ≡ homes (chosen_tablet k i))
+    × IsFreeFor k.shape homes (chosen_tablet k i) gift.region
 ChoiceGives k (StoringTop i) homes given = given ≡ take (i + 1) k.chosen
 ChoiceGives k StoringEvac homes given = given ≡ k.chosen
 ChoiceGives k stage homes given = Unit {0}

@@ -21,6 +21,10 @@ pub record Copying : Type 0 where
   pub home : ℕ
   pub stage : CopyStage
 
+-- the copy of an entry's record into this region, at its start
+abbrev pub opening_copy : Numbers → ℕ → EntryWord → ℕ → Copying
+opening_copy n x e region = record { shape = n; number = x; entry = e; home = region; stage = LoadingTop }
+
 -- the index of the top of the entry's tablet
 abbrev pub top_index : Copying → ℕ
 top_index c = index c.shape (top (tablet_of_entry c.shape c.number))

@@ -87,7 +87,7 @@ impl Copier {
         requires fits { FitsEntry entry }
         requires address { IsAddress shape entry.address }
         requires home { home < shape.servers * (shape.tablets + shape.spare) }
-        ensures { result ≡ record { shape = shape; number = number; entry = entry; home = home; stage = stages.LoadingTop } }
+        ensures { result ≡ copying.opening_copy shape number entry home }
     {
         Copier {
             shape,
