@@ -7,7 +7,7 @@ use Rattle.mako_step.specs.declared.step.Step.TheVariants.{Do, Ended as NoStep}
 use Rattle.mako_step.proofs.Cases.{by_lt, by_bool}
 use Rattle.mako_gate.specs.Shutting.{is_counting}
 use Rattle.mako_record.specs.Copying as copying
-use Rattle.mako_record.specs.Copying.{Copying as Copy}
+use Rattle.mako_record.specs.Copying.{Copying as Copy, opening_copy}
 use Rattle.mako_record.proofs.Going.{copy_goes, copy_known}
 use Rattle.mako_evac.specs.declared.owner.Owner.{Owner}
 use Rattle.mako_evac.specs.declared.stage.EvacStage.{EvacStage}
@@ -18,7 +18,7 @@ use Rattle.mako_evac.specs.declared.freeing.FreeStage.{FreeStage}
 use Rattle.mako_evac.specs.declared.freeing.FreeStage.TheVariants.{Loading, Storing, Awaiting, Telling}
 use Rattle.mako_evac.specs.Owners.{IsOwner, IsOwnTablet, IsOwnEntry, first_tablet, tablets_end, first_entry, is_left, is_dead}
 use Rattle.mako_evac.specs.Passing.{at_tablet, at_record, at_entry}
-use Rattle.mako_evac.specs.Tablets.{opening_copy, copy_fed, tablet_fed, TabletFits, tablet_waits, tablet_renewed, tablet_rank, ends, IsPlaced, TabletIsKnown}
+use Rattle.mako_evac.specs.Tablets.{copy_fed, tablet_fed, TabletFits, tablet_waits, tablet_renewed, tablet_rank, ends, IsPlaced, TabletIsKnown}
 use Rattle.mako_evac.specs.Freeing.{free_fed, FreeFits, free_waits, free_renewed, free_rank, FreeIsKnown}
 use Rattle.mako_evac.specs.Evacuating.{Evacuation, next_of, stage_next, slot_of, stage_fed, told_at, at_fed, fed, StageFits, Fits, stage_waits, is_waiting, stage_renewed, is_renewed, stage_rank, rank, StageIsKnown, IsKnown}
 use Rattle.mako_evac.proofs.Bounds.{record_within, has_entry, after_below}

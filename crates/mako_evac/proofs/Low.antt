@@ -11,7 +11,7 @@ use Rattle.mako_step.specs.declared.step.Step.TheVariants.{Do, Ended as NoStep}
 use Rattle.mako_step.proofs.Cases.{by_lt, by_bool}
 use Rattle.mako_gate.specs.Shutting.{is_counting}
 use Rattle.mako_record.specs.Copying as copying
-use Rattle.mako_record.specs.Copying.{Copying as Copy}
+use Rattle.mako_record.specs.Copying.{Copying as Copy, opening_copy}
 use Rattle.mako_record.specs.declared.copier.CopyStage.{CopyStage}
 use Rattle.mako_record.specs.declared.copier.CopyStage.TheVariants.{LoadingTop, LoadingHeader, StoringHeader, LoadingField, StoringField, StoringEntry, RaisingTop, Ended as Copied}
 use Rattle.mako_evac.specs.declared.owner.Owner.{Owner}
@@ -23,7 +23,7 @@ use Rattle.mako_evac.specs.declared.freeing.FreeStage.{FreeStage}
 use Rattle.mako_evac.specs.declared.freeing.FreeStage.TheVariants.{Loading, Storing, Awaiting, Telling}
 use Rattle.mako_evac.specs.Owners.{first_tablet, tablets_end, first_entry, is_left, is_dead}
 use Rattle.mako_evac.specs.Passing.{at_tablet, at_record, at_entry}
-use Rattle.mako_evac.specs.Tablets.{opening_copy, copy_fed, tablet_fed}
+use Rattle.mako_evac.specs.Tablets.{copy_fed, tablet_fed}
 use Rattle.mako_evac.specs.Freeing.{free_fed}
 use Rattle.mako_evac.specs.Evacuating.{Evacuation, next_of, stage_fed, fed}
 use Rattle.mako_evac.specs.Low.{IsLowStage, IsLowCopy, IsLow, IsLowTablet, KeepsTabletLow, KeepsLow}

@@ -18,7 +18,7 @@ use Rattle.mako_gate.specs.Bits.{shut_bit}
 use Rattle.mako_gate.specs.Runs.{sees}
 use Rattle.mako_gate.specs.Shutting.{is_counting}
 use Rattle.mako_record.specs.Copying as copying
-use Rattle.mako_record.specs.Copying.{Copying as Copy}
+use Rattle.mako_record.specs.Copying.{Copying as Copy, opening_copy}
 use Rattle.mako_ring.specs.Contents.{after_place}
 use Rattle.mako_evac.specs.declared.owner.Owner.{Owner}
 use Rattle.mako_evac.specs.declared.stage.EvacStage.{EvacStage}
@@ -29,7 +29,7 @@ use Rattle.mako_evac.specs.declared.freeing.FreeStage.{FreeStage}
 use Rattle.mako_evac.specs.declared.freeing.FreeStage.TheVariants.{Loading, Storing, Awaiting, Telling}
 use Rattle.mako_evac.specs.Owners.{IsOwner, IsOwnTablet, IsOwnEntry, first_tablet, tablets_end, first_entry, is_left, is_dead}
 use Rattle.mako_evac.specs.Passing.{at_tablet, at_record, at_entry}
-use Rattle.mako_evac.specs.Tablets.{opening_copy, copy_fed, tablet_next, tablet_fed, TabletFits, TabletIsKnown}
+use Rattle.mako_evac.specs.Tablets.{copy_fed, tablet_next, tablet_fed, TabletFits, TabletIsKnown}
 use Rattle.mako_evac.specs.Freeing.{free_next, free_fed, name_of}
 use Rattle.mako_evac.specs.Evacuating.{opening, slot_at, stage_next, stage_fed, told_at, at_fed, StageFits, StageIsKnown, IsKnown}
 use Rattle.mako_evac.specs.Runs.{at_leaving, at_gate, at_word, Copied, TabletsPassed}

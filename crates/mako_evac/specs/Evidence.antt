@@ -12,7 +12,7 @@ use Rattle.mako_step.specs.declared.act.Op.TheVariants.{Load, Store, Or}
 use Rattle.mako_gate.specs.Bits.{shut_bit}
 use Rattle.mako_gate.specs.Runs.{sees}
 use Rattle.mako_record.specs.Copying as copying
-use Rattle.mako_record.specs.Copying.{Copying as Copy}
+use Rattle.mako_record.specs.Copying.{Copying as Copy, opening_copy}
 use Rattle.mako_ring.specs.Contents.{after_place}
 use Rattle.mako_evac.specs.declared.owner.Owner.{Owner}
 use Rattle.mako_evac.specs.declared.stage.EvacStage.{EvacStage}
@@ -22,7 +22,6 @@ use Rattle.mako_evac.specs.declared.tablet.TabletStage.TheVariants.{LoadingLeavi
 use Rattle.mako_evac.specs.declared.freeing.FreeStage.{FreeStage}
 use Rattle.mako_evac.specs.declared.freeing.FreeStage.TheVariants.{Loading, Storing, Awaiting, Telling}
 use Rattle.mako_evac.specs.Owners.{IsOwner, tablets_end, first_entry, is_left, is_dead}
-use Rattle.mako_evac.specs.Tablets.{opening_copy}
 use Rattle.mako_evac.specs.Evacuating.{Evacuation, opening, next_of, Fits, fed, slot_at}
 use Rattle.mako_evac.specs.Runs.{at_gate, at_word, FoundLeaving, Drained, Copied, Cleared, TabletsPassed, Stored, FoundEmpty, EntriesPassed}
 

@@ -14,11 +14,10 @@ use Rattle.mako_step.specs.declared.step.Step.TheVariants.{Ended as NoStep}
 use Rattle.mako_gate.specs.Bits.{shut_bit}
 use Rattle.mako_gate.specs.Runs.{sees, ShutBy}
 use Rattle.mako_record.specs.Copying as copying
-use Rattle.mako_record.specs.Copying.{Copying as Copy}
+use Rattle.mako_record.specs.Copying.{Copying as Copy, opening_copy}
 use Rattle.mako_ring.specs.Contents.{after_place}
 use Rattle.mako_evac.specs.declared.owner.Owner.{Owner}
 use Rattle.mako_evac.specs.Owners.{first_tablet, first_entry, is_left, is_dead}
-use Rattle.mako_evac.specs.Tablets.{opening_copy}
 use Rattle.mako_evac.specs.Freeing.{free_word, name_of}
 use Rattle.mako_evac.specs.Evacuating.{slot_at}
 

@@ -15,7 +15,7 @@ use Rattle.mako_step.specs.declared.step.Step.TheVariants.{Do, Ended as NoStep}
 use Rattle.mako_gate.specs.Bits.{shut_bit}
 use Rattle.mako_gate.specs.Shutting.{is_counting}
 use Rattle.mako_record.specs.Copying as copying
-use Rattle.mako_record.specs.Copying.{Copying as Copy}
+use Rattle.mako_record.specs.Copying.{Copying as Copy, opening_copy}
 use Rattle.mako_record.specs.declared.copier.CopyStage.TheVariants.{LoadingTop}
 use Rattle.mako_evac.specs.declared.owner.Owner.{Owner}
 use Rattle.mako_evac.specs.declared.stage.EvacStage.{EvacStage}
@@ -35,10 +35,6 @@ tablet_next o t (LoadingEntry region x) = does (index o.shape (entry x)) Load
 tablet_next o t (Copying region x copy) = copying.next_of copy
 tablet_next o t Clearing = does (index o.shape (leaving t)) (Store 0)
 tablet_next o t Reopening = does (index o.shape (tablet_gate t)) (And (all_but shut_bit))
-
--- the copy of the entry's record into this region, at its start
-abbrev pub opening_copy : Numbers → ℕ → EntryWord → ℕ → Copy
-opening_copy n x e region = record { shape = n; number = x; entry = e; home = region; stage = LoadingTop }
 
 -- a record that is left behind is copied, and any other passed over
 abbrev pub record_fed : Owner → ℕ → ℕ → ℕ → EntryWord → EvacStage
