@@ -20,6 +20,7 @@ use Rattle.mako_step.proofs.Cases.{when_eq, when_lt, when_test}
 use Rattle.mako_ring.specs.Contents.{after_place}
 use Rattle.mako_ring.specs.Tracing.{TracerView, owner, no_window, window_of, set_window, own_tablet, live_of, is_open, at_stage, work_on, next_work, past_windows, windows_from, rest, past_rings, rings_from, after_source, advanced, scan_of, behind_field, field_found, send_fed, scan_fed, receive_fed, mark_fed, rest_fed, stage_fed, fed, begun, IsNamed, FieldFits, ScanFits, ReceiveFits, MarkFits, StageFits, Fits}
 use Rattle.mako_ring.specs.Windows.{IsWindow, tail_up, head_up, found_room}
+use Rattle.mako_ring.proofs.Found.{found_window, owner_in_range}
 use Rattle.mako_ring.specs.declared.window.Window.{Window}
 use Rattle.mako_ring.specs.declared.tracing.Scan.{Scan}
 use Rattle.mako_ring.specs.declared.tracing.Source.{Source}
@@ -38,10 +39,6 @@ use Rattle.mako_ring.specs.declared.tracing.TraceStage.{TraceStage}
 use Rattle.mako_ring.specs.declared.tracing.TraceStage.TheVariants.{Sending, Scanning, Receiving, Marking, Resting, Ended}
 use Rattle.mako_trace.specs.declared.holdings.Holdings.{Holdings}
 use Rattle.mako_trace.specs.Held.{HasRoom, SameRoom, ScanKnown, SomeScanKnown, SomeNameKnown, IsHeld, SendKnown, ScanStageKnown, SourceKnown, ReceiveKnown, MarkKnown, RestKnown, StageKnown, IsKnown}
-
--- the server of a name of an entry in range is in range
-pub owner_in_range : (n : Numbers) (x : Name) → IsNamed n x → owner n x < n.servers
-owner_in_range n x named = belongings_in_range.tablet n (tablet_of_entry n x.entry) (belongings_in_range.entry n x.entry named)
 
 -- ---- changes of what is kept
 held_window : (t : TracerView) (r : ℕ) (v : Window) → IsHeld t → IsWindow t.shape.ring v → IsHeld (set_window t r v)
@@ -143,8 +140,10 @@ held_flags t busy up h = record {
 after_below : (size at : ℕ) → at < size → after_place size at < size
 after_below size at l = when_eq (λ v. v < size) 0 (at + 1) (at + 1) size (λ e. omega arith) (λ d. omega arith)
 
-held_advanced : (t : TracerView) (source : Source) → IsHeld t → SourceKnown t.shape source → IsHeld (advanced t source)
-held_advanced t Collector h k = record {
+-- other positions in the rings that it takes from
+held_places : (t : TracerView) (at : ℕ) (ghosts : List ℕ) → IsHeld t → at < t.shape.ring → length ghosts ≡ t.shape.servers → All (λ p. p < t.shape.ring) ghosts →
+    IsHeld (record t { work_at = at; ghost_at = ghosts })
+held_places t at ghosts h below count all = record {
   shape = h.shape;
   server = h.server;
   cycle = h.cycle;
@@ -153,29 +152,20 @@ held_advanced t Collector h k = record {
   outgoing = h.outgoing;
   windows_are = h.windows_are;
   windows = h.windows;
-  work_at = after_below t.shape.ring t.work_at h.work_at;
-  ghost_at_are = h.ghost_at_are;
-  ghost_at = h.ghost_at;
+  work_at = below;
+  ghost_at_are = count;
+  ghost_at = all;
   lives_are = h.lives_are;
 }
+
+held_advanced : (t : TracerView) (source : Source) → IsHeld t → SourceKnown t.shape source → IsHeld (advanced t source)
+held_advanced t Collector h k = held_places t (after_place t.shape.ring t.work_at) t.ghost_at h (after_below t.shape.ring t.work_at h.work_at) h.ghost_at_are h.ghost_at
 held_advanced t (Server a) h k =
     let l = h.ghost_at_are in
     let at : slice_index t.ghost_at a < t.shape.ring = All-get_or (λ p. p < t.shape.ring) t.ghost_at a 0 (omega arith) h.ghost_at in
     let next : ℕ = after_place t.shape.ring (slice_index t.ghost_at a) in
-    record {
-      shape = h.shape;
-      server = h.server;
-      cycle = h.cycle;
-      stack = h.stack;
-      scan = h.scan;
-      outgoing = h.outgoing;
-      windows_are = h.windows_are;
-      windows = h.windows;
-      work_at = h.work_at;
-      ghost_at_are = length-set t.ghost_at a next ∙ h.ghost_at_are;
-      ghost_at = All-set (λ p. p < t.shape.ring) t.ghost_at a next (after_below t.shape.ring (slice_index t.ghost_at a) at) h.ghost_at;
-      lives_are = h.lives_are;
-    }
+    held_places t t.work_at (slice_set t.ghost_at a next) h h.work_at (length-set t.ghost_at a next ∙ h.ghost_at_are)
+    (All-set (λ p. p < t.shape.ring) t.ghost_at a next (after_below t.shape.ring (slice_index t.ghost_at a) at) h.ghost_at)
 
 -- ---- where parts begin
 work_known : (t : TracerView) (o : Option Name) (s : Option Scan) → t.outgoing ≡ o → t.scan ≡ s → IsHeld t → IsKnown (work_on t o s)
@@ -192,19 +182,6 @@ work_known t None None eo es h =
 
 pub next_work_known : (t : TracerView) → IsHeld t → IsKnown (next_work t)
 next_work_known t h = work_known t t.outgoing t.scan refl refl h
-
--- the window that is found is open
-found_window : (first : ℕ) (ws : List Window) (k : ℕ) → position is_open (drop first ws) ≡ Some k
-    → (first + k < length ws) × ((slice_index_or ws (first + k) no_window).tail < (slice_index_or ws (first + k) no_window).head)
-found_window first ws k e =
-    let f = position-Some is_open (drop first ws) k no_window e in
-    let l : length (drop first ws) ≡ length ws - first = length-drop first ws in
-    let w : get_or (drop first ws) k no_window ≡ get_or ws (first + k) no_window = get_or-drop first ws k no_window in
-    let is : is_open (get_or ws (first + k) no_window) ≡ true = ap is_open (sym w) ∙ f.1 in
-    (let h = f.0 in omega arith, open_is (get_or ws (first + k) no_window) is)
-  where
-    open_is : (w : Window) → is_open w ≡ true → w.tail < w.head
-    open_is w e = grind (arith, nat_tests)
 
 past_windows_known : (t : TracerView) (first : ℕ) (o : Option ℕ) → position is_open (drop first t.windows) ≡ o → IsHeld t → IsKnown (past_windows t first o)
 past_windows_known t first (Some k) e h =
