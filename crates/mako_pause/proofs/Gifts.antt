@@ -1,40 +1,34 @@
 -- Each chosen tablet gets a spare region of its server.
-use Rattle.std.proofs.Common.{◌≡◌, ◌≢◌, ℕ, ◌+◌, ◌*◌, ◌/◌, ◌<◌, ◌≤◌, ◌==◌, Bool, true, false, nat_lt, if◌then◌else◌, Option, Some, None, List, [], ◌∷◌, ◌++◌, length, map, position, get_or, set, take, sum_by, ⊎_elim, refl, sym, subst, ap, ◌∙◌, arith}
+use Rattle.std.proofs.Common.{◌≡◌, ◌≢◌, ℕ, ◌+◌, ◌*◌, ◌/◌, ◌<◌, ◌≤◌, true, Option, Some, None, List, [], ◌∷◌, ◌++◌, length, map, position, get_or, set, take, sum_by, ⊎_elim, refl, sym, subst, ap, ◌∙◌, arith}
 use Rattle.std.specs.List.{All}
 use Rattle.std.proofs.lemmas.Bool.{cases_eq, eq-eqb, ne_eqb}
-use Rattle.std.proofs.lemmas.List.{length-append, length_push, take_more, take_all}
+use Rattle.std.proofs.lemmas.List.{length_push, take_more, take_all}
 use Rattle.std.proofs.lemmas.List.Elements.{All-nil, All-append, All-map, All-head, All-tail}
 use Rattle.std.proofs.lemmas.List.Sums.{sum_by-cons, sum_by-append, sum_by_more, sum_by-take-le}
 use Rattle.std.proofs.lemmas.Nat.{div-mul-add}
 use Rattle.mako_words.specs.Gates.{count_of}
-use Rattle.mako_words.specs.Names.{name_at}
 use Rattle.mako_words.specs.Notices.{notice_at}
-use Rattle.mako_words.specs.Values.{value_at}
 use Rattle.mako_words.specs.declared.name.Name.{Name}
 use Rattle.mako_words.specs.declared.notice_word.NoticeWord.{NoticeWord}
 use Rattle.mako_words.specs.declared.notice_word.NoticeWord.TheVariants.{Freed, Done}
-use Rattle.mako_shape.specs.Belongings.{server_of_tablet, server_of_region, opening_home}
+use Rattle.mako_shape.specs.Belongings.{server_of_tablet, server_of_region}
 use Rattle.mako_shape.specs.Limits.{IsShape}
 use Rattle.mako_shape.specs.declared.numbers.Numbers.{Numbers}
 use Rattle.mako_shape.proofs.BelongingLaws.{belongings_in_range}
-use Rattle.mako_step.specs.Machines.{IsAct}
 use Rattle.mako_step.specs.Trails.{Observation}
 use Rattle.mako_step.proofs.Along.{along}
 use Rattle.mako_step.proofs.Cases.{when_lt, when_eq, when_test}
 use Rattle.mako_ring.specs.Contents.{after_place}
 use Rattle.mako_ring.specs.Tracing.{owner, is_open}
-use Rattle.mako_ring.specs.Windows.{tail_up, head_up, found_room}
+use Rattle.mako_ring.specs.Windows.{tail_up, head_up}
 use Rattle.mako_poll.specs.Polls as polls
 use Rattle.mako_poll.specs.declared.poller.PollStage.{PollStage}
 use Rattle.mako_poll.specs.declared.poller.PollStage.TheVariants.{Asking, Reading, Ended as Polled}
 use Rattle.mako_poll.specs.declared.poller.Polled.TheVariants.{Told, NotYet}
-use Rattle.mako_script.specs.Scripts.{ScriptView}
 use Rattle.mako_pause.specs.Choices.{choice}
-use Rattle.mako_pause.specs.Collecting.{Holdings, Collecting as Machine, at, running, window_of, set_window, forward_from, empty_from, barriers_from, told, polled_at, paused, gifts_from, spare_for, gift_of, names_of, chosen_tablet, server_chosen, servers_from, after_tablet, after_root, noticed, finish, idle_fed, pause_fed, forward_fed, barrier_fed, empty_fed, poll_fed, choice_fed, notice_fed, stage_fed, StageFits}
-use Rattle.mako_pause.specs.Opening.{opening}
+use Rattle.mako_pause.specs.Collecting.{Holdings, Collecting as Machine, window_of, set_window, forward_from, empty_from, barriers_from, told, polled_at, paused, gifts_from, gift_of, chosen_tablet, server_chosen, after_tablet, noticed, idle_fed, pause_fed, forward_fed, barrier_fed, empty_fed, choice_fed, notice_fed, stage_fed}
 use Rattle.mako_pause.specs.Regions.{is_spare}
-use Rattle.mako_pause.specs.Housing.{Housed, moved, homes_after, given_after, choice_homes, choice_given, notice_given, FindsHome, ChoiceFinds, housed_next, HousedFits, housed_fed, housed_opening, AreHomes, IsFreeFor, ChoiceGives, StageGives, CollectorsGive}
-use Rattle.mako_pause.specs.declared.chooser.Used.{Used}
+use Rattle.mako_pause.specs.Housing.{Housed, homes_after, given_after, choice_homes, choice_given, notice_given, FindsHome, ChoiceFinds, housed_next, HousedFits, housed_fed, housed_opening, AreHomes, IsFreeFor, ChoiceGives, StageGives, CollectorsGive}
 use Rattle.mako_pause.specs.declared.regions.Role.{Role}
 use Rattle.mako_pause.specs.declared.regions.Role.TheVariants.{Home}
 use Rattle.mako_pause.specs.declared.stage.Gift.{Gift}

@@ -12,7 +12,7 @@ use Rattle.mako_words.specs.declared.notice_word.NoticeWord.{NoticeWord}
 use Rattle.mako_words.specs.declared.notice_word.NoticeWord.TheVariants.{Freed, Done}
 use Rattle.mako_shape.specs.Limits.{IsShape}
 use Rattle.mako_shape.proofs.BelongingLaws.{belongings_in_range}
-use Rattle.mako_ring.specs.Tracing.{owner, no_window, is_open, IsNamed}
+use Rattle.mako_ring.specs.Tracing.{owner, no_window, is_open}
 use Rattle.mako_ring.specs.Windows.{IsWindow, found_room, tail_up, head_up}
 use Rattle.mako_ring.specs.declared.window.Window.{Window}
 use Rattle.mako_ring.proofs.Found.{owner_in_range}

@@ -1,9 +1,9 @@
 -- What the collector's trail shows is kept by each step.
-use Rattle.std.proofs.Common.{◌≡◌, ◌≢◌, ℕ, ◌+◌, ◌*◌, ◌%◌, ◌<◌, ◌≤◌, ◌==◌, Bool, true, false, nat_lt, if◌then◌else◌, Option, Some, None, List, [], ◌∷◌, ◌++◌, length, map, position, get_or, set, append_assoc, append-nil, refl, sym, subst, ap, ◌∙◌, arith}
+use Rattle.std.proofs.Common.{◌≡◌, ℕ, ◌+◌, ◌*◌, ◌%◌, ◌<◌, Bool, true, false, if◌then◌else◌, Option, Some, None, List, [], ◌∷◌, ◌++◌, length, position, get_or, set, append_assoc, append-nil, refl, sym, subst, ap, ◌∙◌, arith}
 use Rattle.std.proofs.lemmas.List.{length_push}
 use Rattle.std.proofs.lemmas.List.Concat.{flat_map-append}
 use Rattle.mako_words.specs.Gates.{count_of}
-use Rattle.mako_words.specs.Names.{name_at, name_word}
+use Rattle.mako_words.specs.Names.{name_word}
 use Rattle.mako_words.specs.Notices.{notice_at}
 use Rattle.mako_words.specs.Phases.{phase_word}
 use Rattle.mako_words.specs.Values.{value_at}
@@ -11,7 +11,6 @@ use Rattle.mako_words.specs.declared.name.Name.{Name}
 use Rattle.mako_words.specs.declared.notice_word.NoticeWord.{NoticeWord}
 use Rattle.mako_words.specs.declared.notice_word.NoticeWord.TheVariants.{Freed, Done}
 use Rattle.mako_words.specs.declared.phase_word.PhaseWord.TheVariants.{Idle as IdlePhase, Trace, Evac, Stop}
-use Rattle.mako_shape.specs.Limits.{IsShape}
 use Rattle.mako_shape.specs.Places.{index, phase, demand, finished, mutator_gate, root, barrier, work, notice, home, top, leaving, live}
 use Rattle.mako_shape.specs.declared.numbers.Numbers.{Numbers}
 use Rattle.mako_step.specs.Machines.{IsAct}
@@ -20,27 +19,24 @@ use Rattle.mako_step.specs.Trails.Goes.{stays as none, steps}
 use Rattle.mako_step.specs.declared.act.Act.{Act}
 use Rattle.mako_step.specs.declared.act.Op.TheVariants.{Load, Store}
 use Rattle.mako_step.specs.declared.step.Step.{Step}
-use Rattle.mako_step.specs.declared.step.Step.TheVariants.{Do}
 use Rattle.mako_step.proofs.Along.{did, do_did, is_act, along}
-use Rattle.mako_step.proofs.Cases.{by_bool, when_lt, when_eq}
+use Rattle.mako_step.proofs.Cases.{when_lt, when_eq}
 use Rattle.mako_ring.specs.Contents.{after_place}
 use Rattle.mako_ring.specs.Tracing.{owner, is_open}
-use Rattle.mako_ring.specs.Windows.{tail_up, head_up, found_room}
+use Rattle.mako_ring.specs.Windows.{tail_up, head_up}
 use Rattle.mako_poll.specs.Polls as polls
-use Rattle.mako_poll.specs.Polls.{PollView, FoundZero}
+use Rattle.mako_poll.specs.Polls.{FoundZero}
 use Rattle.mako_poll.specs.declared.poller.PollStage.{PollStage}
 use Rattle.mako_poll.specs.declared.poller.PollStage.TheVariants.{Asking, Reading, Ended as Polled}
 use Rattle.mako_poll.specs.declared.poller.Polled.TheVariants.{Told as CompletionTold, NotYet}
-use Rattle.mako_script.specs.Scripts.{ScriptView}
-use Rattle.mako_pause.specs.Collecting.{Holdings, Collecting as Machine, at, running, window_of, set_window, head_slot, forward_from, empty_from, barriers_from, told, polled_at, paused, gifts_from, spare_for, gift_of, names_of, chosen_tablet, server_chosen, servers_from, after_tablet, after_root, live_words, noticed, finish, idle_next, pause_next, forward_next, barrier_next, choice_next, notice_next, stage_next, next_of, idle_fed, pause_fed, forward_fed, barrier_fed, empty_fed, poll_fed, choice_fed, notice_fed, stage_fed, fed, Fits, StageFits}
+use Rattle.mako_pause.specs.Collecting.{Holdings, at, running, window_of, set_window, head_slot, forward_from, empty_from, barriers_from, told, polled_at, paused, gifts_from, spare_for, gift_of, names_of, chosen_tablet, server_chosen, after_tablet, noticed, idle_next, pause_next, forward_next, barrier_next, choice_next, notice_next, stage_next, next_of, idle_fed, pause_fed, forward_fed, barrier_fed, empty_fed, poll_fed, choice_fed, notice_fed, stage_fed, fed, Fits, StageFits}
 use Rattle.mako_pause.specs.Opening.{opening}
-use Rattle.mako_pause.specs.Phasing.{left_in, phase_left, phase_paused, phase_of, choice_phase}
-use Rattle.mako_pause.specs.Gating.{IsShut, IsDrained, IsOpen, EachBelow, shuts, opens, at_gate}
-use Rattle.mako_pause.specs.Telling.{Told, ToldOpen, ToldTwice}
+use Rattle.mako_pause.specs.Phasing.{left_in, phase_left, phase_paused}
+use Rattle.mako_pause.specs.Gating.{IsDrained, IsOpen, EachBelow, shuts, opens, at_gate}
+use Rattle.mako_pause.specs.Telling.{ToldTwice}
 use Rattle.mako_pause.specs.Hearing.{Hears, joined, at_notice}
 use Rattle.mako_pause.specs.Hearing.Hears.{begins, waits, frees, ends}
-use Rattle.mako_pause.specs.Moments.{Rests, PauseBegan, PauseShown, Round, PollShown, ChoiceShown, Heard, Found, NoticeShown, StageShown, Moment, CollectorsGo}
-use Rattle.mako_pause.specs.declared.stage.Gift.{Gift}
+use Rattle.mako_pause.specs.Moments.{Rests, PauseBegan, Round, PollShown, Found, Moment, CollectorsGo}
 use Rattle.mako_pause.specs.declared.stage.Pause.{Pause}
 use Rattle.mako_pause.specs.declared.stage.Pause.TheVariants.{Snapshot, Choice}
 use Rattle.mako_pause.specs.declared.stage.IdleStage.{IdleStage}
@@ -57,7 +53,7 @@ use Rattle.mako_pause.specs.declared.stage.NoticeStage.{NoticeStage}
 use Rattle.mako_pause.specs.declared.stage.NoticeStage.TheVariants.{Looking as NoticeLook, Clearing as NoticeClear, StoringIdle}
 use Rattle.mako_pause.specs.declared.stage.CollectStage.{CollectStage}
 use Rattle.mako_pause.specs.declared.stage.CollectStage.TheVariants.{Idle, Pausing, Forwarding, Barriers, Emptying, Polling, Choosing, Noticing, Ended}
-use Rattle.mako_pause.proofs.Standing.{sees, left_other, left_stored, elsewhere, shut_is_no_opening, opening_is_no_shut, IsPlain, plain_load, plain_store, plain_poll, shut_on, drained_on, open_on, shut_more, drained_more, open_more, told_on}
+use Rattle.mako_pause.proofs.Standing.{sees, left_other, left_stored, elsewhere, IsPlain, plain_load, plain_store, plain_poll, shut_on, drained_on, open_on, shut_more, drained_more, open_more, told_on}
 use Rattle.mako_poll.proofs.Answering.{polls_answer}
 
 -- the trail with what the step finds

@@ -1,6 +1,6 @@
 -- How many regions of each server are spare.
-use Rattle.std.proofs.Common.{◌≡◌, ◌≢◌, ℕ, zero, suc, ◌+◌, ◌-◌, ◌*◌, ◌/◌, ◌%◌, ◌<◌, ◌≤◌, ◌==◌, Bool, true, false, cond, nat_lt, nat_le, Option, Some, None, List, [], ◌∷◌, ◌++◌, length, get_or, set, take, drop, slice_range, sum_by, ⊎_elim, refl, sym, ap, subst, ◌∙◌, arith}
-use Rattle.std.specs.List.{position, position_or_len}
+use Rattle.std.proofs.Common.{◌≡◌, ◌≢◌, ℕ, zero, suc, ◌+◌, ◌-◌, ◌*◌, ◌/◌, ◌%◌, ◌<◌, ◌≤◌, ◌==◌, Bool, true, false, cond, nat_lt, nat_le, Some, None, List, [], ◌∷◌, ◌++◌, length, get_or, set, take, drop, slice_range, sum_by, ⊎_elim, refl, sym, ap, subst, ◌∙◌, arith}
+use Rattle.std.specs.List.{position_or_len}
 use Rattle.std.proofs.Math.Nat.{mod-lt}
 use Rattle.std.proofs.lemmas.Bool.{cases_lt, cases_eq, lt-ltb, le-ltb, eq-eqb, ne_eqb}
 use Rattle.std.proofs.lemmas.Bool.Decides.{nat_tests}
@@ -10,7 +10,7 @@ use Rattle.std.proofs.lemmas.List.Sums.{sum_by_push, fails_before_first, passes_
 use Rattle.mako_shape.specs.Belongings.{server_of_tablet, server_of_region, opening_home}
 use Rattle.mako_shape.specs.Limits.{IsShape}
 use Rattle.mako_shape.specs.declared.numbers.Numbers.{Numbers}
-use Rattle.mako_shape.proofs.BelongingLaws.{belongings_in_range, home_in_range, home_server, one_home}
+use Rattle.mako_shape.proofs.BelongingLaws.{home_in_range, home_server, one_home}
 use Rattle.mako_pause.specs.Housing.{AreHomes, IsFreeFor, moved}
 use Rattle.mako_pause.specs.Opening.{opening_role, opening_roles}
 use Rattle.mako_pause.specs.Regions.{is_spare, behind, spare_between}

@@ -1,6 +1,5 @@
 -- What the collector's trail shows stays as the trail grows.
-use Rattle.std.proofs.Common.{◌≡◌, ◌≢◌, ℕ, ◌+◌, ◌<◌, ◌≤◌, ◌==◌, Bool, true, false, cond, List, [], ◌∷◌, ◌++◌, append_assoc, refl, sym, ap, ◌∙◌, below_more, arith}
-use Rattle.std.specs.List.{All}
+use Rattle.std.proofs.Common.{◌≡◌, ◌≢◌, ℕ, ◌+◌, ◌<◌, ◌==◌, Bool, cond, List, [], ◌∷◌, ◌++◌, append_assoc, refl, ap, ◌∙◌, below_more, arith}
 use Rattle.std.proofs.lemmas.Bool.{eq-eqb, ne_eqb}
 use Rattle.std.proofs.lemmas.List.Elements.{All-push, All-nil}
 use Rattle.mako_words.specs.Gates.{count_of}
@@ -10,7 +9,6 @@ use Rattle.mako_shape.specs.declared.numbers.Numbers.{Numbers}
 use Rattle.mako_shape.specs.Places.{Place, rank, index, phase, mutator_gate, flags}
 use Rattle.mako_step.specs.Acts.{after_op}
 use Rattle.mako_step.specs.declared.act.Act.{Act}
-use Rattle.mako_step.specs.declared.act.Op.{Op}
 use Rattle.mako_step.specs.declared.act.Op.TheVariants.{Load, Store, Or, And}
 use Rattle.mako_step.specs.Machines.{IsAct}
 use Rattle.mako_step.specs.Trails.{Observation}
@@ -19,9 +17,9 @@ use Rattle.mako_ring.specs.FlagBits.{changed_bit}
 use Rattle.mako_poll.specs.Polls as polls
 use Rattle.mako_poll.specs.declared.poller.PollStage.{PollStage}
 use Rattle.mako_poll.specs.declared.poller.PollStage.TheVariants.{Asking, Reading, Ended as Polled}
-use Rattle.mako_pause.specs.Phasing.{left_in, phase_left}
+use Rattle.mako_pause.specs.Phasing.{left_in}
 use Rattle.mako_pause.specs.Gating.{Stands, shuts, opens, at_gate, IsShut, IsDrained, IsOpen, EachBelow}
-use Rattle.mako_pause.specs.Telling.{Told, ToldOpen, ToldTwice}
+use Rattle.mako_pause.specs.Telling.{Told}
 
 -- an act with the word that it found
 abbrev pub sees : Act → ℕ → Observation

@@ -1,5 +1,5 @@
 -- The collector beside the home words, which it alone stores: each tablet that it chooses gets a spare region.
-use Rattle.std.specs.Prelude.{◌≡◌, ◌≢◌, ℕ, ◌+◌, ◌*◌, ◌<◌, ◌==◌, if◌then◌else◌, Some, List, [], ◌∷◌, ◌++◌, length, take}
+use Rattle.std.specs.Prelude.{◌≡◌, ◌≢◌, ℕ, ◌+◌, ◌*◌, ◌<◌, ◌==◌, if◌then◌else◌, Some, List, [], ◌∷◌, ◌++◌, take}
 use Rattle.mako_shape.specs.Belongings.{server_of_tablet, server_of_region, opening_home}
 use Rattle.mako_shape.specs.Limits.{IsShape}
 use Rattle.mako_shape.specs.declared.numbers.Numbers.{Numbers}
@@ -8,13 +8,12 @@ use Rattle.mako_step.specs.declared.step.Step.{Step}
 use Rattle.mako_script.specs.Scripts.{ScriptView}
 use Rattle.mako_pause.specs.Collecting.{Holdings, Collecting, chosen_tablet, spare_for, next_of, Fits, fed}
 use Rattle.mako_pause.specs.Opening.{opening}
-use Rattle.mako_pause.specs.declared.stage.Gift.{Gift}
 use Rattle.mako_pause.specs.declared.stage.ChoiceStage.{ChoiceStage}
-use Rattle.mako_pause.specs.declared.stage.ChoiceStage.TheVariants.{LoadingLive, LoadingTop, LoadingHome, StoringLeaving, StoringHome, StoringTop, StoringEvac, Opening as Reopening}
+use Rattle.mako_pause.specs.declared.stage.ChoiceStage.TheVariants.{LoadingHome, StoringLeaving, StoringHome, StoringTop, StoringEvac}
 use Rattle.mako_pause.specs.declared.stage.NoticeStage.{NoticeStage}
 use Rattle.mako_pause.specs.declared.stage.NoticeStage.TheVariants.{Looking as NoticeLook, Clearing as NoticeClear, StoringIdle}
 use Rattle.mako_pause.specs.declared.stage.CollectStage.{CollectStage}
-use Rattle.mako_pause.specs.declared.stage.CollectStage.TheVariants.{Idle, Pausing, Forwarding, Barriers, Emptying, Polling, Choosing, Noticing, Ended}
+use Rattle.mako_pause.specs.declared.stage.CollectStage.TheVariants.{Choosing, Noticing}
 
 -- the home of each tablet, and the tablets that got a region in this cycle
 pub record Housed : Type 0 where

@@ -22,7 +22,7 @@ use Rattle.mako_pause.specs.declared.stage.Pause.TheVariants.{Snapshot, Choice}
 use Rattle.mako_pause.specs.declared.stage.PauseStage.{PauseStage}
 use Rattle.mako_pause.specs.declared.stage.PauseStage.TheVariants.{Shutting, Draining, LoadingRoot, StoringTrace, Opening}
 use Rattle.mako_pause.specs.declared.stage.ChoiceStage.{ChoiceStage}
-use Rattle.mako_pause.specs.declared.stage.ChoiceStage.TheVariants.{LoadingLive, LoadingTop, LoadingHome, StoringLeaving, StoringHome, StoringTop, StoringEvac, Opening as Reopening}
+use Rattle.mako_pause.specs.declared.stage.ChoiceStage.TheVariants.{Opening as Reopening}
 use Rattle.mako_pause.specs.declared.stage.NoticeStage.{NoticeStage}
 use Rattle.mako_pause.specs.declared.stage.NoticeStage.TheVariants.{Looking as NoticeLook, Clearing as NoticeClear, StoringIdle}
 use Rattle.mako_pause.specs.declared.stage.CollectStage.{CollectStage}
