@@ -1,10 +1,8 @@
 -- A step of a server's tracing keeps its numbers in their ranges.
-use Rattle.std.proofs.Common.{◌≡◌, ℕ, ◌+◌, ◌-◌, ◌*◌, ◌<◌, ◌≤◌, ◌==◌, ◌&&◌, inl, inr, if◌then◌else◌, Bool, true, false, Option, Some, None, is_none, List, ◌∷◌, [], ◌++◌, length, take, drop, slice_index, slice_index_or, slice_set, get_or, replicate, ap, sym, subst, refl, ◌∙◌, arith, length-set, vec_capacity}
+use Rattle.std.proofs.Common.{◌≡◌, ℕ, ◌+◌, ◌-◌, ◌*◌, ◌<◌, ◌≤◌, ◌==◌, ◌&&◌, inl, inr, if◌then◌else◌, Bool, true, false, Option, Some, None, is_none, List, ◌∷◌, [], ◌++◌, length, take, drop, slice_index, slice_set, get_or, replicate, sym, subst, refl, ◌∙◌, arith, length-set, vec_capacity}
 use Rattle.std.specs.List.{All, position}
-use Rattle.std.proofs.lemmas.Bool.Decides.{nat_tests}
-use Rattle.std.proofs.lemmas.List.{get_or-set_same, get_or-drop, length-drop, length-replicate}
+use Rattle.std.proofs.lemmas.List.{get_or-set_same, length-replicate}
 use Rattle.std.proofs.lemmas.List.Elements.{All-get_or, All-set, All-take, All-push}
-use Rattle.std.proofs.lemmas.List.Quantifiers.{position-Some}
 use Rattle.mako_words.specs.Entries.{entry_at, FitsEntry}
 use Rattle.mako_words.specs.Names.{name_at}
 use Rattle.mako_words.specs.Values.{value_at, FitsValue}
@@ -12,10 +10,8 @@ use Rattle.mako_words.specs.declared.name.Name.{Name}
 use Rattle.mako_words.specs.declared.value.Value.{Value}
 use Rattle.mako_words.specs.declared.value.Value.TheVariants.{Null, Num, Ref}
 use Rattle.mako_shape.specs.declared.numbers.Numbers.{Numbers}
-use Rattle.mako_shape.specs.Belongings.{tablet_of_entry}
 use Rattle.mako_shape.specs.Limits.{all_entries}
 use Rattle.mako_shape.specs.Places.{total}
-use Rattle.mako_shape.proofs.BelongingLaws.{belongings_in_range}
 use Rattle.mako_step.proofs.Cases.{when_eq, when_lt, when_test}
 use Rattle.mako_ring.specs.Contents.{after_place}
 use Rattle.mako_ring.specs.Tracing.{TracerView, owner, no_window, window_of, set_window, own_tablet, live_of, is_open, at_stage, work_on, next_work, past_windows, windows_from, rest, past_rings, rings_from, after_source, advanced, scan_of, behind_field, field_found, send_fed, scan_fed, receive_fed, mark_fed, rest_fed, stage_fed, fed, begun, IsNamed, FieldFits, ScanFits, ReceiveFits, MarkFits, StageFits, Fits}
