@@ -4,7 +4,6 @@ use Rattle.mako_words.specs.Entries.{entry_at}
 use Rattle.mako_words.specs.Gates.{IsPackedGate}
 use Rattle.mako_words.specs.Words.{all_but}
 use Rattle.mako_words.specs.declared.entry_word.EntryWord.{EntryWord}
-use Rattle.mako_shape.specs.declared.numbers.Numbers.{Numbers}
 use Rattle.mako_shape.specs.Places.{index, leaving, tablet_gate, home, entry}
 use Rattle.mako_shape.specs.Belongings.{IsAddress}
 use Rattle.mako_step.specs.Acts.{does}
@@ -16,7 +15,6 @@ use Rattle.mako_gate.specs.Bits.{shut_bit}
 use Rattle.mako_gate.specs.Shutting.{is_counting}
 use Rattle.mako_record.specs.Copying as copying
 use Rattle.mako_record.specs.Copying.{Copying as Copy, opening_copy}
-use Rattle.mako_record.specs.declared.copier.CopyStage.TheVariants.{LoadingTop}
 use Rattle.mako_evac.specs.declared.owner.Owner.{Owner}
 use Rattle.mako_evac.specs.declared.stage.EvacStage.{EvacStage}
 use Rattle.mako_evac.specs.declared.stage.EvacStage.TheVariants.{Evacuating}
