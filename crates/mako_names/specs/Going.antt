@@ -1,0 +1,46 @@
+-- The same with what each view has of the freed names: how far a server has gone, what is sent, and what the collector has got.
+use Rattle.std.specs.Prelude.{◌≡◌, ℕ, List, map}
+use Rattle.mako_words.specs.declared.name.Name.{Name}
+use Rattle.mako_words.specs.declared.phase_word.PhaseWord.{PhaseWord}
+use Rattle.mako_words.specs.declared.phase_word.PhaseWord.TheVariants.{Idle, Trace, Evac, Stop}
+use Rattle.mako_shape.specs.declared.numbers.Numbers.{Numbers}
+use Rattle.mako_model.specs.declared.call.Call.{Call}
+use Rattle.mako_model.specs.Fronts.{Seen}
+use Rattle.mako_model.specs.Legal.{Facts}
+use Rattle.mako_names.specs.Freeing.{Freeing}
+use Rattle.mako_names.specs.Holding.{NameFacets, NamesHold}
+use Rattle.mako_names.specs.Notices.{Gathering, NoticesStand}
+use Rattle.mako_names.specs.Tables.{phase_of}
+use Rattle.mako_names.specs.Trying.{Trying}
+
+-- What is read of the machines: by seat the names still to be used; by mutator its last attempt and the calls that are
+-- left; by server how many entries it has gone over in the present cycle; by server the names in its notice ring and the
+-- one on its way there; and the collector's list with the server that it reads.
+pub record Facets : Type 0 where
+  pub held : List (List Name)
+  pub trying : List Trying
+  pub left : List (List Call)
+  pub through : List ℕ
+  pub sent : List (List Name)
+  pub collector : Gathering
+
+-- the facets with the names that each server has freed
+abbrev pub with_freed : Facets → List Freeing → NameFacets
+with_freed facets freed = record { held = facets.held; trying = facets.trying; left = facets.left; freeing = freed }
+
+-- what each server has freed is what was sent and got of it
+pub record GatheringStands (freed : List Freeing) (through : List ℕ) (sent : List (List Name)) (collector : Gathering) : Type 0 where
+  pub bounds : through ≡ map (λ (f : Freeing). f.through) freed
+  pub notices : NoticesStand freed sent collector
+
+abbrev pub GatheringFits : PhaseWord → List Freeing → List ℕ → List (List Name) → Gathering → Type 0
+GatheringFits (Idle c) freed through sent collector = Unit {0}
+GatheringFits (Trace c) freed through sent collector = GatheringStands freed through sent collector
+GatheringFits (Evac c) freed through sent collector = GatheringStands freed through sent collector
+GatheringFits (Stop c) freed through sent collector = Unit {0}
+
+-- there are the lists of freed names, which no view has whole, with which all holds
+pub record NamesGo (n : Numbers) (w : Facts) (ws : List ℕ) (front : Seen) (facets : Facets) : Type 0 where
+  pub freed : List Freeing
+  pub hold : NamesHold n w ws front (with_freed facets freed)
+  pub gathering : GatheringFits (phase_of n ws) freed facets.through facets.sent facets.collector

@@ -1,0 +1,41 @@
+-- All that ties the table's entries and the names in use to the front.
+use Rattle.std.specs.Prelude.{◌≡◌, ℕ, List, ◌++◌, length, slice_get, Some}
+use Rattle.mako_words.specs.declared.name.Name.{Name}
+use Rattle.mako_shape.specs.declared.numbers.Numbers.{Numbers}
+use Rattle.mako_shape.specs.Places.{total}
+use Rattle.mako_model.specs.declared.call.Call.{Call}
+use Rattle.mako_model.specs.declared.point.Point.{Point}
+use Rattle.mako_model.specs.Fronts.{Seen, calls_by}
+use Rattle.mako_model.specs.Legal.{Facts}
+use Rattle.mako_model.specs.Answering.{Answers}
+use Rattle.mako_names.specs.Freeing.{Freeing, FreeingFits, EpochsFit}
+use Rattle.mako_names.specs.Tables.{TableStands, phase_of}
+use Rattle.mako_names.specs.Trying.{Trying, AllTrying}
+use Rattle.mako_names.specs.Uses.{UsesStand}
+
+-- what is left of the mutator's program after its answered calls
+abbrev pub IsLeft : Facts → List Point → ℕ → List Call → Type 0
+IsLeft w history m left = (program : List Call) → slice_get w.programs m ≡ Some program → program ≡ calls_by m history ++ left
+
+-- of each program the calls that are left are those that are not answered yet
+abbrev pub AllLeft : Facts → List Point → List (List Call) → Type 0
+AllLeft w history facets = (m : ℕ) (left : List Call) → slice_get facets m ≡ Some left → IsLeft w history m left
+
+-- what is read of the machines: for each seat the names that it has still to use, for each mutator its last
+-- attempt, and for each server what it has freed
+pub record NameFacets : Type 0 where
+  pub held : List (List Name)
+  pub trying : List Trying
+  pub left : List (List Call)
+  pub freeing : List Freeing
+
+-- the names, the entries and the front fit, and the front answers the script
+pub record NamesHold (n : Numbers) (w : Facts) (ws : List ℕ) (front : Seen) (facets : NameFacets) : Type 0 where
+  pub size : length ws ≡ total n
+  pub answers : Answers w front
+  pub table : TableStands n ws w front
+  pub uses : UsesStand n ws w front.history facets.held
+  pub trying : AllTrying w front facets.trying
+  pub left : AllLeft w front.history facets.left
+  pub freeing : FreeingFits (phase_of n ws) n ws w front.history facets.freeing
+  pub epochs : EpochsFit (phase_of n ws) n ws w front.history

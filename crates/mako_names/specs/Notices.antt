@@ -1,0 +1,23 @@
+-- The names that the collector has got from the servers.
+use Rattle.std.specs.Prelude.{ℕ, zero, suc, ◌≡◌, ◌<◌, ◌≤◌, List, [], ◌∷◌, ◌++◌, length, slice_get, Some}
+use Rattle.mako_words.specs.declared.name.Name.{Name}
+use Rattle.mako_names.specs.Freeing.{Freeing}
+
+-- the collector's facet: the server whose notices it reads, and the names that it has got in the cycle
+pub record Gathering : Type 0 where
+  pub server : ℕ
+  pub names : List Name
+
+-- the names that the first servers have freed, in order
+abbrev pub names_before : ℕ → List Freeing → List Name
+names_before zero servers = []
+names_before (suc s) [] = []
+names_before (suc s) (f ∷ servers) = f.names ++ names_before s servers
+
+-- What the collector has got, and what is still sent to it: of each server the names in its notice ring, and the one
+-- that its view has still to put there.
+pub record NoticesStand (servers : List Freeing) (sent : List (List Name)) (collector : Gathering) : Type 0 where
+  pub size : length sent ≡ length servers
+  pub got : (names : List Name) → slice_get sent collector.server ≡ Some names → collector.names ++ names ≡ names_before (suc collector.server) servers
+  pub ahead : (s : ℕ) (f : Freeing) (names : List Name) → collector.server < s → slice_get servers s ≡ Some f → slice_get sent s ≡ Some names → names ≡ f.names
+  pub all : length servers ≤ collector.server → collector.names ≡ names_before collector.server servers

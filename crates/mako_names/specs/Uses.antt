@@ -1,0 +1,31 @@
+-- Names that may be used, and where names stand that are still to be used.
+use Rattle.std.specs.Prelude.{◌≡◌, ℕ, List, slice_get, Some}
+use Rattle.std.specs.List.{Contains}
+use Rattle.mako_words.specs.declared.name.Name.{Name}
+use Rattle.mako_words.specs.Names.{name_word, FitsName}
+use Rattle.mako_shape.specs.declared.numbers.Numbers.{Numbers}
+use Rattle.mako_shape.specs.Places.{Place, barrier, work, ghost, Within, word_at}
+use Rattle.mako_model.specs.declared.point.Point.{Point}
+use Rattle.mako_model.specs.Legal.{Facts, state_of}
+use Rattle.mako_model.specs.Dead.{names_made, IsDead}
+
+-- a name that was made and is not dead at the last snapshot
+pub record IsGood (w : Facts) (history : List Point) (name : Name) : Type 0 where
+  pub made : Contains (names_made history) name
+  pub kept : ¬ IsDead w history (state_of w history).snaps name
+
+-- a slot whose names are still to be used; notices may be of freed names
+abbrev pub IsUseSlot : Place → Type 0
+IsUseSlot (barrier m slot) = Unit {0}
+IsUseSlot (work s slot) = Unit {0}
+IsUseSlot (ghost sender receiver slot) = Unit {0}
+IsUseSlot p = ⊥
+
+-- each name in such a slot, and each that a seat's view has still to use, is good; the names of a view are its facet
+pub record UsesStand (n : Numbers) (ws : List ℕ) (w : Facts) (history : List Point) (views : List (List Name)) : Type 0 where
+  pub slots : (p : Place) (name : Name) → Within n p → IsUseSlot p → FitsName name → word_at n ws p ≡ name_word name → IsGood w history name
+  pub held : (seat : ℕ) (names : List Name) (name : Name) → slice_get views seat ≡ Some names → Contains names name → IsGood w history name
+
+-- the slots are as they were
+abbrev pub SameSlots : Numbers → List ℕ → List ℕ → Type 0
+SameSlots n ws us = (p : Place) → Within n p → IsUseSlot p → word_at n us p ≡ word_at n ws p
