@@ -13,7 +13,7 @@ use Rattle.mako_model.specs.declared.call.Call.TheVariants as call
 use Rattle.mako_model.specs.declared.reply.Reply.TheVariants as reply
 use Rattle.mako_model.specs.declared.point.Point.{Point}
 use Rattle.mako_model.specs.declared.point.Point.TheVariants.{Did, Snap}
-use Rattle.mako_model.specs.Fronts.{Seen, calls_by}
+use Rattle.mako_model.specs.Fronts.{Seen, calls_by, opening_front, with_point, with_cycle}
 use Rattle.mako_model.specs.Heaps.{Heap, board_name, fields_of}
 use Rattle.mako_model.specs.Legal.{state_of}
 use Rattle.mako_model.specs.Reachable.{StandsInField, LeadsTo, IsReachable}
@@ -22,7 +22,7 @@ use Rattle.mako_model.specs.LawfulFronts.{IsInRange}
 use Rattle.mako_model.specs.Answering.{Answers, AnswersToEnd}
 use Rattle.mako_model.proofs.Lists.{get_replicate}
 use Rattle.mako_model.proofs.Closed.{no_null_ref, same_ref}
-use Rattle.mako_model.proofs.Growth.{IsNext, with_point, with_cycle, answers_push, answers_finish, answers_opening, opening_front}
+use Rattle.mako_model.proofs.Growth.{IsNext, answers_push, answers_finish, answers_opening}
 use Rattle.mako_model.specs.Examples.{one, two, one_again, reusing, roomy, before_reuse_snap, reuse_history, reused_front, reused_too_soon}
 use Rattle.mako_model.proofs.Following.{same_reply, no_snap_did, in_none, plain_next, plain_full, made_next, made_full, follows, lost_at_snap}
 

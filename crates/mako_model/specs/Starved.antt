@@ -17,6 +17,12 @@ first_snap [] = None
 first_snap (Snap cycle ∷ points) = Some cycle
 first_snap (Did mutator call reply ∷ points) = first_snap points
 
+-- how many of the points are snapshots
+abbrev pub snaps_in : List Point → ℕ
+snaps_in [] = 0
+snaps_in (Snap cycle ∷ points) = snaps_in points + 1
+snaps_in (Did mutator call reply ∷ points) = snaps_in points
+
 -- a finished cycle, the first whose snapshot came since the mutator's last point
 pub record IsAwaited (front : Seen) (before : List Point) (mutator cycle : ℕ) : Type 0 where
   pub first : first_snap (since mutator before) ≡ Some cycle

@@ -5,13 +5,13 @@ use Rattle.mako_model.specs.declared.call.Call.{Call}
 use Rattle.mako_model.specs.declared.reply.Reply.TheVariants.{Made}
 use Rattle.mako_model.specs.declared.point.Point.{Point}
 use Rattle.mako_model.specs.declared.point.Point.TheVariants.{Did, Snap}
-use Rattle.mako_model.specs.Fronts.{Seen}
+use Rattle.mako_model.specs.Fronts.{Seen, with_point, with_cycle}
 use Rattle.mako_model.specs.Legal.{Facts, state_of, IsLegal}
 use Rattle.mako_model.specs.Dead.{names_made, IsDead}
 use Rattle.mako_model.specs.LawfulFronts.{IsLawfulFront}
 use Rattle.mako_model.proofs.Histories.{made_stays}
 use Rattle.mako_model.proofs.DeadApart.{dead_later}
-use Rattle.mako_model.proofs.Growth.{with_point, with_cycle, dead_stays, dead_was}
+use Rattle.mako_model.proofs.Growth.{dead_stays, dead_was}
 use Rattle.mako_names.specs.Counts.{name_of, made_of, NamesStand}
 use Rattle.mako_names.specs.Tables.{EntryStands}
 use Rattle.mako_names.proofs.Counts.{made_push, one_same}

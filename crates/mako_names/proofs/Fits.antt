@@ -13,11 +13,10 @@ use Rattle.mako_model.specs.declared.call.Call.{Call}
 use Rattle.mako_model.specs.declared.reply.Reply.{Reply}
 use Rattle.mako_model.specs.declared.point.Point.{Point}
 use Rattle.mako_model.specs.declared.point.Point.TheVariants.{Did, Snap}
-use Rattle.mako_model.specs.Fronts.{Seen}
+use Rattle.mako_model.specs.Fronts.{Seen, with_point, with_cycle}
 use Rattle.mako_model.specs.Legal.{Facts, IsLegal}
 use Rattle.mako_model.specs.Dead.{made_by, names_made, IsDead}
 use Rattle.mako_model.specs.LawfulFronts.{IsLawfulFront}
-use Rattle.mako_model.proofs.Growth.{with_point, with_cycle}
 use Rattle.mako_model.proofs.Lists.{get_set_cases}
 use Rattle.mako_names.specs.Counts.{name_of}
 use Rattle.mako_names.specs.Freeing.{Freeing, FreeingFits, IsMarked, EpochsStand, EpochsFit, TraceStands, since_snap}

@@ -21,12 +21,13 @@ use Rattle.mako_model.specs.declared.reply.Reply.{Reply}
 use Rattle.mako_model.specs.declared.reply.Reply.TheVariants as reply
 use Rattle.mako_model.specs.declared.point.Point.{Point}
 use Rattle.mako_model.specs.declared.point.Point.TheVariants.{Did, Snap}
-use Rattle.mako_model.specs.Fronts.{Seen}
+use Rattle.mako_model.specs.Fronts.{Seen, with_point, with_cycle, opening_front}
 use Rattle.mako_model.specs.Heaps.{board_name, root_of}
 use Rattle.mako_model.specs.Legal.{Facts, state_of, IsLegal}
 use Rattle.mako_model.specs.Dead.{made_by, IsDead, AreFreed}
 use Rattle.mako_model.specs.LawfulFronts.{IsInRange}
-use Rattle.mako_model.proofs.Growth.{IsNext, IsStarvedIfFull, with_point, with_cycle, answers_push, answers_finish, answers_opening, opening_front}
+use Rattle.mako_model.proofs.CycleCounts.{cycles_stay}
+use Rattle.mako_model.proofs.Growth.{IsNext, IsStarvedIfFull, answers_push, answers_finish, answers_opening}
 use Rattle.mako_model.proofs.Histories.{legal_push}
 use Rattle.mako_names.specs.Counts.{name_of, one_of}
 use Rattle.mako_names.specs.Tables.{IsWorkloadOf, published, EntryStands, TableStands, SameTable, entry_of, phase_of, settled_of, running_of}
@@ -34,17 +35,16 @@ use Rattle.mako_names.specs.Uses.{IsGood, IsUseSlot, SameSlots}
 use Rattle.mako_names.specs.Trying as trying
 use Rattle.mako_names.specs.Trying.{Trying, TryingStands}
 use Rattle.mako_names.specs.Freeing.{Freeing, IsFreedIn, own_entries, entry_by, FreeingStands, FreeingFits, IsMarked, EpochsStand, EpochsFit, AllMarked, since_snap}
-use Rattle.mako_names.specs.Holding.{NameFacets, NamesHold}
+use Rattle.mako_names.specs.Holding.{NameFacets, NamesHoldWith}
 use Rattle.mako_names.proofs.Counts.{names_in_order, made_opening}
 use Rattle.mako_names.proofs.Entries.{held_is_made, free_is_new, no_bool}
 use Rattle.mako_names.proofs.Fits.{same_history, freeing_fits, epochs_fit, freeing_fits_published, epochs_fit_stored, epochs_fit_touched, all_point, all_snap, all_finish, all_tries}
 use Rattle.mako_names.proofs.FreeingKinds.{same_dead, freeing_stays, freeing_snaps, freeing_passes, freeing_frees, freeing_done, freeing_lists, owned_within, has_server, passes_free, passes_good, made_marked, epochs_stay, epochs_store}
 use Rattle.mako_names.proofs.Good.{no_name, settled_begun}
 use Rattle.mako_names.proofs.Next.{publish_next, snap_next, not_full, snap_not_full, follows_push, follows_snap, all_left_point, all_left_snap}
-use Rattle.mako_names.proofs.Roots.{has_roots}
+use Rattle.mako_model.proofs.RootRows.{has_roots}
 use Rattle.mako_names.proofs.TableKinds.{table_stays, table_point, table_publishes, table_touches, table_snaps, table_evacuates, table_stops, table_frees, table_finishes}
 use Rattle.mako_names.proofs.TraceKinds.{young_push, trace_snaps, trace_stores, trace_ends, all_have_epoch}
-use Rattle.mako_names.proofs.TryingKinds.{cycles_stay}
 use Rattle.mako_names.proofs.UseKinds.{uses_point, uses_stay, uses_hold, uses_put, uses_snap, good_made}
 use Rattle.mako_names.proofs.Words.{entry_same, phase_same, entry_stored, entry_else, phase_else, phase_stored, entries_else, table_frame}
 
@@ -67,7 +67,7 @@ module _ (n : Numbers) (w : Facts) where
   -- ---- changes that are no points
 
   -- another word is stored
-  pub hold_stores : (ws us : List ℕ) (front : Seen) (facets : NameFacets) → length us ≡ total n → SameTable n ws us → SameSlots n ws us → NamesHold n w ws front facets → NamesHold n w us front facets
+  pub hold_stores : (ws us : List ℕ) (front : Seen) (facets : NameFacets) → length us ≡ total n → SameTable n ws us → SameSlots n ws us → NamesHoldWith n w ws front facets → NamesHoldWith n w us front facets
   hold_stores ws us front facets size same slots hold =
       let is = phase_same n ws us same.phase in
       let words : (x : ℕ) → x < all_entries n → entry_of n us x ≡ entry_of n ws x = λ x within. entry_same n ws us x (same.entries x within) in record {
@@ -85,7 +85,7 @@ module _ (n : Numbers) (w : Facts) where
 
   -- a seat has other names to use
   pub hold_holds : (ws : List ℕ) (front : Seen) (facets : NameFacets) (seat : ℕ) (names : List Name) → ((name : Name) → Contains names name → IsGood w front.history name)
-      → NamesHold n w ws front facets → NamesHold n w ws front (record facets { held = set facets.held seat names })
+      → NamesHoldWith n w ws front facets → NamesHoldWith n w ws front (record facets { held = set facets.held seat names })
   hold_holds ws front facets seat names good hold = record {
     size = hold.size;
     answers = hold.answers;
@@ -99,7 +99,7 @@ module _ (n : Numbers) (w : Facts) where
 
   -- a mutator goes on with its last attempt
   pub hold_tries : (ws : List ℕ) (front : Seen) (facets : NameFacets) (m : ℕ) (facet : Trying) → TryingStands w front m facet
-      → NamesHold n w ws front facets → NamesHold n w ws front (record facets { trying = set facets.trying m facet })
+      → NamesHoldWith n w ws front facets → NamesHoldWith n w ws front (record facets { trying = set facets.trying m facet })
   hold_tries ws front facets m facet stands hold = record {
     size = hold.size;
     answers = hold.answers;
@@ -113,7 +113,7 @@ module _ (n : Numbers) (w : Facts) where
 
   -- a slot is filled or emptied
   pub hold_puts : (ws : List ℕ) (front : Seen) (facets : NameFacets) (p : Place) (v : ℕ) → Within n p → rank p ≢ 0 → rank p ≢ 16 → ((name : Name) → FitsName name → v ≡ name_word name → IsGood w front.history name)
-      → NamesHold n w ws front facets → NamesHold n w (set ws (index n p) v) front facets
+      → NamesHoldWith n w ws front facets → NamesHoldWith n w (set ws (index n p) v) front facets
   hold_puts ws front facets p v within not_phase not_entry good hold =
       let us : List ℕ = set ws (index n p) v in
       let same = table_frame n ws p v within not_phase not_entry in
@@ -136,7 +136,7 @@ module _ (n : Numbers) (w : Facts) where
   -- a deciding point that makes no name; the words of the table and the slots are as they were
   pub hold_decides : (ws us : List ℕ) (front : Seen) (facets : NameFacets) (m : ℕ) (c : Call) (r : Reply) (left : List Call) → IsNext w front (Did m c r) → IsStarvedIfFull w front (Did m c r) → slice_get facets.left m ≡ Some (c ∷ left) → made_by (Did m c r) ≡ []
       → length us ≡ total n → SameTable n ws us → SameSlots n ws us
-      → NamesHold n w ws front facets → NamesHold n w us (with_point front (Did m c r)) (record facets { trying = set facets.trying m trying.Nothing; left = set facets.left m left })
+      → NamesHoldWith n w ws front facets → NamesHoldWith n w us (with_point front (Did m c r)) (record facets { trying = set facets.trying m trying.Nothing; left = set facets.left m left })
   hold_decides ws us front facets m c r left next full is_next none size same slots hold =
       let p : Point = Did m c r in
       let lawful = hold.answers.lawful in
@@ -161,8 +161,8 @@ module _ (n : Numbers) (w : Facts) where
   pub hold_publishes : (ws : List ℕ) (front : Seen) (facets : NameFacets) (m root fields x g address : ℕ) (left : List Call) → IsWorkloadOf n w → x < all_entries n → FitsEntry (published g (cycle_of (phase_of n ws)) address)
       → m < length w.programs → root < w.roots → slice_get facets.left m ≡ Some (call.New root fields ∷ left)
       → (entry_of n ws x).taken ≡ false → (entry_of n ws x).generation ≡ g → g < w.generations
-      → NamesHold n w ws front facets
-      → NamesHold n w (set ws (index n (entry x)) (entry_word (published g (cycle_of (phase_of n ws)) address))) (with_point front (Did m (call.New root fields) (reply.Made (name_of x g))))
+      → NamesHoldWith n w ws front facets
+      → NamesHoldWith n w (set ws (index n (entry x)) (entry_word (published g (cycle_of (phase_of n ws)) address))) (with_point front (Did m (call.New root fields) (reply.Made (name_of x g))))
       (record facets { held = set facets.held m (name_of x g ∷ []); trying = set facets.trying m trying.Nothing; left = set facets.left m left })
   hold_publishes ws front facets m root fields x g address left of_it within fits seat in_row is_next is_free generation low hold =
       let c : Call = call.New root fields in
@@ -212,7 +212,7 @@ module _ (n : Numbers) (w : Facts) where
       → ((p : Place) (name : Name) → Within n p → IsUseSlot p → FitsName name → word_at n ws p ≡ name_word name → ⊥)
       → ((seat : ℕ) (names : List Name) (name : Name) → slice_get facets.held seat ≡ Some names → Contains names name → (m : ℕ) × (q : ℕ) × (root_of (state_of w front.history) m q ≡ Some (Ref name)))
       → length facets.freeing ≡ n.servers → ((s : ℕ) (f : Freeing) → slice_get facets.freeing s ≡ Some f → (f.through ≡ 0) × (f.names ≡ []))
-      → NamesHold n w ws front facets → NamesHold n w (set ws (index n phase) (phase_word (Trace (c + 1)))) (with_point front (Snap (c + 1))) facets
+      → NamesHoldWith n w ws front facets → NamesHoldWith n w (set ws (index n phase) (phase_word (Trace (c + 1)))) (with_point front (Snap (c + 1))) facets
   hold_snaps ws front facets c of_it idle some empty rooted servers start hold =
       let p : Point = Snap (c + 1) in
       let us : List ℕ = set ws (index n phase) (phase_word (Trace (c + 1))) in
@@ -241,7 +241,7 @@ module _ (n : Numbers) (w : Facts) where
   phase_changes : (ws : List ℕ) (front : Seen) (facets : NameFacets) (p : PhaseWord) → FitsPhase p → TableStands n (set ws (index n phase) (phase_word p)) w front
       → ((us : List ℕ) → ((x : ℕ) → x < all_entries n → entry_of n us x ≡ entry_of n ws x) → FreeingFits p n us w front.history facets.freeing)
       → ((us : List ℕ) → ((x : ℕ) → x < all_entries n → entry_of n us x ≡ entry_of n ws x) → EpochsFit p n us w front.history)
-      → NamesHold n w ws front facets → NamesHold n w (set ws (index n phase) (phase_word p)) front facets
+      → NamesHoldWith n w ws front facets → NamesHoldWith n w (set ws (index n phase) (phase_word p)) front facets
   phase_changes ws front facets p fits table freeing epochs hold =
       let us : List ℕ = set ws (index n phase) (phase_word p) in
       let is = phase_stored n ws p hold.size fits in
@@ -258,7 +258,7 @@ module _ (n : Numbers) (w : Facts) where
 
   -- the store of Evac, where each name that was reachable at the snapshot has its epoch
   pub hold_evacuates : (ws : List ℕ) (front : Seen) (facets : NameFacets) (c : ℕ) → IsWorkloadOf n w → c ≤ w.cycles → phase_of n ws ≡ Trace c → AllMarked n ws w front.history c
-      → NamesHold n w ws front facets → NamesHold n w (set ws (index n phase) (phase_word (Evac c))) front facets
+      → NamesHoldWith n w ws front facets → NamesHoldWith n w (set ws (index n phase) (phase_word (Evac c))) front facets
   hold_evacuates ws front facets c of_it le trace marked hold =
       let fits = phase_fits c of_it le in
       let cycle : c ≡ (state_of w front.history).snaps = sym (ap cycle_of trace) ∙ hold.table.cycle in
@@ -275,7 +275,7 @@ module _ (n : Numbers) (w : Facts) where
 
   -- the store of Stop
   pub hold_stops : (ws : List ℕ) (front : Seen) (facets : NameFacets) (c : ℕ) → IsWorkloadOf n w → c ≤ w.cycles → phase_of n ws ≡ Idle c
-      → NamesHold n w ws front facets → NamesHold n w (set ws (index n phase) (phase_word (Stop c))) front facets
+      → NamesHoldWith n w ws front facets → NamesHoldWith n w (set ws (index n phase) (phase_word (Stop c))) front facets
   hold_stops ws front facets c of_it le idle hold =
       let fits = phase_fits c of_it le in
       let was : EpochsStand n ws w front.history c = subst (λ q. EpochsFit q n ws w front.history) idle hold.epochs in
@@ -286,7 +286,7 @@ module _ (n : Numbers) (w : Facts) where
   -- good, or by a move, which keeps the epoch.
   pub hold_touches : (ws : List ℕ) (front : Seen) (facets : NameFacets) (x : ℕ) (e : EntryWord) → x < all_entries n → FitsEntry e → e.taken ≡ (entry_of n ws x).taken → e.generation ≡ (entry_of n ws x).generation
       → ((c : ℕ) × (phase_of n ws ≡ Trace c) × (e.epoch ≡ c) × IsGood w front.history (name_of x e.generation)) ⊎ (e.epoch ≡ (entry_of n ws x).epoch)
-      → NamesHold n w ws front facets → NamesHold n w (set ws (index n (entry x)) (entry_word e)) front facets
+      → NamesHoldWith n w ws front facets → NamesHoldWith n w (set ws (index n (entry x)) (entry_word e)) front facets
   hold_touches ws front facets x e within fits taken generation how hold =
       let us : List ℕ = set ws (index n (entry x)) (entry_word e) in
       let is = phase_else n ws x (entry_word e) within in
@@ -314,7 +314,7 @@ module _ (n : Numbers) (w : Facts) where
   -- a server goes over an entry that is free, or has the cycle's epoch
   pub hold_passes : (ws : List ℕ) (front : Seen) (facets : NameFacets) (c s : ℕ) (f : Freeing) → phase_of n ws ≡ Evac c → slice_get facets.freeing s ≡ Some f → f.through < own_entries n
       → ((entry_of n ws (entry_by n s f.through)).taken ≡ false) ⊎ ((entry_of n ws (entry_by n s f.through)).epoch ≡ c)
-      → NamesHold n w ws front facets → NamesHold n w ws front (record facets { freeing = set facets.freeing s (record { through = f.through + 1; names = f.names }) })
+      → NamesHoldWith n w ws front facets → NamesHoldWith n w ws front (record facets { freeing = set facets.freeing s (record { through = f.through + 1; names = f.names }) })
   hold_passes ws front facets c s f evac here more how hold =
       let was : FreeingStands n ws w front.history c facets.freeing = subst (λ q. FreeingFits q n ws w front.history facets.freeing) evac hold.freeing in
       let marks : EpochsStand n ws w front.history c = subst (λ q. EpochsFit q n ws w front.history) evac hold.epochs in
@@ -344,8 +344,8 @@ module _ (n : Numbers) (w : Facts) where
   -- a server frees a taken entry of another epoch
   pub hold_frees : (ws : List ℕ) (front : Seen) (facets : NameFacets) (c s : ℕ) (f : Freeing) (e : EntryWord) → FitsEntry e → phase_of n ws ≡ Evac c → slice_get facets.freeing s ≡ Some f → f.through < own_entries n
       → (entry_of n ws (entry_by n s f.through)).taken ≡ true → (entry_of n ws (entry_by n s f.through)).epoch ≢ c → e.taken ≡ false → e.generation ≡ (entry_of n ws (entry_by n s f.through)).generation + 1
-      → NamesHold n w ws front facets
-      → NamesHold n w (set ws (index n (entry (entry_by n s f.through))) (entry_word e)) front
+      → NamesHoldWith n w ws front facets
+      → NamesHoldWith n w (set ws (index n (entry (entry_by n s f.through))) (entry_word e)) front
       (record facets { freeing = set facets.freeing s (record { through = f.through + 1; names = f.names ++ name_of (entry_by n s f.through) (entry_of n ws (entry_by n s f.through)).generation ∷ [] }) })
   hold_frees ws front facets c s f e fits evac here more taken epoch is_free generation hold =
       let was : FreeingStands n ws w front.history c facets.freeing = subst (λ q. FreeingFits q n ws w front.history facets.freeing) evac hold.freeing in
@@ -377,7 +377,7 @@ module _ (n : Numbers) (w : Facts) where
   -- The store of Idle: each server has gone over all its entries, and the names that the collector has got from them,
   -- server by server, are the cycle's.
   pub hold_finishes : (ws : List ℕ) (front : Seen) (facets : NameFacets) (c : ℕ) → IsWorkloadOf n w → c ≤ w.cycles → phase_of n ws ≡ Evac c → ((s : ℕ) (f : Freeing) → slice_get facets.freeing s ≡ Some f → f.through ≡ own_entries n)
-      → NamesHold n w ws front facets → NamesHold n w (set ws (index n phase) (phase_word (Idle c))) (with_cycle front (flat_map (λ (f : Freeing). f.names) facets.freeing)) facets
+      → NamesHoldWith n w ws front facets → NamesHoldWith n w (set ws (index n phase) (phase_word (Idle c))) (with_cycle front (flat_map (λ (f : Freeing). f.names) facets.freeing)) facets
   hold_finishes ws front facets c of_it le evac all hold =
       let names : List Name = flat_map (λ (f : Freeing). f.names) facets.freeing in
       let us : List ℕ = set ws (index n phase) (phase_word (Idle c)) in
@@ -405,7 +405,7 @@ module _ (n : Numbers) (w : Facts) where
       → ((x : ℕ) → 0 < x → x < all_entries n → ((entry_of n ws x).taken ≡ false) × ((entry_of n ws x).generation ≡ 0))
       → ((p : Place) → Within n p → IsUseSlot p → word_at n ws p ≡ 0) → ((seat : ℕ) (names : List Name) → slice_get facets.held seat ≡ Some names → names ≡ []) → ((m : ℕ) (facet : Trying) → slice_get facets.trying m ≡ Some facet → facet ≡ trying.Nothing)
       → ((m : ℕ) (left program : List Call) → slice_get facets.left m ≡ Some left → slice_get w.programs m ≡ Some program → program ≡ left)
-      → NamesHold n w ws opening_front facets
+      → NamesHoldWith n w ws opening_front facets
   hold_opening ws facets of_it board size idle taken generation epoch others slots held all left = record {
     size = size;
     answers = answers_opening w board;

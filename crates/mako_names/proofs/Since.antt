@@ -12,12 +12,11 @@ use Rattle.mako_model.specs.Heaps.{Heap}
 use Rattle.mako_model.specs.Lawful.{heap_after}
 use Rattle.mako_model.specs.Legal.{Facts, opening_of, state_of, AreLawful, IsLegal}
 use Rattle.mako_model.specs.LawfulFronts.{since}
-use Rattle.mako_model.specs.Starved.{first_snap}
+use Rattle.mako_model.specs.Starved.{first_snap, snaps_in}
 use Rattle.mako_model.proofs.DeadApart.{snaps_replied}
 use Rattle.mako_model.proofs.Growth.{since_push}
 use Rattle.mako_model.proofs.Histories.{lawful_rest}
 use Rattle.std.proofs.lemmas.List.Sums.{fold-append}
-use Rattle.mako_names.specs.Trying.{snaps_in}
 
 -- what holds of the empty history, and is kept by one point more, holds of each
 grow_along : (P : List Point → Type 0) → ((h : List Point) (p : Point) → P h → P (h ++ p ∷ [])) → (front rest : List Point) → P front → P (front ++ rest)
@@ -107,3 +106,11 @@ first_since w history m legal some =
       first_numbered (state_of w t.0) (since m history) (lawful_rest (opening_of w) t.0 (since m history) (subst (IsLegal w) t.1 legal)) some,
       (let e : (state_of w t.0).snaps + 1 + snaps_in (since m history) ≡ (state_of w history).snaps + 1 = omega arith in e),
     )
+
+-- a cycle that was asked for is above 0
+pub asked_above : (w : Facts) (history : List Point) (m k : ℕ) → (state_of w history).snaps < k + snaps_in (since m history) → 0 < k
+asked_above w history m k low =
+    let t = since_split m history in
+    let snaps : (state_of w history).snaps ≡ (state_of w t.0).snaps + snaps_in (since m history) =
+    ap (λ ps. (state_of w ps).snaps) t.1 ∙ snaps_split w t.0 (since m history) in
+    omega arith

@@ -14,12 +14,11 @@ use Rattle.mako_model.specs.declared.call.Call.{Call}
 use Rattle.mako_model.specs.declared.reply.Reply.TheVariants.{Made}
 use Rattle.mako_model.specs.declared.point.Point.{Point}
 use Rattle.mako_model.specs.declared.point.Point.TheVariants.{Did, Snap}
-use Rattle.mako_model.specs.Fronts.{Seen}
+use Rattle.mako_model.specs.Fronts.{Seen, with_point, with_cycle}
 use Rattle.mako_model.specs.Legal.{Facts, state_of, IsLegal}
 use Rattle.mako_model.specs.Dead.{made_by, IsDead}
 use Rattle.mako_model.specs.LawfulFronts.{IsLawfulFront}
 use Rattle.mako_model.proofs.DeadApart.{snaps_replied}
-use Rattle.mako_model.proofs.Growth.{with_point, with_cycle}
 use Rattle.mako_model.proofs.Histories.{state_push}
 use Rattle.mako_names.specs.Counts.{name_of, made_of}
 use Rattle.mako_names.specs.Tables.{published, EntryStands, EachStands, TableStands, SameTable, entry_of, phase_of, settled_of, running_of}

@@ -9,37 +9,24 @@ use Rattle.mako_model.specs.declared.call.Call.TheVariants as call
 use Rattle.mako_model.specs.declared.reply.Reply.TheVariants as reply
 use Rattle.mako_model.specs.declared.point.Point.{Point}
 use Rattle.mako_model.specs.declared.point.Point.TheVariants.{Did, Snap}
-use Rattle.mako_model.specs.Fronts.{Seen}
+use Rattle.mako_model.specs.Fronts.{Seen, with_point, with_cycle}
 use Rattle.mako_model.specs.Heaps.{Heap}
 use Rattle.mako_model.specs.Lawful.{heap_after}
 use Rattle.mako_model.specs.Legal.{Facts, state_of, IsLegal}
-use Rattle.mako_model.specs.Dead.{made_by, names_made, IsDead}
+use Rattle.mako_model.specs.Dead.{IsDead}
 use Rattle.mako_model.specs.LawfulFronts.{since, IsLawfulFront}
-use Rattle.mako_model.specs.Starved.{first_snap, IsAwaited, AreSpent, IsEntryUnavailable, IsTabletFull, IsStarved, words_by, words_made}
-use Rattle.mako_model.proofs.Changes.{Change, Nothing, Snapped, Rooted, Written, New, change_of}
+use Rattle.mako_model.specs.Starved.{first_snap, IsAwaited, AreSpent, IsEntryUnavailable, IsTabletFull, IsStarved, words_by, words_made, snaps_in}
+use Rattle.mako_model.proofs.CycleCounts.{cycles_stay}
 use Rattle.mako_model.proofs.DeadApart.{dead_later, snaps_replied}
-use Rattle.mako_model.proofs.Growth.{with_point, with_cycle, dead_was, IsStarvedIfFull}
+use Rattle.mako_model.proofs.Growth.{entry_stays, IsStarvedIfFull}
 use Rattle.mako_model.proofs.Histories.{state_push, legal_at, made_stays, kept}
 use Rattle.mako_names.specs.Counts.{name_of}
 use Rattle.mako_names.specs.Tables.{EntryStands}
 use Rattle.mako_names.specs.Trying as trying
-use Rattle.mako_names.specs.Trying.{Trying, snaps_in, tablet_at, IsLastSoFar, TryingStands, AllTrying}
+use Rattle.mako_names.specs.Trying.{Trying, tablet_at, IsLastSoFar, TryingStands, AllTrying}
 use Rattle.mako_names.proofs.Counts.{names_in_order}
 use Rattle.mako_names.proofs.Entries.{held_is_made}
 use Rattle.mako_names.proofs.Since.{IsOthers, since_others, snaps_in_append, first_append, seen_since, first_since}
-
--- ---- cycles left
-
-cycles_changed : (h after : Heap) (made : List Name) → Change h after made → after.cycles ≡ h.cycles
-cycles_changed h after made (Nothing e none) = ap (λ (a : Heap). a.cycles) e
-cycles_changed h after made (Snapped e none) = ap (λ (a : Heap). a.cycles) e
-cycles_changed h after made (Rooted m q v root at e none) = ap (λ (a : Heap). a.cycles) e
-cycles_changed h after made (Written m q name fields i v refers at e none) = ap (λ (a : Heap). a.cycles) e
-cycles_changed h after made (New m q name fields root fresh e one) = ap (λ (a : Heap). a.cycles) e
-
--- how many cycles there may be stays the same
-pub cycles_stay : (w : Facts) (history : List Point) → IsLegal w history → (state_of w history).cycles ≡ w.cycles
-cycles_stay w history legal = kept (λ h. h.cycles ≡ w.cycles) (λ h p lawful same. cycles_changed h (heap_after h p) (made_by p) (change_of h p lawful) ∙ same) w history legal refl
 
 -- ---- one entry, and one tablet
 
@@ -57,12 +44,6 @@ pub retired_seen : (w : Facts) (front : Seen) (k settled x g : ℕ) → IsLawful
 retired_seen w front k settled x g lawful le some stands =
     let count = stands.count in
     inr ((names_in_order w front lawful x (w.generations - 1)).1 (omega arith))
-
--- the history goes on, and the front with it
-pub entry_stays : (w : Facts) (front : Seen) (p : Point) (before after : List Point) (k x : ℕ) → IsLegal w (front.history ++ p ∷ []) → k ≤ (state_of w front.history).snaps
-    → ((name : Name) → Contains (names_made before) name → Contains (names_made after) name) → IsEntryUnavailable w front before k x → IsEntryUnavailable w (with_point front p) after k x
-entry_stays w front p before after k x legal begun more taken =
-    ⊎_elim (λ t. inl (t.0, more (name_of x t.0) t.1, (λ dead. t.2 (dead_was w front.history (p ∷ []) k (name_of x t.0) legal begun dead)))) (λ t. inr (more _ t)) taken
 
 words_grow : (w : Facts) (tablet : ℕ) (history : List Point) (p : Point) → words_made w tablet history ≤ words_made w tablet (history ++ p ∷ [])
 words_grow w tablet history p = let e = sum_by-append (words_by w tablet) history (p ∷ []) in omega arith

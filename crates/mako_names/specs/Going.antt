@@ -8,7 +8,7 @@ use Rattle.mako_model.specs.declared.call.Call.{Call}
 use Rattle.mako_model.specs.Fronts.{Seen}
 use Rattle.mako_model.specs.Legal.{Facts}
 use Rattle.mako_names.specs.Freeing.{Freeing}
-use Rattle.mako_names.specs.Holding.{NameFacets, NamesHold}
+use Rattle.mako_names.specs.Holding.{NameFacets, NamesHoldWith}
 use Rattle.mako_names.specs.Notices.{Gathering, NoticesStand}
 use Rattle.mako_names.specs.Tables.{phase_of}
 use Rattle.mako_names.specs.Trying.{Trying}
@@ -40,7 +40,7 @@ GatheringFits (Evac c) freed through sent collector = GatheringStands freed thro
 GatheringFits (Stop c) freed through sent collector = Unit {0}
 
 -- there are the lists of freed names, which no view has whole, with which all holds
-pub record NamesGo (n : Numbers) (w : Facts) (ws : List ℕ) (front : Seen) (facets : Facets) : Type 0 where
+pub record NamesHold (n : Numbers) (w : Facts) (ws : List ℕ) (front : Seen) (facets : Facets) : Type 0 where
   pub freed : List Freeing
-  pub hold : NamesHold n w ws front (with_freed facets freed)
+  pub hold : NamesHoldWith n w ws front (with_freed facets freed)
   pub gathering : GatheringFits (phase_of n ws) freed facets.through facets.sent facets.collector

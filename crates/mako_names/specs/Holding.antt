@@ -30,7 +30,7 @@ pub record NameFacets : Type 0 where
   pub freeing : List Freeing
 
 -- the names, the entries and the front fit, and the front answers the script
-pub record NamesHold (n : Numbers) (w : Facts) (ws : List ℕ) (front : Seen) (facets : NameFacets) : Type 0 where
+pub record NamesHoldWith (n : Numbers) (w : Facts) (ws : List ℕ) (front : Seen) (facets : NameFacets) : Type 0 where
   pub size : length ws ≡ total n
   pub answers : Answers w front
   pub table : TableStands n ws w front

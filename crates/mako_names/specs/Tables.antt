@@ -14,8 +14,11 @@ use Rattle.mako_model.specs.Legal.{Facts, state_of}
 use Rattle.mako_model.specs.Dead.{names_made, IsDead}
 use Rattle.mako_names.specs.Counts.{name_of, made_of}
 
--- the workload has the numbers of the geometry
+-- the facts are those of a script with these numbers, whose board fits a region
 pub record IsWorkloadOf (n : Numbers) (w : Facts) : Type 0 where
+  pub mutators : length w.programs ≡ n.mutators
+  pub roots : w.roots ≡ n.roots
+  pub board : w.board + 1 ≤ w.words
   pub tablets : w.tablets ≡ n.servers * n.tablets
   pub entries : w.entries ≡ n.entries
   pub words : w.words ≡ n.words
@@ -24,9 +27,11 @@ pub record IsWorkloadOf (n : Numbers) (w : Facts) : Type 0 where
   pub few_cycles : w.cycles < 2 ^ 20
   pub few_generations : w.generations < 2 ^ 20
 
+-- what the word of an entry stands for
 unfoldable pub entry_of : Numbers → List ℕ → ℕ → EntryWord
 entry_of n ws x = entry_at (word_at n ws (entry x))
 
+-- what the phase word stands for
 unfoldable pub phase_of : Numbers → List ℕ → PhaseWord
 phase_of n ws = phase_at (word_at n ws phase)
 

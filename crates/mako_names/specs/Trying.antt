@@ -5,7 +5,7 @@ use Rattle.mako_model.specs.declared.point.Point.TheVariants.{Did, Snap}
 use Rattle.mako_model.specs.Fronts.{Seen}
 use Rattle.mako_model.specs.Legal.{Facts, state_of}
 use Rattle.mako_model.specs.LawfulFronts.{since}
-use Rattle.mako_model.specs.Starved.{IsAwaited, AreSpent, IsEntryUnavailable, IsTabletFull}
+use Rattle.mako_model.specs.Starved.{snaps_in, IsAwaited, AreSpent, IsEntryUnavailable, IsTabletFull}
 
 -- a view's facet: it keeps nothing, it waits for a cycle, or it makes its last attempt at an object of so many
 -- fields, in which it has gone over so many tablets, and so many entries of the next, without a note
@@ -13,12 +13,6 @@ pub data Trying : Type 0 where
   Nothing : Trying
   Asked : ℕ → Trying
   Last : ℕ → ℕ → ℕ → Trying
-
--- how many of the points are snapshots
-abbrev pub snaps_in : List Point → ℕ
-snaps_in [] = 0
-snaps_in (Did m c r ∷ points) = snaps_in points
-snaps_in (Snap cycle ∷ points) = snaps_in points + 1
 
 -- the tablet that the mutator comes to after so many others
 abbrev pub tablet_at : Facts → ℕ → ℕ → ℕ

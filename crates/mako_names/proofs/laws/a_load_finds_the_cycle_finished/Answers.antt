@@ -1,5 +1,0 @@
-use Rattle.mako_names.proofs.Attempts.{hold_begins_awaited}
-use Rattle.mako_names.proofs.laws.a_load_finds_the_cycle_finished.Goals as goal
-
-pub returns : goal.returns
-returns c = hold_begins_awaited
