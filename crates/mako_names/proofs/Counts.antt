@@ -21,9 +21,11 @@ use Rattle.mako_model.proofs.Histories.{names_push, legal_prefix, legal_at}
 use Rattle.mako_model.proofs.Closed.{made_are_objects}
 use Rattle.mako_names.specs.Counts.{name_of, one_of, made_of, NamesStand, AreUsedInOrder}
 
-pub made_push : (x : ℕ) (history : List Point) (p : Point) → made_of x (history ++ p ∷ []) ≡ made_of x history + sum_by (one_of x) (made_by p)
+pub made_push : (x : ℕ) (history : List Point) (p : Point)
+    → made_of x (history ++ p ∷ []) ≡ made_of x history + sum_by (one_of x) (made_by p)
 unfolding made_of
-made_push x history p = ap (sum_by (one_of x)) (names_push history p) ∙ sum_by-append (one_of x) (names_made history) (made_by p)
+made_push x history p =
+    ap (sum_by (one_of x)) (names_push history p) ∙ sum_by-append (one_of x) (names_made history) (made_by p)
 
 pub one_same : (x : ℕ) (name : Name) → name.entry ≡ x → sum_by (one_of x) (name ∷ []) ≡ 1
 one_same x name e = grind (arith, nat_tests)
@@ -32,16 +34,22 @@ pub one_other : (x : ℕ) (name : Name) → (name.entry ≡ x → ⊥) → sum_b
 one_other x name n = grind (arith, nat_tests)
 
 -- a point makes one name or none
-pub made_cases : (p : Point) → (made_by p ≡ []) ⊎ ((m : ℕ) × (c : Call) × (name : Name) × (p ≡ Did m c (Made name)) × (made_by p ≡ name ∷ []))
+pub made_cases : (p : Point) → (made_by p ≡ [])
+    ⊎ ((m : ℕ) × (c : Call) × (name : Name) × (p ≡ Did m c (Made name)) × (made_by p ≡ name ∷ []))
 made_cases (Did m c (Made name)) = inr (m, c, name, refl, refl)
 made_cases (Did m c r) = inl refl
 made_cases (Snap cycle) = inl refl
 
-pub made_none : (x : ℕ) (history : List Point) (p : Point) → made_by p ≡ [] → made_of x (history ++ p ∷ []) ≡ made_of x history
-made_none x history p none = let e = made_push x history p in let f : sum_by (one_of x) (made_by p) ≡ 0 = ap (sum_by (one_of x)) none in omega arith
+pub made_none : (x : ℕ) (history : List Point) (p : Point) → made_by p ≡ []
+    → made_of x (history ++ p ∷ []) ≡ made_of x history
+made_none x history p none =
+    let e = made_push x history p in let f : sum_by (one_of x) (made_by p) ≡ 0 =
+    ap (sum_by (one_of x)) none in omega arith
 
-pub names_none : (history : List Point) (p : Point) → made_by p ≡ [] → names_made (history ++ p ∷ []) ≡ names_made history
-names_none history p none = names_push history p ∙ ap (λ names. names_made history ++ names) none ∙ append-nil (names_made history)
+pub names_none : (history : List Point) (p : Point) → made_by p ≡ []
+    → names_made (history ++ p ∷ []) ≡ names_made history
+names_none history p none =
+    names_push history p ∙ ap (λ names. names_made history ++ names) none ∙ append-nil (names_made history)
 
 stand_none : (history : List Point) (p : Point) → made_by p ≡ [] → NamesStand history → NamesStand (history ++ p ∷ [])
 stand_none history p none stand x g =
@@ -52,7 +60,8 @@ stand_none history p none stand x g =
     )
 
 -- a generation below the new number is one of those before, or the last
-below_new : (history : List Point) (p : Point) (x g y h : ℕ) → made_by p ≡ name_of y h ∷ [] → h ≡ made_of y history → g < made_of x (history ++ p ∷ []) → (g < made_of x history) ⊎ ((y ≡ x) × (h ≡ g))
+below_new : (history : List Point) (p : Point) (x g y h : ℕ) → made_by p ≡ name_of y h ∷ [] → h ≡ made_of y history
+    → g < made_of x (history ++ p ∷ []) → (g < made_of x history) ⊎ ((y ≡ x) × (h ≡ g))
 below_new history p x g y h one next l =
     let pushed = made_push x history p in
     let same : sum_by (one_of x) (made_by p) ≡ sum_by (one_of x) (name_of y h ∷ []) = ap (sum_by (one_of x)) one in
@@ -67,19 +76,24 @@ name_same : (x g y h : ℕ) → y ≡ x → h ≡ g → name_of y h ≡ name_of 
 name_same x g y h e f = λ i. name_of (e i) (f i)
 
 -- where the next name of an entry is made, the names of each entry are still in order
-pub stand_made : (history : List Point) (p : Point) (y h : ℕ) → made_by p ≡ name_of y h ∷ [] → h ≡ made_of y history → NamesStand history → NamesStand (history ++ p ∷ [])
+pub stand_made : (history : List Point) (p : Point) (y h : ℕ) → made_by p ≡ name_of y h ∷ [] → h ≡ made_of y history
+    → NamesStand history → NamesStand (history ++ p ∷ [])
 stand_made history p y h one next stand x g =
-    let names : names_made (history ++ p ∷ []) ≡ names_made history ++ name_of y h ∷ [] = names_push history p ∙ ap (λ ns. names_made history ++ ns) one in
+    let names : names_made (history ++ p ∷ []) ≡ names_made history ++ name_of y h ∷ [] =
+    names_push history p ∙ ap (λ ns. names_made history ++ ns) one in
     let pushed = made_push x history p in
     let same : sum_by (one_of x) (made_by p) ≡ sum_by (one_of x) (name_of y h ∷ []) = ap (sum_by (one_of x)) one in (
       (λ c. ⊎_elim (λ t. let l = (stand x g).0 t in (let d : g < made_of x (history ++ p ∷ []) = omega arith in d))
           (λ t. let e : y ≡ x = ap (λ (n : Name). n.entry) t in let f : h ≡ g = ap (λ (n : Name). n.generation) t in
           let o = one_same x (name_of y h) e in
-          let k : made_of y history ≡ made_of x history = ap (λ z. made_of z history) e in (let d : g < made_of x (history ++ p ∷ []) = omega arith in d))
-          (Contains-push_cases (names_made history) (name_of y h) (name_of x g) (subst (λ ns. Contains ns (name_of x g)) names c))),
+          let k : made_of y history ≡ made_of x history =
+          ap (λ z. made_of z history) e in (let d : g < made_of x (history ++ p ∷ []) = omega arith in d))
+          (Contains-push_cases (names_made history) (name_of y h) (name_of x g)
+          (subst (λ ns. Contains ns (name_of x g)) names c))),
       (λ l. subst (λ ns. Contains ns (name_of x g)) (sym names)
           (⊎_elim (λ t. Contains-append_left (names_made history) (name_of y h ∷ []) (name_of x g) ((stand x g).1 t))
-          (λ t. subst (Contains (names_made history ++ name_of y h ∷ [])) (name_same x g y h t.0 t.1) (Contains-push (names_made history) (name_of y h)))
+          (λ t. subst (Contains (names_made history ++ name_of y h ∷ [])) (name_same x g y h t.0 t.1)
+          (Contains-push (names_made history) (name_of y h)))
           (below_new history p x g y h one next l))),
     )
 
@@ -88,35 +102,47 @@ lawful_made h m (New root fields) name l = l.1
 lawful_made h m c name l = absurd l
 
 -- the name of a lawful point was not made before
-pub made_fresh : (w : Facts) (history : List Point) (m : ℕ) (c : Call) (name : Name) → IsLegal w history → IsLawful (state_of w history) (Did m c (Made name)) → Contains (names_made history) name → ⊥
+pub made_fresh : (w : Facts) (history : List Point) (m : ℕ) (c : Call) (name : Name) → IsLegal w history
+    → IsLawful (state_of w history) (Did m c (Made name)) → Contains (names_made history) name → ⊥
 made_fresh w history m c name legal lawful made =
     let has = (made_are_objects w history legal name).0 made in
     none-some has.0 (sym (lawful_made (state_of w history) m c name lawful) ∙ has.1)
 
 -- it is the next name of its entry
-pub next_of : (history after : List Point) (m : ℕ) (c : Call) (x g : ℕ) → NamesStand history → AreUsedInOrder (history ++ Did m c (Made (name_of x g)) ∷ after) → (Contains (names_made history) (name_of x g) → ⊥) → g ≡ made_of x history
-next_of history after m c x zero stand used fresh = ⊎_elim (λ l. absurd (fresh ((stand x 0).1 l))) (λ l. omega arith) (cases_lt 0 (made_of x history))
+pub next_of : (history after : List Point) (m : ℕ) (c : Call) (x g : ℕ) → NamesStand history
+    → AreUsedInOrder (history ++ Did m c (Made (name_of x g)) ∷ after)
+    → (Contains (names_made history) (name_of x g) → ⊥) → g ≡ made_of x history
+next_of history after m c x zero stand used fresh =
+    ⊎_elim (λ l. absurd (fresh ((stand x 0).1 l))) (λ l. omega arith) (cases_lt 0 (made_of x history))
 next_of history after m c x (suc g) stand used fresh =
     let s : suc g ≡ g + 1 = omega arith in
-    let before = (stand x g).0 (used history after m c x g (ap (λ k. history ++ Did m c (Made (name_of x k)) ∷ after) s)) in
+    let before =
+    (stand x g).0 (used history after m c x g (ap (λ k. history ++ Did m c (Made (name_of x k)) ∷ after) s)) in
     ⊎_elim (λ l. absurd (fresh ((stand x (suc g)).1 l))) (λ l. omega arith) (cases_lt (suc g) (made_of x history))
 
-stand_next : (w : Facts) (history after : List Point) (p : Point) → IsLegal w (history ++ p ∷ after) → AreUsedInOrder (history ++ p ∷ after) → NamesStand history → NamesStand (history ++ p ∷ [])
+stand_next : (w : Facts) (history after : List Point) (p : Point) → IsLegal w (history ++ p ∷ after)
+    → AreUsedInOrder (history ++ p ∷ after) → NamesStand history → NamesStand (history ++ p ∷ [])
 stand_next w history after p legal used stand =
     ⊎_elim (λ none. stand_none history p none stand)
     (λ t. let m = t.0 in let c = t.1 in let y = t.2 in
-    let legal2 : IsLegal w (history ++ Did m c (Made y) ∷ after) = subst (λ q. IsLegal w (history ++ q ∷ after)) t.3 legal in
-    let used2 : AreUsedInOrder (history ++ Did m c (Made y) ∷ after) = subst (λ q. AreUsedInOrder (history ++ q ∷ after)) t.3 used in
+    let legal2 : IsLegal w (history ++ Did m c (Made y) ∷ after) =
+    subst (λ q. IsLegal w (history ++ q ∷ after)) t.3 legal in
+    let used2 : AreUsedInOrder (history ++ Did m c (Made y) ∷ after) =
+    subst (λ q. AreUsedInOrder (history ++ q ∷ after)) t.3 used in
     stand_made history p y.entry y.generation t.4
     (next_of history after m c y.entry y.generation stand used2
-    (made_fresh w history m c y (legal_prefix w history (Did m c (Made y) ∷ after) legal2) (legal_at w history (Did m c (Made y)) after legal2))) stand)
+    (made_fresh w history m c y (legal_prefix w history (Did m c (Made y) ∷ after) legal2)
+    (legal_at w history (Did m c (Made y)) after legal2))) stand)
     (made_cases p)
 
-stand_along : (w : Facts) (front rest : List Point) → IsLegal w (front ++ rest) → AreUsedInOrder (front ++ rest) → NamesStand front → NamesStand (front ++ rest)
+stand_along : (w : Facts) (front rest : List Point) → IsLegal w (front ++ rest) → AreUsedInOrder (front ++ rest)
+    → NamesStand front → NamesStand (front ++ rest)
 stand_along w front [] legal used stand = subst NamesStand (sym (append-nil front)) stand
 stand_along w front (p ∷ rest) legal used stand =
     let e : (front ++ p ∷ []) ++ rest ≡ front ++ p ∷ rest = append_assoc front (p ∷ []) rest in
-    subst NamesStand e (stand_along w (front ++ p ∷ []) rest (subst (IsLegal w) (sym e) legal) (subst AreUsedInOrder (sym e) used) (stand_next w front rest p legal used stand))
+    subst NamesStand e
+    (stand_along w (front ++ p ∷ []) rest (subst (IsLegal w) (sym e) legal) (subst AreUsedInOrder (sym e) used)
+    (stand_next w front rest p legal used stand))
 
 pub made_opening : (x : ℕ) → made_of x [] ≡ one_of x board_name
 unfolding made_of
@@ -129,7 +155,10 @@ stand_opening x g =
           (λ t. let f : 0 ≡ x = ap (λ (n : Name). n.entry) t in let k : 0 ≡ g = ap (λ (n : Name). n.generation) t in
           let o : one_of x board_name ≡ 1 = grind (arith, nat_tests) in (let d : g < made_of x [] = omega arith in d))
           (Contains-push_cases [] board_name (name_of x g) c)),
-      (λ l. let o : (x ≡ 0) × (g ≡ 0) = ⊎_elim (λ f. let k : one_of x board_name ≡ 1 = grind (arith, nat_tests) in (f, (let d : g ≡ 0 = omega arith in d)))
+      (λ l. let o : (x ≡ 0)
+          × (g ≡ 0) =
+          ⊎_elim (λ f. let k : one_of x board_name ≡ 1 =
+          grind (arith, nat_tests) in (f, (let d : g ≡ 0 = omega arith in d)))
           (λ f. let k : one_of x board_name ≡ 0 = grind (arith, nat_tests) in absurd (omega arith)) (cases_eq x 0) in
           subst (Contains (board_name ∷ [])) (name_same x g 0 0 (sym o.0) (sym o.1)) (Contains-push [] board_name)),
     )

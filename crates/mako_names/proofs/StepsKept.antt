@@ -46,7 +46,8 @@ module _ (n : Numbers) (w : Facts) where
   some_entries front lawful =
       let some = (board_in_range front lawful).entry in
       ⊎_elim (λ l. l)
-      (λ none. let e : w.tablets * w.entries ≡ w.tablets * 0 = ap (λ k. w.tablets * k) (let d : w.entries ≡ 0 = omega arith in d) in absurd (omega arith))
+      (λ none. let e : w.tablets * w.entries ≡ w.tablets * 0 =
+      ap (λ k. w.tablets * k) (let d : w.entries ≡ 0 = omega arith in d) in absurd (omega arith))
       (cases_lt 0 w.entries)
 
   some_servers : (front : Seen) → IsWorkloadOf n w → IsLawfulFront w front → 0 < n.servers
@@ -54,15 +55,19 @@ module _ (n : Numbers) (w : Facts) where
       let some = (board_in_range front lawful).entry in
       ⊎_elim (λ l. l)
       (λ none.
-      let e : n.servers * n.tablets * w.entries ≡ 0 * n.tablets * w.entries = ap (λ k. k * n.tablets * w.entries) (let d : n.servers ≡ 0 = omega arith in d) in
+      let e : n.servers * n.tablets * w.entries ≡ 0 * n.tablets * w.entries =
+      ap (λ k. k * n.tablets * w.entries) (let d : n.servers ≡ 0 = omega arith in d) in
       let f : w.tablets * w.entries ≡ n.servers * n.tablets * w.entries = ap (λ k. k * w.entries) of_it.tablets in
       absurd (omega arith)) (cases_lt 0 n.servers)
 
-  cycle_within : (ws : List ℕ) (front : Seen) → IsLawfulFront w front → TableStands n ws w front → cycle_of (phase_of n ws) ≤ w.cycles
-  cycle_within ws front lawful table = let few = few_snaps w front.history lawful.legal in let same = table.cycle in omega arith
+  cycle_within : (ws : List ℕ) (front : Seen) → IsLawfulFront w front → TableStands n ws w front
+      → cycle_of (phase_of n ws) ≤ w.cycles
+  cycle_within ws front lawful table =
+      let few = few_snaps w front.history lawful.legal in let same = table.cycle in omega arith
 
   -- the cycle of a phase
-  in_phase : (ws : List ℕ) (front : Seen) (p : PhaseWord) → IsLawfulFront w front → TableStands n ws w front → phase_of n ws ≡ p → cycle_of p ≤ w.cycles
+  in_phase : (ws : List ℕ) (front : Seen) (p : PhaseWord) → IsLawfulFront w front → TableStands n ws w front
+      → phase_of n ws ≡ p → cycle_of p ≤ w.cycles
   in_phase ws front p lawful table is = subst (λ q. cycle_of q ≤ w.cycles) is (cycle_within ws front lawful table)
 
 -- ---- one step of an attempt
@@ -73,8 +78,10 @@ slot_rank (work s slot) slot_is = ((λ e. omega arith), (λ e. omega arith))
 slot_rank (ghost sender receiver slot) slot_is = ((λ e. omega arith), (λ e. omega arith))
 slot_rank p slot_is = absurd slot_is
 
-attempt_kept : (n : Numbers) (w : Facts) (s : NameScene) (m : ℕ) (before after : Trying) → AttemptStep n w s m before after
-    → slice_get s.facets.trying m ≡ Some before → (freed : List Freeing) → NamesHoldWith n w s.words s.front (with_freed s.facets freed)
+attempt_kept : (n : Numbers) (w : Facts) (s : NameScene) (m : ℕ) (before after : Trying)
+    → AttemptStep n w s m before after
+    → slice_get s.facets.trying m ≡ Some before → (freed : List Freeing)
+    → NamesHoldWith n w s.words s.front (with_freed s.facets freed)
     → NamesHoldWith n w s.words s.front (with_freed (record s.facets { trying = set s.facets.trying m after }) freed)
 attempt_kept n w s m _ _ (Asks known) at freed hold = hold_asks n w s.words s.front (with_freed s.facets freed) m hold
 attempt_kept n w s m _ _ (Waited k fields told) at freed hold =
@@ -85,7 +92,8 @@ attempt_kept n w s m _ _ (Sees fields tablets entries within found) at freed hol
     hold_sees n w s.words s.front (with_freed s.facets freed) m fields tablets entries at within
     (some_generation n w s.front hold.answers.lawful) found hold
 attempt_kept n w s m _ _ (GoesOver fields tablets) at freed hold =
-    hold_goes_over n w s.words s.front (with_freed s.facets freed) m fields tablets at (some_entries n w s.front hold.answers.lawful) hold
+    hold_goes_over n w s.words s.front (with_freed s.facets freed) m fields tablets at
+    (some_entries n w s.front hold.answers.lawful) hold
 attempt_kept n w s m _ _ (Lacks fields tablets lacks) at freed hold =
     hold_lacks n w s.words s.front (with_freed s.facets freed) m fields tablets at lacks.used lacks.few hold
 attempt_kept n w s m _ _ (Notes fields tablets entries) at freed hold =
@@ -105,7 +113,8 @@ plain_no_cycle r plain k e = subst IsPlain e plain
 plain_not_full : (r : Reply) → IsPlain r → r ≡ reply.Full → ⊥
 plain_not_full r plain e = subst IsPlain e plain
 
-decision_kept : (n : Numbers) (w : Facts) (s : NameScene) (us : List ℕ) (m : ℕ) (c : Call) (r : Reply) (left : List Call) → Decision n w s m c r
+decision_kept : (n : Numbers) (w : Facts) (s : NameScene) (us : List ℕ) (m : ℕ) (c : Call) (r : Reply)
+    (left : List Call) → Decision n w s m c r
     → slice_get s.facets.left m ≡ Some (c ∷ left) → LeavesNames n s.words us → (freed : List Freeing)
     → NamesHoldWith n w s.words s.front (with_freed s.facets freed)
     → NamesHoldWith n w us (with_point s.front (Did m c r)) (with_freed (answered s.facets m left) freed)
@@ -115,12 +124,15 @@ decision_kept n w s us m _ _ left (Plain c r plain lawful) next leaves freed hol
     (plain_next w s.front m c r hold.answers.lawful lawful none (plain_no_cycle r plain))
     (not_full w s.front m c r (plain_not_full r plain)) next none leaves.size leaves.table leaves.slots hold
 decision_kept n w s us m _ _ left (Starves root fields mutator in_row at) next leaves freed hold =
-    hold_full n w s.words us s.front (with_freed s.facets freed) m root fields left at mutator in_row next leaves.size leaves.table leaves.slots hold
+    hold_full n w s.words us s.front (with_freed s.facets freed) m root fields left at mutator in_row next
+    leaves.size leaves.table leaves.slots hold
 decision_kept n w s us m _ _ left (Collects k mutator at told) next leaves freed hold =
     hold_answers n w s.words us s.front (with_freed s.facets freed) m k left at told
-    (asked_above w s.front.history m k (hold.trying m (trying.Asked k) at)) mutator next leaves.size leaves.table leaves.slots hold
+    (asked_above w s.front.history m k (hold.trying m (trying.Asked k) at)) mutator next leaves.size leaves.table
+    leaves.slots hold
 decision_kept n w s us m _ _ left (Spends mutator last) next leaves freed hold =
-    hold_spent n w s.words us s.front (with_freed s.facets freed) m left last mutator next leaves.size leaves.table leaves.slots hold
+    hold_spent n w s.words us s.front (with_freed s.facets freed) m left last mutator next leaves.size leaves.table
+    leaves.slots hold
 
 -- ---- a publication
 
@@ -134,9 +146,12 @@ publication_fits n w s p left of_it lawful table may =
     let young = may.generation in
     record { address = may.address; epoch = omega arith; generation = omega arith }
 
-publication_kept : (n : Numbers) (w : Facts) (s : NameScene) (p : Publication) (left : List Call) → IsWorkloadOf n w → MayPublish n w s p left
+publication_kept : (n : Numbers) (w : Facts) (s : NameScene) (p : Publication) (left : List Call) → IsWorkloadOf n w
+    → MayPublish n w s p left
     → NamesHoldIn n w s
-    → NamesHold n w (set s.words (index n (entry p.entry)) (entry_word (published (entry_of n s.words p.entry).generation (cycle_of (phase_of n s.words)) p.address)))
+    → NamesHold n w
+    (set s.words (index n (entry p.entry))
+    (entry_word (published (entry_of n s.words p.entry).generation (cycle_of (phase_of n s.words)) p.address)))
     (with_point s.front (Did p.mutator (call.New p.root p.fields) (reply.Made (name_made n s.words p))))
     (record (answered s.facets p.mutator left) { held = set s.facets.held p.mutator (name_made n s.words p ∷ []) })
 publication_kept n w s p left of_it may names =
@@ -147,15 +162,18 @@ publication_kept n w s p left of_it may names =
     (with_point s.front (Did p.mutator (call.New p.root p.fields) (reply.Made (name_made n s.words p)))) s.facets
     (record (answered s.facets p.mutator left) { held = set s.facets.held p.mutator (name_made n s.words p ∷ []) })
     (phase_else n s.words p.entry word may.entry) refl refl refl
-    (λ freed hold. hold_publishes n w s.words s.front (with_freed s.facets freed) p.mutator p.root p.fields p.entry g p.address left
+    (λ freed hold. hold_publishes n w s.words s.front (with_freed s.facets freed) p.mutator p.root p.fields p.entry
+    g p.address left
     of_it may.entry fits may.mutator may.root may.next may.free refl may.generation hold) names
 
 -- ---- any step
 
-pub step_kept : (n : Numbers) (w : Facts) (s after : NameScene) → IsWorkloadOf n w → NameStep n w s after → NamesHoldIn n w s → NamesHoldIn n w after
+pub step_kept : (n : Numbers) (w : Facts) (s after : NameScene) → IsWorkloadOf n w → NameStep n w s after
+    → NamesHoldIn n w s → NamesHoldIn n w after
 step_kept n w s _ of_it (Stores us leaves) names =
     go_on n w s.words us s.front s.front s.facets s.facets (phase_same n s.words us leaves.table.phase) refl refl refl
-    (λ freed hold. hold_stores n w s.words us s.front (with_freed s.facets freed) leaves.size leaves.table leaves.slots hold) names
+    (λ freed hold. hold_stores n w s.words us s.front (with_freed s.facets freed) leaves.size leaves.table
+    leaves.slots hold) names
 step_kept n w s _ of_it (Puts p v within slot good) names =
     let us : List ℕ = set s.words (index n p) v in
     let other = slot_rank p slot in
@@ -163,61 +181,77 @@ step_kept n w s _ of_it (Puts p v within slot good) names =
     (phase_same n s.words us (table_frame n s.words p v within other.0 other.1).phase) refl refl refl
     (λ freed hold. hold_puts n w s.words s.front (with_freed s.facets freed) p v within other.0 other.1 good hold) names
 step_kept n w s _ of_it (Holds seat used good) names =
-    go_on n w s.words s.words s.front s.front s.facets (record s.facets { held = set s.facets.held seat used }) refl refl refl refl
+    go_on n w s.words s.words s.front s.front s.facets (record s.facets { held = set s.facets.held seat used }) refl
+    refl refl refl
     (λ freed hold. hold_holds n w s.words s.front (with_freed s.facets freed) seat used good hold) names
 step_kept n w s _ of_it (Tries m before after at step) names =
-    go_on n w s.words s.words s.front s.front s.facets (record s.facets { trying = set s.facets.trying m after }) refl refl refl refl
+    go_on n w s.words s.words s.front s.front s.facets (record s.facets { trying = set s.facets.trying m after })
+    refl refl refl refl
     (attempt_kept n w s m before after step at) names
 step_kept n w s _ of_it (Decides us m c r left next decision leaves) names =
     go_on n w s.words us s.front (with_point s.front (Did m c r)) s.facets (answered s.facets m left)
-    (phase_same n s.words us leaves.table.phase) refl refl refl (decision_kept n w s us m c r left decision next leaves) names
+    (phase_same n s.words us leaves.table.phase) refl refl refl
+    (decision_kept n w s us m c r left decision next leaves) names
 step_kept n w s _ of_it (Publishes p left may) names = publication_kept n w s p left of_it may names
 step_kept n w s _ of_it (Marks c x e keeps trace epoch good) names =
     go_on n w s.words (set s.words (index n (entry x)) (entry_word e)) s.front s.front s.facets s.facets
     (phase_else n s.words x (entry_word e) keeps.within) refl refl refl
-    (λ freed hold. hold_touches n w s.words s.front (with_freed s.facets freed) x e keeps.within keeps.fits keeps.taken keeps.generation
+    (λ freed hold. hold_touches n w s.words s.front (with_freed s.facets freed) x e keeps.within keeps.fits
+    keeps.taken keeps.generation
     (inl (c, trace, epoch, good)) hold) names
 step_kept n w s _ of_it (Moves x e keeps epoch) names =
     go_on n w s.words (set s.words (index n (entry x)) (entry_word e)) s.front s.front s.facets s.facets
     (phase_else n s.words x (entry_word e) keeps.within) refl refl refl
-    (λ freed hold. hold_touches n w s.words s.front (with_freed s.facets freed) x e keeps.within keeps.fits keeps.taken keeps.generation
+    (λ freed hold. hold_touches n w s.words s.front (with_freed s.facets freed) x e keeps.within keeps.fits
+    keeps.taken keeps.generation
     (inr epoch) hold) names
 step_kept n w s _ of_it (Snaps c through sent may none) names =
     go_snaps n w s.words s.front s.facets c through sent of_it may.idle may.cycle_left may.slots may.rooted
     (some_servers n w s.front of_it names.hold.answers.lawful) none.servers none.senders none.start none.empty names
 step_kept n w s _ of_it (Evacuates c trace marked) names =
-    go_evacuates n w s.words s.front s.facets c of_it (in_phase n w s.words s.front (Trace c) names.hold.answers.lawful names.hold.table trace) trace marked names
+    go_evacuates n w s.words s.front s.facets c of_it
+    (in_phase n w s.words s.front (Trace c) names.hold.answers.lawful names.hold.table trace) trace marked names
 step_kept n w s _ of_it (Finishes c evac read) names =
-    go_finishes n w s.words s.front s.facets c of_it (in_phase n w s.words s.front (Evac c) names.hold.answers.lawful names.hold.table evac) evac read.through read.read names
+    go_finishes n w s.words s.front s.facets c of_it
+    (in_phase n w s.words s.front (Evac c) names.hold.answers.lawful names.hold.table evac) evac read.through
+    read.read names
 step_kept n w s _ of_it (Stops c idle) names =
-    go_stops n w s.words s.front s.facets c of_it (in_phase n w s.words s.front (Idle c) names.hold.answers.lawful names.hold.table idle) idle names
-step_kept n w s _ of_it (Passes c server i comes how) names = go_passes n w s.words s.front s.facets c server i comes.evacuates comes.at comes.more how names
+    go_stops n w s.words s.front s.facets c of_it
+    (in_phase n w s.words s.front (Idle c) names.hold.answers.lawful names.hold.table idle) idle names
+step_kept n w s _ of_it (Passes c server i comes how) names =
+    go_passes n w s.words s.front s.facets c server i comes.evacuates comes.at comes.more how names
 step_kept n w s _ of_it (Frees c server i sent e comes may) names =
-    go_frees n w s.words s.front s.facets c server i sent e may.fits comes.evacuates comes.at comes.more may.sent_is may.ahead
+    go_frees n w s.words s.front s.facets c server i sent e may.fits comes.evacuates comes.at comes.more may.sent_is
+    may.ahead
     may.taken may.epoch may.free may.generation names
-step_kept n w s _ of_it (Gets c name rest evac at) names = go_gets n w s.words s.front s.facets c name rest evac at names
+step_kept n w s _ of_it (Gets c name rest evac at) names =
+    go_gets n w s.words s.front s.facets c name rest evac at names
 step_kept n w s _ of_it (ReadsOn c evac at) names = go_ends n w s.words s.front s.facets c evac at names
 
 -- ---- runs
 
-pub opening_names : (n : Numbers) (w : Facts) (s : NameScene) → IsWorkloadOf n w → IsNameOpening n w s → NamesHoldIn n w s
+pub opening_names : (n : Numbers) (w : Facts) (s : NameScene) → IsWorkloadOf n w → IsNameOpening n w s
+    → NamesHoldIn n w s
 opening_names n w s of_it opening = record {
   freed = [];
   hold = subst (λ front. NamesHoldWith n w s.words front (with_freed s.facets [])) (sym opening.front)
-      (hold_opening n w s.words (with_freed s.facets []) of_it opening.board opening.size opening.idle opening.taken opening.generation
+      (hold_opening n w s.words (with_freed s.facets []) of_it opening.board opening.size opening.idle opening.taken
+      opening.generation
       opening.epoch opening.others opening.slots opening.held opening.attempts opening.programs);
   gathering = subst (λ p. GatheringFits p [] s.facets.through s.facets.sent s.facets.collector) (sym opening.idle) tt;
 }
 
 pub reached_names : (n : Numbers) (w : Facts) (s : NameScene) → IsWorkloadOf n w → Reached n w s → NamesHoldIn n w s
 reached_names n w _ of_it (Opened s opening) = opening_names n w s of_it opening
-reached_names n w _ of_it (Stepped s after reached step) = step_kept n w s after of_it step (reached_names n w s of_it reached)
+reached_names n w _ of_it (Stepped s after reached step) =
+    step_kept n w s after of_it step (reached_names n w s of_it reached)
 
 pub reached_answers : (n : Numbers) (w : Facts) (s : NameScene) → IsWorkloadOf n w → Reached n w s → Answers w s.front
 reached_answers n w s of_it reached = (reached_names n w s of_it reached).hold.answers
 
 pub reached_to_end : (n : Numbers) (w : Facts) (s : NameScene) → IsWorkloadOf n w → Reached n w s
-    → ((m : ℕ) (program : List Call) → slice_get w.programs m ≡ Some program → slice_get s.facets.left m ≡ Some []) → AnswersToEnd w s.front
+    → ((m : ℕ) (program : List Call) → slice_get w.programs m ≡ Some program → slice_get s.facets.left m ≡ Some [])
+    → AnswersToEnd w s.front
 reached_to_end n w s of_it reached none =
     let names = reached_names n w s of_it reached in
     to_the_end w s.front s.facets.left names.hold.left none names.hold.answers

@@ -17,7 +17,8 @@ use Rattle.mako_names.proofs.Good.{entry_tells, good_is_taken}
 use Rattle.mako_names.proofs.NoticeKinds.{notices_all}
 use Rattle.mako_names.proofs.TraceKinds.{past_have_epoch}
 
-pub entries_tell : (n : Numbers) (w : Facts) (s : NameScene) (x : ℕ) → NamesHoldIn n w s → x < all_entries n → EntryTells n s.words w s.front x
+pub entries_tell : (n : Numbers) (w : Facts) (s : NameScene) (x : ℕ) → NamesHoldIn n w s → x < all_entries n
+    → EntryTells n s.words w s.front x
 entries_tell n w s x names within = entry_tells n s.words w s.front x names.hold.answers.lawful names.hold.table within
 
 pub good_are_taken : (n : Numbers) (w : Facts) (s : NameScene) (x g : ℕ) → IsWorkloadOf n w → NamesHoldIn n w s
@@ -40,20 +41,24 @@ module _ (n : Numbers) (w : Facts) (s : NameScene) where
       → (entry_of n s.words (entry_by n server i)).taken ≡ true → (entry_of n s.words (entry_by n server i)).epoch ≡ c
   passed_have_epoch c server i through names evac at low taken =
       let bounds = (gathered c names evac).bounds in
-      let t = map_get (λ (f : Freeing). f.through) names.freed server through (subst (λ xs. slice_get xs server ≡ Some through) bounds at) in
-      let epochs : EpochsStand n s.words w s.front.history c = subst (λ p. EpochsFit p n s.words w s.front.history) evac names.hold.epochs in
+      let t = map_get (λ (f : Freeing). f.through) names.freed server through
+      (subst (λ xs. slice_get xs server ≡ Some through) bounds at) in
+      let epochs : EpochsStand n s.words w s.front.history c =
+      subst (λ p. EpochsFit p n s.words w s.front.history) evac names.hold.epochs in
       let same = t.2 in
       past_have_epoch n w s.words s.front.history c server i names.freed t.0 epochs (freed_so_far c names evac) t.1
       (let d : i < t.0.through = omega arith in d) taken
 
-  pub lists_are_freed : (c : ℕ) → IsWorkloadOf n w → NamesHoldIn n w s → phase_of n s.words ≡ Evac c → AllIsRead n s.facets
+  pub lists_are_freed : (c : ℕ) → IsWorkloadOf n w → NamesHoldIn n w s → phase_of n s.words ≡ Evac c
+      → AllIsRead n s.facets
       → AreFreed w s.front.history c s.facets.collector.names
   lists_are_freed c of_it names evac read =
       let was = gathered c names evac in
       let stands = freed_so_far c names evac in
       let all : (server : ℕ) (f : Freeing) → slice_get names.freed server ≡ Some f → f.through ≡ own_entries n =
       λ server f at. read.through server f.through
-      (subst (λ xs. slice_get xs server ≡ Some f.through) (sym was.bounds) (get_map (λ (z : Freeing). z.through) names.freed server f at)) in
+      (subst (λ xs. slice_get xs server ≡ Some f.through) (sym was.bounds)
+      (get_map (λ (z : Freeing). z.through) names.freed server f at)) in
       let size = stands.size in
       let done = read.read in
       let whole = notices_all names.freed s.facets.sent s.facets.collector

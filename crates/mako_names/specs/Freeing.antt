@@ -30,7 +30,8 @@ pub record IsFreedIn (w : Facts) (history : List Point) (cycle : ℕ) (name : Na
 -- these are the names that the cycle frees of the entries from one up to another, in order
 pub record AreFreedOf (w : Facts) (history : List Point) (cycle low high : ℕ) (names : List Name) : Type 0 where
   pub rising : IsStrictlySortedBy name_cmp names
-  pub each : (name : Name) → Contains names name ↔ (IsFreedIn w history cycle name × (low ≤ name.entry) × (name.entry < high))
+  pub each : (name : Name)
+      → Contains names name ↔ (IsFreedIn w history cycle name × (low ≤ name.entry) × (name.entry < high))
 
 -- how many entries a server has
 abbrev pub own_entries : Numbers → ℕ
@@ -42,21 +43,26 @@ entry_by n s i = s * own_entries n + i
 
 -- each name that the cycle has still to free of the entry is that for which it is taken
 abbrev pub IsLeftIn : Facts → List Point → ℕ → ℕ → Bool → ℕ → Type 0
-IsLeftIn w history cycle x taken generation = (g : ℕ) → IsFreedIn w history cycle (name_of x g) → (taken ≡ true) × (generation ≡ g)
+IsLeftIn w history cycle x taken generation =
+    (g : ℕ) → IsFreedIn w history cycle (name_of x g) → (taken ≡ true) × (generation ≡ g)
 
 -- if it is taken, its name is not dead in the cycle
 abbrev pub IsPast : Facts → List Point → ℕ → ℕ → Bool → ℕ → Type 0
 IsPast w history cycle x taken generation = taken ≡ true → ¬ IsDead w history cycle (name_of x generation)
 
 -- what each server has freed in the cycle is what the cycle frees of the entries that it has gone over
-pub record FreeingStands (n : Numbers) (ws : List ℕ) (w : Facts) (history : List Point) (cycle : ℕ) (servers : List Freeing) : Type 0 where
+pub record FreeingStands (n : Numbers) (ws : List ℕ) (w : Facts) (history : List Point) (cycle : ℕ)
+    (servers : List Freeing) : Type 0 where
   pub size : length servers ≡ n.servers
   pub within : (s : ℕ) (f : Freeing) → slice_get servers s ≡ Some f → f.through ≤ own_entries n
-  pub names : (s : ℕ) (f : Freeing) → slice_get servers s ≡ Some f → AreFreedOf w history cycle (entry_by n s 0) (entry_by n s f.through) f.names
+  pub names : (s : ℕ) (f : Freeing) → slice_get servers s ≡ Some f
+      → AreFreedOf w history cycle (entry_by n s 0) (entry_by n s f.through) f.names
   pub left : (s i : ℕ) (f : Freeing) → slice_get servers s ≡ Some f → f.through ≤ i → i < own_entries n →
-      IsLeftIn w history cycle (entry_by n s i) (entry_of n ws (entry_by n s i)).taken (entry_of n ws (entry_by n s i)).generation
+      IsLeftIn w history cycle (entry_by n s i) (entry_of n ws (entry_by n s i)).taken
+      (entry_of n ws (entry_by n s i)).generation
   pub past : (s i : ℕ) (f : Freeing) → slice_get servers s ≡ Some f → i < f.through →
-      IsPast w history cycle (entry_by n s i) (entry_of n ws (entry_by n s i)).taken (entry_of n ws (entry_by n s i)).generation
+      IsPast w history cycle (entry_by n s i) (entry_of n ws (entry_by n s i)).taken
+      (entry_of n ws (entry_by n s i)).generation
 
 -- it is so while a cycle runs
 abbrev pub FreeingFits : PhaseWord → Numbers → List ℕ → Facts → List Point → List Freeing → Type 0
@@ -72,7 +78,8 @@ pub record IsMarked (w : Facts) (history : List Point) (cycle x generation epoch
   pub old : epoch ≤ cycle
 
 abbrev pub EpochsStand : Numbers → List ℕ → Facts → List Point → ℕ → Type 0
-EpochsStand n ws w history cycle = (x : ℕ) → x < all_entries n → (entry_of n ws x).taken ≡ true → IsMarked w history cycle x (entry_of n ws x).generation (entry_of n ws x).epoch
+EpochsStand n ws w history cycle = (x : ℕ) → x < all_entries n → (entry_of n ws x).taken ≡ true
+    → IsMarked w history cycle x (entry_of n ws x).generation (entry_of n ws x).epoch
 
 -- the points since the last snapshot
 abbrev pub after_next : List Point → Point → List Point
@@ -85,8 +92,11 @@ since_snap history = fold after_next [] history
 -- While servers trace, a taken entry with the cycle's epoch is that of a good name, one that was made since the
 -- snapshot has it, and none has a later one.
 pub record TraceStands (n : Numbers) (ws : List ℕ) (w : Facts) (history : List Point) (cycle : ℕ) : Type 0 where
-  pub good : (x : ℕ) → x < all_entries n → (entry_of n ws x).taken ≡ true → (entry_of n ws x).epoch ≡ cycle → ¬ IsDead w history cycle (name_of x (entry_of n ws x).generation)
-  pub young : (x : ℕ) → x < all_entries n → (entry_of n ws x).taken ≡ true → Contains (flat_map made_by (since_snap history)) (name_of x (entry_of n ws x).generation) → (entry_of n ws x).epoch ≡ cycle
+  pub good : (x : ℕ) → x < all_entries n → (entry_of n ws x).taken ≡ true → (entry_of n ws x).epoch ≡ cycle
+      → ¬ IsDead w history cycle (name_of x (entry_of n ws x).generation)
+  pub young : (x : ℕ) → x < all_entries n → (entry_of n ws x).taken ≡ true
+      → Contains (flat_map made_by (since_snap history)) (name_of x (entry_of n ws x).generation)
+      → (entry_of n ws x).epoch ≡ cycle
   pub old : (x : ℕ) → x < all_entries n → (entry_of n ws x).taken ≡ true → (entry_of n ws x).epoch ≤ cycle
 
 -- what epochs tell in the phase
@@ -98,4 +108,5 @@ EpochsFit (Stop c) n ws w history = EpochsStand n ws w history c
 
 -- each name that was reachable at the snapshot has the cycle's epoch
 abbrev pub AllMarked : Numbers → List ℕ → Facts → List Point → ℕ → Type 0
-AllMarked n ws w history cycle = (before after : List Point) (x g : ℕ) → history ≡ before ++ Snap cycle ∷ after → IsReachable (state_of w before) (name_of x g) → (entry_of n ws x).epoch ≡ cycle
+AllMarked n ws w history cycle = (before after : List Point) (x g : ℕ) → history ≡ before ++ Snap cycle ∷ after
+    → IsReachable (state_of w before) (name_of x g) → (entry_of n ws x).epoch ≡ cycle

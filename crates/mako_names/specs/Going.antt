@@ -1,4 +1,5 @@
--- The same with what each view has of the freed names: how far a server has gone, what is sent, and what the collector has got.
+-- The same with what each view has of the freed names: how far a server has gone, what is sent, and what the
+-- collector has got.
 use Rattle.std.specs.Prelude.{◌≡◌, ℕ, List, map}
 use Rattle.mako_words.specs.declared.name.Name.{Name}
 use Rattle.mako_words.specs.declared.phase_word.PhaseWord.{PhaseWord}
@@ -14,7 +15,8 @@ use Rattle.mako_names.specs.Tables.{phase_of}
 use Rattle.mako_names.specs.Trying.{Trying}
 
 -- What is read of the machines: by seat the names still to be used; by mutator its last attempt and the calls that are
--- left; by server how many entries it has gone over in the present cycle; by server the names in its notice ring and the
+-- left; by server how many entries it has gone over in the present cycle; by server the names in its notice ring and
+-- the
 -- one on its way there; and the collector's list with the server that it reads.
 pub record Facets : Type 0 where
   pub held : List (List Name)
@@ -29,7 +31,8 @@ abbrev pub with_freed : Facets → List Freeing → NameFacets
 with_freed facets freed = record { held = facets.held; trying = facets.trying; left = facets.left; freeing = freed }
 
 -- what each server has freed is what was sent and got of it
-pub record GatheringStands (freed : List Freeing) (through : List ℕ) (sent : List (List Name)) (collector : Gathering) : Type 0 where
+pub record GatheringStands (freed : List Freeing) (through : List ℕ) (sent : List (List Name))
+    (collector : Gathering) : Type 0 where
   pub bounds : through ≡ map (λ (f : Freeing). f.through) freed
   pub notices : NoticesStand freed sent collector
 

@@ -15,7 +15,8 @@ use Rattle.mako_names.specs.Uses.{UsesStand}
 
 -- what is left of the mutator's program after its answered calls
 abbrev pub IsLeft : Facts → List Point → ℕ → List Call → Type 0
-IsLeft w history m left = (program : List Call) → slice_get w.programs m ≡ Some program → program ≡ calls_by m history ++ left
+IsLeft w history m left =
+    (program : List Call) → slice_get w.programs m ≡ Some program → program ≡ calls_by m history ++ left
 
 -- of each program the calls that are left are those that are not answered yet
 abbrev pub AllLeft : Facts → List Point → List (List Call) → Type 0

@@ -18,6 +18,8 @@ names_before (suc s) (f ∷ servers) = f.names ++ names_before s servers
 -- that its view has still to put there.
 pub record NoticesStand (servers : List Freeing) (sent : List (List Name)) (collector : Gathering) : Type 0 where
   pub size : length sent ≡ length servers
-  pub got : (names : List Name) → slice_get sent collector.server ≡ Some names → collector.names ++ names ≡ names_before (suc collector.server) servers
-  pub ahead : (s : ℕ) (f : Freeing) (names : List Name) → collector.server < s → slice_get servers s ≡ Some f → slice_get sent s ≡ Some names → names ≡ f.names
+  pub got : (names : List Name) → slice_get sent collector.server ≡ Some names
+      → collector.names ++ names ≡ names_before (suc collector.server) servers
+  pub ahead : (s : ℕ) (f : Freeing) (names : List Name) → collector.server < s → slice_get servers s ≡ Some f
+      → slice_get sent s ≡ Some names → names ≡ f.names
   pub all : length servers ≤ collector.server → collector.names ≡ names_before collector.server servers

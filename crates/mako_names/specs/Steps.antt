@@ -81,18 +81,22 @@ pub data AttemptStep (n : Numbers) (w : Facts) (s : NameScene) (m : ℕ) : Tryin
   -- it asks for the cycle after that of the phase
   Asks : (known : Trying) → AttemptStep n w s m known (trying.Asked (cycle_of (phase_of n s.words) + 1))
   -- the cycle that it asked for is finished, or no cycle is left: its last attempt begins
-  Waited : (k fields : ℕ) → IsToldFinished (phase_of n s.words) k → AttemptStep n w s m (trying.Asked k) (trying.Last fields 0 0)
-  FindsNoneLeft : (known : Trying) (fields : ℕ) → cycle_of (phase_of n s.words) ≡ w.cycles → AttemptStep n w s m known (trying.Last fields 0 0)
+  Waited : (k fields : ℕ) → IsToldFinished (phase_of n s.words) k
+      → AttemptStep n w s m (trying.Asked k) (trying.Last fields 0 0)
+  FindsNoneLeft : (known : Trying) (fields : ℕ) → cycle_of (phase_of n s.words) ≡ w.cycles
+      → AttemptStep n w s m known (trying.Last fields 0 0)
   -- the entry that it looks at has no room
   Sees : (fields tablets entries : ℕ) → looked_at w m tablets entries < all_entries n
       → HasNoRoom w (entry_of n s.words (looked_at w m tablets entries))
       → AttemptStep n w s m (trying.Last fields tablets entries) (trying.Last fields tablets (entries + 1))
   -- all entries of the tablet were seen, or its words are too few
-  GoesOver : (fields tablets : ℕ) → AttemptStep n w s m (trying.Last fields tablets w.entries) (trying.Last fields (tablets + 1) 0)
+  GoesOver : (fields tablets : ℕ)
+      → AttemptStep n w s m (trying.Last fields tablets w.entries) (trying.Last fields (tablets + 1) 0)
   Lacks : (fields tablets : ℕ) → LacksWords n w s (tablet_at w m tablets) fields
       → AttemptStep n w s m (trying.Last fields tablets 0) (trying.Last fields (tablets + 1) 0)
   -- it made a note, so that nothing it went over counts; or it forgets all it knows
-  Notes : (fields tablets entries : ℕ) → AttemptStep n w s m (trying.Last fields tablets entries) (trying.Last fields 0 0)
+  Notes : (fields tablets entries : ℕ)
+      → AttemptStep n w s m (trying.Last fields tablets entries) (trying.Last fields 0 0)
   Forgets : (known : Trying) → AttemptStep n w s m known trying.Nothing
 
 -- ---- points of mutators
@@ -111,7 +115,8 @@ pub data Decision (n : Numbers) (w : Facts) (s : NameScene) (m : ℕ) : Call →
   Plain : (c : Call) (r : Reply) → IsPlain r → IsLawful (state_of w s.front.history) (Did m c r) → Decision n w s m c r
   -- its last attempt has gone over all tablets
   Starves : (root fields : ℕ) → m < length w.programs → root < w.roots
-      → slice_get s.facets.trying m ≡ Some (trying.Last fields w.tablets 0) → Decision n w s m (call.New root fields) reply.Full
+      → slice_get s.facets.trying m ≡ Some (trying.Last fields w.tablets 0)
+      → Decision n w s m (call.New root fields) reply.Full
   -- the cycle that it asked for is finished
   Collects : (k : ℕ) → m < length w.programs → slice_get s.facets.trying m ≡ Some (trying.Asked k)
       → IsToldFinished (phase_of n s.words) k → Decision n w s m call.Collect (reply.Cycle k)
@@ -150,7 +155,9 @@ with_publication n s p left = record {
   words = slice_set s.words (index n (entry p.entry))
       (entry_word (published (entry_of n s.words p.entry).generation (cycle_of (phase_of n s.words)) p.address));
   front = with_point s.front (Did p.mutator (call.New p.root p.fields) (reply.Made (name_made n s.words p)));
-  facets = record (answered s.facets p.mutator left) { held = slice_set s.facets.held p.mutator (name_made n s.words p ∷ []) };
+  facets =
+      record (answered s.facets p.mutator left)
+      { held = slice_set s.facets.held p.mutator (name_made n s.words p ∷ []) };
 }
 
 -- ---- entries that keep their names
@@ -168,8 +175,10 @@ pub record KeepsName (n : Numbers) (ws : List ℕ) (x : ℕ) (e : EntryWord) : T
 pub record MaySnap (n : Numbers) (w : Facts) (s : NameScene) (c : ℕ) : Type 0 where
   pub idle : phase_of n s.words ≡ Idle c
   pub cycle_left : c < w.cycles
-  pub slots : (p : Place) (name : Name) → Within n p → IsUseSlot p → FitsName name → word_at n s.words p ≡ name_word name → ⊥
-  pub rooted : (seat : ℕ) (names : List Name) (name : Name) → slice_get s.facets.held seat ≡ Some names → Contains names name
+  pub slots : (p : Place) (name : Name) → Within n p → IsUseSlot p → FitsName name
+      → word_at n s.words p ≡ name_word name → ⊥
+  pub rooted : (seat : ℕ) (names : List Name) (name : Name) → slice_get s.facets.held seat ≡ Some names
+      → Contains names name
       → StandsInRoot (state_of w s.front.history) name
 
 -- no server has gone over an entry in the cycle, and none has sent a name
@@ -229,7 +238,8 @@ pub data NameStep (n : Numbers) (w : Facts) (s : NameScene) : NameScene → Type
   -- words are stored in which no name is looked for
   Stores : (us : List ℕ) → LeavesNames n s.words us → NameStep n w s (record s { words = us })
   -- a slot is filled or emptied
-  Puts : (p : Place) (v : ℕ) → Within n p → IsUseSlot p → IsGoodWord w s.front.history v → NameStep n w s (stored n s p v)
+  Puts : (p : Place) (v : ℕ) → Within n p → IsUseSlot p → IsGoodWord w s.front.history v
+      → NameStep n w s (stored n s p v)
   -- a seat has these names to use, each of them good
   Holds : (seat : ℕ) (names : List Name) → ((name : Name) → Contains names name → IsGood w s.front.history name)
       → NameStep n w s (record s { facets = record s.facets { held = slice_set s.facets.held seat names } })
@@ -237,11 +247,14 @@ pub data NameStep (n : Numbers) (w : Facts) (s : NameScene) : NameScene → Type
   Tries : (m : ℕ) (before after : Trying) → slice_get s.facets.trying m ≡ Some before → AttemptStep n w s m before after
       → NameStep n w s (record s { facets = record s.facets { trying = slice_set s.facets.trying m after } })
   -- a call is decided that makes no name
-  Decides : (us : List ℕ) (m : ℕ) (c : Call) (r : Reply) (left : List Call) → slice_get s.facets.left m ≡ Some (c ∷ left)
+  Decides : (us : List ℕ) (m : ℕ) (c : Call) (r : Reply) (left : List Call)
+      → slice_get s.facets.left m ≡ Some (c ∷ left)
       → Decision n w s m c r → LeavesNames n s.words us
-      → NameStep n w s (record { words = us; front = with_point s.front (Did m c r); facets = answered s.facets m left })
+      → NameStep n w s
+      (record { words = us; front = with_point s.front (Did m c r); facets = answered s.facets m left })
   -- a `New` publishes its object
-  Publishes : (p : Publication) (left : List Call) → MayPublish n w s p left → NameStep n w s (with_publication n s p left)
+  Publishes : (p : Publication) (left : List Call) → MayPublish n w s p left
+      → NameStep n w s (with_publication n s p left)
   -- while servers trace, an entry whose name is good gets the cycle's epoch
   Marks : (c x : ℕ) (e : EntryWord) → KeepsName n s.words x e → phase_of n s.words ≡ Trace c → e.epoch ≡ c
       → IsGood w s.front.history (name_of x e.generation) → NameStep n w s (stored n s (entry x) (entry_word e))
@@ -264,7 +277,8 @@ pub data NameStep (n : Numbers) (w : Facts) (s : NameScene) : NameScene → Type
   Stops : (c : ℕ) → phase_of n s.words ≡ Idle c → NameStep n w s (stored n s phase (phase_word (Stop c)))
   -- a server goes over an entry that is free, or has the cycle's epoch
   Passes : (c server i : ℕ) → ComesTo n s c server i
-      → ((entry_of n s.words (entry_by n server i)).taken ≡ false) ⊎ ((entry_of n s.words (entry_by n server i)).epoch ≡ c)
+      → ((entry_of n s.words (entry_by n server i)).taken ≡ false)
+      ⊎ ((entry_of n s.words (entry_by n server i)).epoch ≡ c)
       → NameStep n w s (record s { facets = record s.facets { through = slice_set s.facets.through server (i + 1) } })
   -- it frees an entry of another epoch
   Frees : (c server i : ℕ) (sent : List Name) (e : EntryWord) → ComesTo n s c server i → MayFree n s c server i sent e
@@ -272,13 +286,19 @@ pub data NameStep (n : Numbers) (w : Facts) (s : NameScene) : NameScene → Type
   -- the collector gets the next name of the server that it reads
   Gets : (c : ℕ) (name : Name) (names : List Name) → phase_of n s.words ≡ Evac c
       → slice_get s.facets.sent s.facets.collector.server ≡ Some (name ∷ names)
-      → NameStep n w s (record s { facets = record s.facets {
-        sent = slice_set s.facets.sent s.facets.collector.server names;
-        collector = record s.facets.collector { names = s.facets.collector.names ++ name ∷ [] };
-      } })
+      → NameStep n w s (record s {
+        facets = record s.facets {
+          sent = slice_set s.facets.sent s.facets.collector.server names;
+          collector = record s.facets.collector { names = s.facets.collector.names ++ name ∷ [] };
+        };
+      })
   -- or goes on to the next server, where this one has nothing sent any more
   ReadsOn : (c : ℕ) → phase_of n s.words ≡ Evac c → slice_get s.facets.sent s.facets.collector.server ≡ Some []
-      → NameStep n w s (record s { facets = record s.facets { collector = record s.facets.collector { server = suc s.facets.collector.server } } })
+      → NameStep n w s
+      (record s {
+        facets =
+            record s.facets { collector = record s.facets.collector { server = suc s.facets.collector.server } };
+      })
 
 -- ---- runs
 
@@ -291,11 +311,13 @@ pub record IsNameOpening (n : Numbers) (w : Facts) (s : NameScene) : Type 0 wher
   pub taken : (entry_of n s.words 0).taken ≡ true
   pub generation : (entry_of n s.words 0).generation ≡ 0
   pub epoch : (entry_of n s.words 0).epoch ≡ 0
-  pub others : (x : ℕ) → 0 < x → x < all_entries n → ((entry_of n s.words x).taken ≡ false) × ((entry_of n s.words x).generation ≡ 0)
+  pub others : (x : ℕ) → 0 < x → x < all_entries n → ((entry_of n s.words x).taken ≡ false)
+      × ((entry_of n s.words x).generation ≡ 0)
   pub slots : (p : Place) → Within n p → IsUseSlot p → word_at n s.words p ≡ 0
   pub held : (seat : ℕ) (names : List Name) → slice_get s.facets.held seat ≡ Some names → names ≡ []
   pub attempts : (m : ℕ) (known : Trying) → slice_get s.facets.trying m ≡ Some known → known ≡ trying.Nothing
-  pub programs : (m : ℕ) (left program : List Call) → slice_get s.facets.left m ≡ Some left → slice_get w.programs m ≡ Some program
+  pub programs : (m : ℕ) (left program : List Call) → slice_get s.facets.left m ≡ Some left
+      → slice_get w.programs m ≡ Some program
       → program ≡ left
 
 -- what a heap comes to from its opening by any steps of these kinds

@@ -61,7 +61,8 @@ pub record EntryStands (w : Facts) (front : Seen) (settled entry : ℕ) (taken :
 
 -- each entry stands for the names that were made of it
 abbrev pub EachStands : Numbers → List ℕ → Facts → Seen → ℕ → Type 0
-EachStands n ws w front settled = (x : ℕ) → x < all_entries n → EntryStands w front settled x (entry_of n ws x).taken (entry_of n ws x).generation
+EachStands n ws w front settled = (x : ℕ) → x < all_entries n
+    → EntryStands w front settled x (entry_of n ws x).taken (entry_of n ws x).generation
 
 -- so does the phase word for the snapshots that were taken and the cycles that are finished
 pub record TableStands (n : Numbers) (ws : List ℕ) (w : Facts) (front : Seen) : Type 0 where
@@ -84,13 +85,17 @@ pub record SameTable (n : Numbers) (ws us : List ℕ) : Type 0 where
 abbrev pub published : ℕ → ℕ → ℕ → EntryWord
 published generation epoch address = record { taken = true; generation = generation; epoch = epoch; address = address }
 
--- What it comes to for an entry: its names are those of the generations below a number, and it is taken with the last of
+-- What it comes to for an entry: its names are those of the generations below a number, and it is taken with the last
+-- of
 -- them or free with the next. Where it is free, its last name is dead at the last snapshot, and while servers trace at
 -- the one before; where it is taken, its name is dead in no finished cycle.
 pub record EntryTells (n : Numbers) (ws : List ℕ) (w : Facts) (front : Seen) (x : ℕ) : Type 0 where
   pub names : (g : ℕ) → Contains (names_made front.history) (name_of x g) ↔ (g < made_of x front.history)
   pub taken : (entry_of n ws x).taken ≡ true → (entry_of n ws x).generation + 1 ≡ made_of x front.history
   pub free : (entry_of n ws x).taken ≡ false → (entry_of n ws x).generation ≡ made_of x front.history
-  pub free_dead : (entry_of n ws x).taken ≡ false → (g : ℕ) → made_of x front.history ≡ g + 1 → IsDead w front.history (state_of w front.history).snaps (name_of x g)
-  pub free_traced : (c g : ℕ) → phase_of n ws ≡ Trace c → (entry_of n ws x).taken ≡ false → made_of x front.history ≡ g + 1 → IsDead w front.history ((state_of w front.history).snaps - 1) (name_of x g)
-  pub held : (k : ℕ) → k ≤ length front.finished → (entry_of n ws x).taken ≡ true → ¬ IsDead w front.history k (name_of x (entry_of n ws x).generation)
+  pub free_dead : (entry_of n ws x).taken ≡ false → (g : ℕ) → made_of x front.history ≡ g + 1
+      → IsDead w front.history (state_of w front.history).snaps (name_of x g)
+  pub free_traced : (c g : ℕ) → phase_of n ws ≡ Trace c → (entry_of n ws x).taken ≡ false
+      → made_of x front.history ≡ g + 1 → IsDead w front.history ((state_of w front.history).snaps - 1) (name_of x g)
+  pub held : (k : ℕ) → k ≤ length front.finished → (entry_of n ws x).taken ≡ true
+      → ¬ IsDead w front.history k (name_of x (entry_of n ws x).generation)

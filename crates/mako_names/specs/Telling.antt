@@ -30,7 +30,8 @@ StepsKeepNames = (n : Numbers) (w : Facts) (s after : NameScene) → IsWorkloadO
 
 -- they hold at the opening
 abbrev pub OpeningsHaveNames : Type 0
-OpeningsHaveNames = (n : Numbers) (w : Facts) (s : NameScene) → IsWorkloadOf n w → IsNameOpening n w s → NamesHoldIn n w s
+OpeningsHaveNames =
+    (n : Numbers) (w : Facts) (s : NameScene) → IsWorkloadOf n w → IsNameOpening n w s → NamesHoldIn n w s
 
 -- so they hold after any steps
 abbrev pub ReachedHaveNames : Type 0
@@ -74,7 +75,8 @@ FieldsAreGood = (w : Facts) (history : List Point) (object name : Name) → IsLe
 
 -- ---- what a cycle comes to
 
--- each name that was reachable at the snapshot has the cycle's epoch, where those in roots have it, and each object that
+-- each name that was reachable at the snapshot has the cycle's epoch, where those in roots have it, and each object
+-- that
 -- has it hands it on to the names in its fields
 abbrev pub MarksReach : Type 0
 MarksReach = (n : Numbers) (w : Facts) (words : List ℕ) (history : List Point) (cycle : ℕ)

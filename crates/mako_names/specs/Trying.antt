@@ -23,7 +23,8 @@ pub record IsLastSoFar (w : Facts) (front : Seen) (m fields tablets entries : �
   pub cycle : ℕ
   pub awaited : IsAwaited front front.history m cycle ⊎ AreSpent w front.history cycle
   pub gone : (passed : ℕ) → passed < tablets → IsTabletFull w front front.history cycle fields (tablet_at w m passed)
-  pub seen : (passed : ℕ) → passed < entries → IsEntryUnavailable w front front.history cycle (tablet_at w m tablets * w.entries + passed)
+  pub seen : (passed : ℕ) → passed < entries
+      → IsEntryUnavailable w front front.history cycle (tablet_at w m tablets * w.entries + passed)
 
 -- A cycle that was asked for comes after the snapshots before the mutator's last point.
 abbrev pub TryingStands : Facts → Seen → ℕ → Trying → Type 0

@@ -22,9 +22,12 @@ IsUseSlot (ghost sender receiver slot) = Unit {0}
 IsUseSlot p = ⊥
 
 -- each name in such a slot, and each that a seat's view has still to use, is good; the names of a view are its facet
-pub record UsesStand (n : Numbers) (ws : List ℕ) (w : Facts) (history : List Point) (views : List (List Name)) : Type 0 where
-  pub slots : (p : Place) (name : Name) → Within n p → IsUseSlot p → FitsName name → word_at n ws p ≡ name_word name → IsGood w history name
-  pub held : (seat : ℕ) (names : List Name) (name : Name) → slice_get views seat ≡ Some names → Contains names name → IsGood w history name
+pub record UsesStand (n : Numbers) (ws : List ℕ) (w : Facts) (history : List Point)
+    (views : List (List Name)) : Type 0 where
+  pub slots : (p : Place) (name : Name) → Within n p → IsUseSlot p → FitsName name → word_at n ws p ≡ name_word name
+      → IsGood w history name
+  pub held : (seat : ℕ) (names : List Name) (name : Name) → slice_get views seat ≡ Some names → Contains names name
+      → IsGood w history name
 
 -- the slots are as they were
 abbrev pub SameSlots : Numbers → List ℕ → List ℕ → Type 0
