@@ -285,8 +285,8 @@ module _ (n : Numbers) (w : Facts) where
             });
       }
 
-  -- The store of Idle: each server has gone over all its entries, and the collector has read all servers. The cycle has
-  -- freed the names of its list.
+  -- The store of Idle: each server has gone over all its entries, and the collector has read all servers. The cycle
+  -- has freed the names of its list.
   pub go_finishes : (ws : List ℕ) (front : Seen) (facets : Facets) (c : ℕ) → IsWorkloadOf n w → c ≤ w.cycles
       → phase_of n ws ≡ Evac c → ((s i : ℕ) → slice_get facets.through s ≡ Some i → i ≡ own_entries n)
       → n.servers ≤ facets.collector.server

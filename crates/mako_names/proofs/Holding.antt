@@ -476,7 +476,8 @@ module _ (n : Numbers) (w : Facts) where
             set facets.freeing s
             (record {
               through = f.through + 1;
-              names = f.names ++ name_of (entry_by n s f.through) (entry_of n ws (entry_by n s f.through)).generation ∷ [];
+              names = f.names
+                  ++ name_of (entry_by n s f.through) (entry_of n ws (entry_by n s f.through)).generation ∷ [];
             });
       })
   hold_frees ws front facets c s f e fits evac here more taken epoch is_free generation hold =

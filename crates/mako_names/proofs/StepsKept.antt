@@ -1,12 +1,14 @@
 -- Each kind of step keeps the ties of names, and so do all runs.
-use Rattle.std.proofs.Common.{◌≡◌, ◌≢◌, ℕ, suc, ◌+◌, ◌*◌, ◌<◌, ◌≤◌, ◌^◌, ◌⊎◌, inl, inr, ⊎_elim, List, [], ◌∷◌, length, set, slice_get, Some, sym, ap, subst, refl, ◌∙◌, arith}
+use Rattle.std.proofs.Common.{◌+◌, ◌≡◌, ◌≢◌, ℕ, ◌*◌, ◌<◌, ◌≤◌, inl, inr, ⊎_elim, List, [], ◌∷◌, set, slice_get, Some, sym, ap, subst, refl, arith}
+use Rattle.std.proofs.Math.Nat.{mod-lt, mul_comm}
 use Rattle.std.proofs.lemmas.Bool.{cases_lt}
-use Rattle.mako_words.specs.declared.name.Name.{Name}
+use Rattle.std.proofs.lemmas.Nat.{mul-add-lt}
 use Rattle.mako_words.specs.declared.phase_word.PhaseWord.{PhaseWord}
-use Rattle.mako_words.specs.declared.phase_word.PhaseWord.TheVariants.{Idle, Trace, Evac, Stop}
+use Rattle.mako_words.specs.declared.phase_word.PhaseWord.TheVariants.{Idle, Trace, Evac}
 use Rattle.mako_words.specs.Entries.{entry_word, FitsEntry}
 use Rattle.mako_words.specs.Phases.{cycle_of}
 use Rattle.mako_shape.specs.declared.numbers.Numbers.{Numbers}
+use Rattle.mako_shape.specs.Limits.{all_entries}
 use Rattle.mako_shape.specs.Places.{Place, entry, barrier, work, ghost, rank, index}
 use Rattle.mako_model.specs.declared.call.Call.{Call}
 use Rattle.mako_model.specs.declared.call.Call.TheVariants as call
@@ -18,19 +20,19 @@ use Rattle.mako_model.specs.Dead.{made_by}
 use Rattle.mako_model.specs.Fronts.{Seen, with_point}
 use Rattle.mako_model.specs.Heaps.{board_name}
 use Rattle.mako_model.specs.LawfulFronts.{IsInRange, IsLawfulFront}
-use Rattle.mako_model.specs.Legal.{Facts, state_of}
+use Rattle.mako_model.specs.Legal.{Facts}
 use Rattle.mako_model.proofs.CycleCounts.{few_snaps}
-use Rattle.mako_names.specs.Counts.{name_of}
 use Rattle.mako_names.specs.Freeing.{Freeing}
-use Rattle.mako_names.specs.Going.{Facets, GatheringFits, NamesHold, with_freed}
+use Rattle.mako_names.specs.Going.{GatheringFits, NamesHold, with_freed}
 use Rattle.mako_names.specs.Holding.{NamesHoldWith}
-use Rattle.mako_names.specs.Steps.{NameScene, NamesHoldIn, LeavesNames, AttemptStep, Asks, Waited, FindsNoneLeft, Sees, GoesOver, Lacks, Notes, Forgets, IsPlain, Decision, Plain, Starves, Collects, Spends, answered, Publication, MayPublish, name_made, NameStep, Stores, Puts, Holds, Tries, Decides, Publishes, Marks, Moves, Snaps, Evacuates, Finishes, Stops, Passes, Frees, Gets, ReadsOn, IsNameOpening, Reached, Opened, Stepped}
+use Rattle.mako_names.specs.Steps.{NameScene, NamesHoldIn, LeavesNames, looked_at, AttemptStep, Asks, Waited, FindsNoneLeft, Sees, GoesOver, Lacks, Notes, Forgets, IsPlain, Decision, Plain, Starves, Collects, Spends, answered, Publication, MayPublish, name_made, NameStep, Stores, Puts, Holds, Tries, Decides, Publishes, Marks, Moves, Snaps, Evacuates, Finishes, Stops, Passes, Frees, Gets, ReadsOn, IsNameOpening, Reached, Opened, Stepped}
 use Rattle.mako_names.specs.Tables.{IsWorkloadOf, TableStands, published, entry_of, phase_of}
 use Rattle.mako_names.specs.Trying as trying
-use Rattle.mako_names.specs.Trying.{Trying}
+use Rattle.mako_names.specs.Trying.{Trying, tablet_at}
 use Rattle.mako_names.specs.Uses.{IsUseSlot}
 use Rattle.mako_names.proofs.Attempts.{hold_asks, hold_begins_awaited, hold_begins_spent, hold_notes, hold_sees, hold_goes_over, hold_lacks, hold_full, hold_answers, hold_spent, some_generation}
 use Rattle.mako_names.proofs.Going.{go_on, go_snaps, go_evacuates, go_stops, go_passes, go_frees, go_gets, go_ends, go_finishes}
+use Rattle.mako_names.proofs.Good.{in_table}
 use Rattle.mako_names.proofs.Holding.{hold_opening, hold_stores, hold_holds, hold_tries, hold_puts, hold_decides, hold_publishes, hold_touches}
 use Rattle.mako_names.proofs.Next.{plain_next, not_full, to_the_end}
 use Rattle.mako_names.proofs.Since.{asked_above}
@@ -60,6 +62,26 @@ module _ (n : Numbers) (w : Facts) where
       let f : w.tablets * w.entries ≡ n.servers * n.tablets * w.entries = ap (λ k. k * w.entries) of_it.tablets in
       absurd (omega arith)) (cases_lt 0 n.servers)
 
+  some_tablets : (front : Seen) → IsLawfulFront w front → 0 < w.tablets
+  some_tablets front lawful =
+      let some = (board_in_range front lawful).entry in
+      ⊎_elim (λ l. l)
+      (λ none.
+      let e : w.tablets * w.entries ≡ 0 * w.entries =
+      ap (λ k. k * w.entries) (let d : w.tablets ≡ 0 = omega arith in d) in
+      absurd (omega arith)) (cases_lt 0 w.tablets)
+
+  -- an entry that an attempt looks at is one of the table
+  looked_within : (front : Seen) (m tablets entries : ℕ) → IsWorkloadOf n w → IsLawfulFront w front
+      → entries < w.entries
+      → looked_at w m tablets entries < all_entries n
+  looked_within front m tablets entries of_it lawful l =
+      let low = mod-lt (m + tablets) (some_tablets front lawful) in
+      let below : looked_at w m tablets entries < w.entries * w.tablets =
+      mul-add-lt (tablet_at w m tablets) w.entries entries w.tablets low l in
+      let turned = mul_comm w.entries w.tablets in
+      in_table n w (looked_at w m tablets entries) of_it (omega arith)
+
   cycle_within : (ws : List ℕ) (front : Seen) → IsLawfulFront w front → TableStands n ws w front
       → cycle_of (phase_of n ws) ≤ w.cycles
   cycle_within ws front lawful table =
@@ -70,35 +92,38 @@ module _ (n : Numbers) (w : Facts) where
       → phase_of n ws ≡ p → cycle_of p ≤ w.cycles
   in_phase ws front p lawful table is = subst (λ q. cycle_of q ≤ w.cycles) is (cycle_within ws front lawful table)
 
--- ---- one step of an attempt
-
+-- a slot is neither the phase nor an entry
 slot_rank : (p : Place) → IsUseSlot p → (rank p ≢ 0) × (rank p ≢ 16)
 slot_rank (barrier m slot) slot_is = ((λ e. omega arith), (λ e. omega arith))
 slot_rank (work s slot) slot_is = ((λ e. omega arith), (λ e. omega arith))
 slot_rank (ghost sender receiver slot) slot_is = ((λ e. omega arith), (λ e. omega arith))
 slot_rank p slot_is = absurd slot_is
 
+-- ---- one step of an attempt
+
 attempt_kept : (n : Numbers) (w : Facts) (s : NameScene) (m : ℕ) (before after : Trying)
-    → AttemptStep n w s m before after
+    → IsWorkloadOf n w → AttemptStep n w s m before after
     → slice_get s.facets.trying m ≡ Some before → (freed : List Freeing)
     → NamesHoldWith n w s.words s.front (with_freed s.facets freed)
     → NamesHoldWith n w s.words s.front (with_freed (record s.facets { trying = set s.facets.trying m after }) freed)
-attempt_kept n w s m _ _ (Asks known) at freed hold = hold_asks n w s.words s.front (with_freed s.facets freed) m hold
-attempt_kept n w s m _ _ (Waited k fields told) at freed hold =
+attempt_kept n w s m _ _ of_it (Asks known) at freed hold =
+    hold_asks n w s.words s.front (with_freed s.facets freed) m hold
+attempt_kept n w s m _ _ of_it (Waited k fields told) at freed hold =
     hold_begins_awaited n w s.words s.front (with_freed s.facets freed) m k fields at told hold
-attempt_kept n w s m _ _ (FindsNoneLeft known fields last) at freed hold =
+attempt_kept n w s m _ _ of_it (FindsNoneLeft known fields last) at freed hold =
     hold_begins_spent n w s.words s.front (with_freed s.facets freed) m fields last hold
-attempt_kept n w s m _ _ (Sees fields tablets entries within found) at freed hold =
-    hold_sees n w s.words s.front (with_freed s.facets freed) m fields tablets entries at within
+attempt_kept n w s m _ _ of_it (Sees fields tablets entries more found) at freed hold =
+    hold_sees n w s.words s.front (with_freed s.facets freed) m fields tablets entries at
+    (looked_within n w s.front m tablets entries of_it hold.answers.lawful more)
     (some_generation n w s.front hold.answers.lawful) found hold
-attempt_kept n w s m _ _ (GoesOver fields tablets) at freed hold =
+attempt_kept n w s m _ _ of_it (GoesOver fields tablets) at freed hold =
     hold_goes_over n w s.words s.front (with_freed s.facets freed) m fields tablets at
     (some_entries n w s.front hold.answers.lawful) hold
-attempt_kept n w s m _ _ (Lacks fields tablets lacks) at freed hold =
+attempt_kept n w s m _ _ of_it (Lacks fields tablets lacks) at freed hold =
     hold_lacks n w s.words s.front (with_freed s.facets freed) m fields tablets at lacks.used lacks.few hold
-attempt_kept n w s m _ _ (Notes fields tablets entries) at freed hold =
+attempt_kept n w s m _ _ of_it (Notes fields tablets entries) at freed hold =
     hold_notes n w s.words s.front (with_freed s.facets freed) m fields tablets entries at hold
-attempt_kept n w s m _ _ (Forgets known) at freed hold =
+attempt_kept n w s m _ _ of_it (Forgets known) at freed hold =
     hold_tries n w s.words s.front (with_freed s.facets freed) m trying.Nothing tt hold
 
 -- ---- one decision
@@ -187,7 +212,7 @@ step_kept n w s _ of_it (Holds seat used good) names =
 step_kept n w s _ of_it (Tries m before after at step) names =
     go_on n w s.words s.words s.front s.front s.facets (record s.facets { trying = set s.facets.trying m after })
     refl refl refl refl
-    (attempt_kept n w s m before after step at) names
+    (attempt_kept n w s m before after of_it step at) names
 step_kept n w s _ of_it (Decides us m c r left next decision leaves) names =
     go_on n w s.words us s.front (with_point s.front (Did m c r)) s.facets (answered s.facets m left)
     (phase_same n s.words us leaves.table.phase) refl refl refl

@@ -11,7 +11,6 @@ use Rattle.mako_model.specs.declared.point.Point.{Point}
 use Rattle.mako_model.specs.declared.point.Point.TheVariants.{Did, Snap}
 use Rattle.mako_model.specs.Fronts.{Seen, with_point, with_cycle}
 use Rattle.mako_model.specs.Heaps.{Heap}
-use Rattle.mako_model.specs.Lawful.{heap_after}
 use Rattle.mako_model.specs.Legal.{Facts, state_of, IsLegal}
 use Rattle.mako_model.specs.Dead.{IsDead}
 use Rattle.mako_model.specs.LawfulFronts.{since, IsLawfulFront}

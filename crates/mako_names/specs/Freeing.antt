@@ -1,4 +1,4 @@
--- Which names a cycle frees, how far each server has freed them, and what epochs tell.
+-- Which names a cycle frees, how far each server has come with freeing them, and what the epochs of entries tell.
 use Rattle.std.specs.Prelude.{ℕ, ◌≡◌, ◌≢◌, ◌+◌, ◌-◌, ◌*◌, ◌<◌, ◌≤◌, ◌↔◌, Bool, true, List, [], ◌∷◌, ◌++◌, length, slice_get, Some}
 use Rattle.std.specs.List.{fold, flat_map, Contains}
 use Rattle.std.specs.List.Sorted.{IsStrictlySortedBy}
@@ -16,13 +16,13 @@ use Rattle.mako_model.specs.Dead.{made_by, IsDead}
 use Rattle.mako_names.specs.Counts.{name_of}
 use Rattle.mako_names.specs.Tables.{entry_of}
 
--- a server's facet: how many of its entries it has gone over to free them in the present cycle, and the names
--- that it has freed in it, in order
+-- Of a server is read: how many of its entries it has gone over in the present cycle, and the names that it has freed
+-- in it, in order.
 pub record Freeing : Type 0 where
   pub through : ℕ
   pub names : List Name
 
--- the cycle frees the name
+-- the cycle frees the name: it is dead in it, and was not in the one before
 pub record IsFreedIn (w : Facts) (history : List Point) (cycle : ℕ) (name : Name) : Type 0 where
   pub dead : IsDead w history cycle name
   pub lived : ¬ IsDead w history (cycle - 1) name
@@ -41,16 +41,18 @@ own_entries n = n.tablets * n.entries
 abbrev pub entry_by : Numbers → ℕ → ℕ → ℕ
 entry_by n s i = s * own_entries n + i
 
--- each name that the cycle has still to free of the entry is that for which it is taken
+-- an entry that is still to be gone over: the name that the cycle frees of it, if any, is the one for which it is
+-- taken
 abbrev pub IsLeftIn : Facts → List Point → ℕ → ℕ → Bool → ℕ → Type 0
 IsLeftIn w history cycle x taken generation =
     (g : ℕ) → IsFreedIn w history cycle (name_of x g) → (taken ≡ true) × (generation ≡ g)
 
--- if it is taken, its name is not dead in the cycle
+-- an entry that was gone over: if it is taken, its name is not dead in the cycle
 abbrev pub IsPast : Facts → List Point → ℕ → ℕ → Bool → ℕ → Type 0
 IsPast w history cycle x taken generation = taken ≡ true → ¬ IsDead w history cycle (name_of x generation)
 
--- what each server has freed in the cycle is what the cycle frees of the entries that it has gone over
+-- What each server has freed in the cycle is what the cycle frees of the entries that it has gone over. The others are
+-- still to be gone over.
 pub record FreeingStands (n : Numbers) (ws : List ℕ) (w : Facts) (history : List Point) (cycle : ℕ)
     (servers : List Freeing) : Type 0 where
   pub size : length servers ≡ n.servers
@@ -64,33 +66,38 @@ pub record FreeingStands (n : Numbers) (ws : List ℕ) (w : Facts) (history : Li
       IsPast w history cycle (entry_by n s i) (entry_of n ws (entry_by n s i)).taken
       (entry_of n ws (entry_by n s i)).generation
 
--- it is so while a cycle runs
+-- it is so while a cycle runs, and else nothing is said
 abbrev pub FreeingFits : PhaseWord → Numbers → List ℕ → Facts → List Point → List Freeing → Type 0
 FreeingFits (Idle c) n ws w history servers = Unit {0}
 FreeingFits (Trace c) n ws w history servers = FreeingStands n ws w history c servers
 FreeingFits (Evac c) n ws w history servers = FreeingStands n ws w history c servers
 FreeingFits (Stop c) n ws w history servers = Unit {0}
 
--- a taken entry has the cycle's epoch where its name is not dead in it, and an earlier one where it is
+-- ---- epochs
+
+-- a taken entry has the cycle's epoch exactly where its name is not dead in it, and else an earlier one
 pub record IsMarked (w : Facts) (history : List Point) (cycle x generation epoch : ℕ) : Type 0 where
   pub good : epoch ≡ cycle → ¬ IsDead w history cycle (name_of x generation)
   pub dead : epoch ≢ cycle → IsDead w history cycle (name_of x generation)
   pub old : epoch ≤ cycle
 
+-- so it is with each taken entry
 abbrev pub EpochsStand : Numbers → List ℕ → Facts → List Point → ℕ → Type 0
 EpochsStand n ws w history cycle = (x : ℕ) → x < all_entries n → (entry_of n ws x).taken ≡ true
     → IsMarked w history cycle x (entry_of n ws x).generation (entry_of n ws x).epoch
 
--- the points since the last snapshot
+-- the points since the last snapshot, with one point more
 abbrev pub after_next : List Point → Point → List Point
 after_next points (Did m c r) = points ++ Did m c r ∷ []
 after_next points (Snap cycle) = []
 
+-- the points since the last snapshot
 abbrev pub since_snap : List Point → List Point
 since_snap history = fold after_next [] history
 
--- While servers trace, a taken entry with the cycle's epoch is that of a good name, one that was made since the
--- snapshot has it, and none has a later one.
+-- While servers trace, an entry may still lack the epoch of a name that is not dead. But one that has the cycle's
+-- epoch is that of a name that is not dead, one whose name was made since the snapshot has it, and none has a later
+-- one.
 pub record TraceStands (n : Numbers) (ws : List ℕ) (w : Facts) (history : List Point) (cycle : ℕ) : Type 0 where
   pub good : (x : ℕ) → x < all_entries n → (entry_of n ws x).taken ≡ true → (entry_of n ws x).epoch ≡ cycle
       → ¬ IsDead w history cycle (name_of x (entry_of n ws x).generation)
@@ -99,7 +106,7 @@ pub record TraceStands (n : Numbers) (ws : List ℕ) (w : Facts) (history : List
       → (entry_of n ws x).epoch ≡ cycle
   pub old : (x : ℕ) → x < all_entries n → (entry_of n ws x).taken ≡ true → (entry_of n ws x).epoch ≤ cycle
 
--- what epochs tell in the phase
+-- what epochs tell, by the phase
 abbrev pub EpochsFit : PhaseWord → Numbers → List ℕ → Facts → List Point → Type 0
 EpochsFit (Idle c) n ws w history = EpochsStand n ws w history c
 EpochsFit (Trace c) n ws w history = TraceStands n ws w history c

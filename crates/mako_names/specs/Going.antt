@@ -1,5 +1,4 @@
--- The same with what each view has of the freed names: how far a server has gone, what is sent, and what the
--- collector has got.
+-- The ties of names: the lists of freed names are those of the servers, of which no seat has a whole one.
 use Rattle.std.specs.Prelude.{◌≡◌, ℕ, List, map}
 use Rattle.mako_words.specs.declared.name.Name.{Name}
 use Rattle.mako_words.specs.declared.phase_word.PhaseWord.{PhaseWord}
@@ -14,10 +13,9 @@ use Rattle.mako_names.specs.Notices.{Gathering, NoticesStand}
 use Rattle.mako_names.specs.Tables.{phase_of}
 use Rattle.mako_names.specs.Trying.{Trying}
 
--- What is read of the machines: by seat the names still to be used; by mutator its last attempt and the calls that are
--- left; by server how many entries it has gone over in the present cycle; by server the names in its notice ring and
--- the
--- one on its way there; and the collector's list with the server that it reads.
+-- What is read of the seats: by seat the names that it has still to use; by mutator what it knows of its attempt, and
+-- the calls that are left; by server how many entries it has gone over in the present cycle, and the names that it
+-- has sent and nobody got yet; and of the collector its list, with the server that it reads.
 pub record Facets : Type 0 where
   pub held : List (List Name)
   pub trying : List Trying
@@ -26,7 +24,7 @@ pub record Facets : Type 0 where
   pub sent : List (List Name)
   pub collector : Gathering
 
--- the facets with the names that each server has freed
+-- the facets with what each server has freed in place of what is sent and got
 abbrev pub with_freed : Facets → List Freeing → NameFacets
 with_freed facets freed = record { held = facets.held; trying = facets.trying; left = facets.left; freeing = freed }
 
@@ -36,13 +34,14 @@ pub record GatheringStands (freed : List Freeing) (through : List ℕ) (sent : L
   pub bounds : through ≡ map (λ (f : Freeing). f.through) freed
   pub notices : NoticesStand freed sent collector
 
+-- so it is while a cycle runs
 abbrev pub GatheringFits : PhaseWord → List Freeing → List ℕ → List (List Name) → Gathering → Type 0
 GatheringFits (Idle c) freed through sent collector = Unit {0}
 GatheringFits (Trace c) freed through sent collector = GatheringStands freed through sent collector
 GatheringFits (Evac c) freed through sent collector = GatheringStands freed through sent collector
 GatheringFits (Stop c) freed through sent collector = Unit {0}
 
--- there are the lists of freed names, which no view has whole, with which all holds
+-- There are lists of what the servers have freed, with which all holds.
 pub record NamesHold (n : Numbers) (w : Facts) (ws : List ℕ) (front : Seen) (facets : Facets) : Type 0 where
   pub freed : List Freeing
   pub hold : NamesHoldWith n w ws front (with_freed facets freed)

@@ -1,4 +1,4 @@
--- All that ties the table's entries and the names in use to the front.
+-- The ties of names, with all lists of freed names at hand.
 use Rattle.std.specs.Prelude.{◌≡◌, ℕ, List, ◌++◌, length, slice_get, Some}
 use Rattle.mako_words.specs.declared.name.Name.{Name}
 use Rattle.mako_shape.specs.declared.numbers.Numbers.{Numbers}
@@ -13,24 +13,24 @@ use Rattle.mako_names.specs.Tables.{TableStands, phase_of}
 use Rattle.mako_names.specs.Trying.{Trying, AllTrying}
 use Rattle.mako_names.specs.Uses.{UsesStand}
 
--- what is left of the mutator's program after its answered calls
+-- the mutator's program is its calls that are answered, and these
 abbrev pub IsLeft : Facts → List Point → ℕ → List Call → Type 0
 IsLeft w history m left =
     (program : List Call) → slice_get w.programs m ≡ Some program → program ≡ calls_by m history ++ left
 
--- of each program the calls that are left are those that are not answered yet
+-- so it is with the calls that are left of each mutator
 abbrev pub AllLeft : Facts → List Point → List (List Call) → Type 0
 AllLeft w history facets = (m : ℕ) (left : List Call) → slice_get facets m ≡ Some left → IsLeft w history m left
 
--- what is read of the machines: for each seat the names that it has still to use, for each mutator its last
--- attempt, and for each server what it has freed
+-- What is read of the seats: by seat the names that it has still to use; by mutator what it knows of its attempt, and
+-- the calls that are left; and by server what it has freed.
 pub record NameFacets : Type 0 where
   pub held : List (List Name)
   pub trying : List Trying
   pub left : List (List Call)
   pub freeing : List Freeing
 
--- the names, the entries and the front fit, and the front answers the script
+-- The front answers the script, and what words and seats have of names, entries and cycles is what it says.
 pub record NamesHoldWith (n : Numbers) (w : Facts) (ws : List ℕ) (front : Seen) (facets : NameFacets) : Type 0 where
   pub size : length ws ≡ total n
   pub answers : Answers w front

@@ -1,9 +1,9 @@
--- The names that the collector has got from the servers.
+-- How freed names come from the servers to the collector.
 use Rattle.std.specs.Prelude.{ℕ, zero, suc, ◌≡◌, ◌<◌, ◌≤◌, List, [], ◌∷◌, ◌++◌, length, slice_get, Some}
 use Rattle.mako_words.specs.declared.name.Name.{Name}
 use Rattle.mako_names.specs.Freeing.{Freeing}
 
--- the collector's facet: the server whose notices it reads, and the names that it has got in the cycle
+-- of the collector is read: the server whose notices it reads, and the names that it has got in the cycle
 pub record Gathering : Type 0 where
   pub server : ℕ
   pub names : List Name
@@ -14,8 +14,9 @@ names_before zero servers = []
 names_before (suc s) [] = []
 names_before (suc s) (f ∷ servers) = f.names ++ names_before s servers
 
--- What the collector has got, and what is still sent to it: of each server the names in its notice ring, and the one
--- that its view has still to put there.
+-- What a server has sent is the names in its notice ring, and the one that it has still to put there. The collector
+-- has what the servers before the one that it reads have freed, and what it got of that one; the rest of that one,
+-- and all of those behind it, are sent.
 pub record NoticesStand (servers : List Freeing) (sent : List (List Name)) (collector : Gathering) : Type 0 where
   pub size : length sent ≡ length servers
   pub got : (names : List Name) → slice_get sent collector.server ≡ Some names

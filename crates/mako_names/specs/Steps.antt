@@ -1,5 +1,5 @@
 -- The kinds of step that touch entries, names in use or the front: what each changes, and what it rests on.
-use Rattle.std.specs.Prelude.{ℕ, suc, ◌≡◌, ◌≢◌, ◌+◌, ◌*◌, ◌<◌, ◌≤◌, ◌^◌, ◌⊎◌, Bool, true, false, List, [], ◌∷◌, ◌++◌, length, slice_get, slice_set, Some}
+use Rattle.std.specs.Prelude.{ℕ, suc, ◌≡◌, ◌≢◌, ◌+◌, ◌*◌, ◌<◌, ◌≤◌, ◌^◌, ◌⊎◌, true, false, List, [], ◌∷◌, ◌++◌, length, slice_get, slice_set, Some}
 use Rattle.std.specs.List.{Contains}
 use Rattle.mako_words.specs.declared.name.Name.{Name}
 use Rattle.mako_words.specs.declared.entry_word.EntryWord.{EntryWord}
@@ -27,7 +27,7 @@ use Rattle.mako_model.specs.Starved.{words_made}
 use Rattle.mako_names.specs.Counts.{name_of}
 use Rattle.mako_names.specs.Freeing.{own_entries, entry_by, AllMarked}
 use Rattle.mako_names.specs.Going.{Facets, NamesHold}
-use Rattle.mako_names.specs.Tables.{IsWorkloadOf, SameTable, entry_of, phase_of, running_of, published}
+use Rattle.mako_names.specs.Tables.{SameTable, entry_of, phase_of, running_of, published}
 use Rattle.mako_names.specs.Trying as trying
 use Rattle.mako_names.specs.Trying.{Trying, tablet_at}
 use Rattle.mako_names.specs.Uses.{IsGood, IsUseSlot, SameSlots}
@@ -86,7 +86,7 @@ pub data AttemptStep (n : Numbers) (w : Facts) (s : NameScene) (m : ℕ) : Tryin
   FindsNoneLeft : (known : Trying) (fields : ℕ) → cycle_of (phase_of n s.words) ≡ w.cycles
       → AttemptStep n w s m known (trying.Last fields 0 0)
   -- the entry that it looks at has no room
-  Sees : (fields tablets entries : ℕ) → looked_at w m tablets entries < all_entries n
+  Sees : (fields tablets entries : ℕ) → entries < w.entries
       → HasNoRoom w (entry_of n s.words (looked_at w m tablets entries))
       → AttemptStep n w s m (trying.Last fields tablets entries) (trying.Last fields tablets (entries + 1))
   -- all entries of the tablet were seen, or its words are too few

@@ -1,4 +1,5 @@
--- What the phase word and the words of entries stand for.
+-- What the phase word and the words of entries stand for: the phase for the snapshots taken and the cycles finished,
+-- and each entry for the names that were made of it.
 use Rattle.std.specs.Prelude.{ℕ, ◌≡◌, ◌+◌, ◌-◌, ◌*◌, ◌<◌, ◌≤◌, ◌^◌, ◌↔◌, Bool, true, false, List, length, if◌then◌else◌}
 use Rattle.std.specs.List.{Contains}
 use Rattle.mako_words.specs.declared.phase_word.PhaseWord.{PhaseWord}
@@ -42,18 +43,21 @@ running_of (Trace c) = 1
 running_of (Evac c) = 1
 running_of (Stop c) = 0
 
--- the latest cycle in which the last object of a free entry is dead: while servers trace it is the one before
+-- The latest cycle in which the last name of each free entry is dead. While servers trace it is the cycle before the
+-- running one: the names that this one kills are freed in its evacuation.
 abbrev pub settled_of : PhaseWord → ℕ
 settled_of (Idle c) = c
 settled_of (Trace c) = c - 1
 settled_of (Evac c) = c
 settled_of (Stop c) = c
 
+-- 1 where it is true
 abbrev pub one_if : Bool → ℕ
 one_if b = if b then 1 else 0
 
--- The entry is taken with the last generation that was made, or free with the next one. Where it is free,
--- its last name is dead in the settled cycle; where it is taken, its name is dead in no finished one.
+-- The entry is taken with the generation of its last name, or free with the next one. Where it is free, its last name
+-- is dead in the settled cycle; where it is taken, its name is dead in no finished one. (Taken and generation stand
+-- apart from the word, so that marks and moves, which keep both, leave this as it is.)
 pub record EntryStands (w : Facts) (front : Seen) (settled entry : ℕ) (taken : Bool) (generation : ℕ) : Type 0 where
   pub count : generation + one_if taken ≡ made_of entry front.history
   pub free : taken ≡ false → (last : ℕ) → generation ≡ last + 1 → IsDead w front.history settled (name_of entry last)
@@ -64,7 +68,8 @@ abbrev pub EachStands : Numbers → List ℕ → Facts → Seen → ℕ → Type
 EachStands n ws w front settled = (x : ℕ) → x < all_entries n
     → EntryStands w front settled x (entry_of n ws x).taken (entry_of n ws x).generation
 
--- so does the phase word for the snapshots that were taken and the cycles that are finished
+-- The phase word has the number of the last snapshot. All cycles before it are finished, and so is its own where none
+-- runs. Each entry stands for its names.
 pub record TableStands (n : Numbers) (ws : List ℕ) (w : Facts) (front : Seen) : Type 0 where
   pub cycle : cycle_of (phase_of n ws) ≡ (state_of w front.history).snaps
   pub finished : length front.finished + running_of (phase_of n ws) ≡ (state_of w front.history).snaps
@@ -81,14 +86,13 @@ pub record SameTable (n : Numbers) (ws us : List ℕ) : Type 0 where
   pub phase : word_at n us phase ≡ word_at n ws phase
   pub entries : (x : ℕ) → x < all_entries n → word_at n us (entry x) ≡ word_at n ws (entry x)
 
--- the entry that a `New` publishes
+-- the entry that a `New` publishes: taken, of a generation, with an epoch, at an address
 abbrev pub published : ℕ → ℕ → ℕ → EntryWord
 published generation epoch address = record { taken = true; generation = generation; epoch = epoch; address = address }
 
 -- What it comes to for an entry: its names are those of the generations below a number, and it is taken with the last
--- of
--- them or free with the next. Where it is free, its last name is dead at the last snapshot, and while servers trace at
--- the one before; where it is taken, its name is dead in no finished cycle.
+-- of them or free with the next. Where it is free, its last name is dead at the last snapshot, and while servers
+-- trace at the one before; where it is taken, its name is dead in no finished cycle.
 pub record EntryTells (n : Numbers) (ws : List ℕ) (w : Facts) (front : Seen) (x : ℕ) : Type 0 where
   pub names : (g : ℕ) → Contains (names_made front.history) (name_of x g) ↔ (g < made_of x front.history)
   pub taken : (entry_of n ws x).taken ≡ true → (entry_of n ws x).generation + 1 ≡ made_of x front.history

@@ -16,7 +16,7 @@ use Rattle.mako_model.specs.LawfulFronts.{IsLawfulFront}
 use Rattle.mako_model.specs.Legal.{Facts, state_of, IsLegal}
 use Rattle.mako_model.specs.Reachable.{StandsInField, IsReachable}
 use Rattle.mako_names.specs.Counts.{name_of, NamesStand}
-use Rattle.mako_names.specs.Freeing.{Freeing, entry_by, AllMarked}
+use Rattle.mako_names.specs.Freeing.{entry_by, AllMarked}
 use Rattle.mako_names.specs.Steps.{NameScene, NamesHoldIn, NameStep, AllIsRead, IsNameOpening, Reached}
 use Rattle.mako_names.specs.Tables.{IsWorkloadOf, EntryTells, IsTaken, entry_of, phase_of}
 use Rattle.mako_names.specs.Uses.{IsGood}
@@ -76,8 +76,7 @@ FieldsAreGood = (w : Facts) (history : List Point) (object name : Name) → IsLe
 -- ---- what a cycle comes to
 
 -- each name that was reachable at the snapshot has the cycle's epoch, where those in roots have it, and each object
--- that
--- has it hands it on to the names in its fields
+-- that has it hands it on to the names in its fields
 abbrev pub MarksReach : Type 0
 MarksReach = (n : Numbers) (w : Facts) (words : List ℕ) (history : List Point) (cycle : ℕ)
     → ((before after : List Point) → history ≡ before ++ Snap cycle ∷ after → (m q : ℕ) (name : Name)

@@ -9,24 +9,25 @@ use Rattle.mako_model.specs.declared.point.Point.{Point}
 use Rattle.mako_model.specs.Legal.{Facts, state_of}
 use Rattle.mako_model.specs.Dead.{names_made, IsDead}
 
--- a name that was made and is not dead at the last snapshot
+-- a name that was made and is not dead at the last snapshot, so that it may be used
 pub record IsGood (w : Facts) (history : List Point) (name : Name) : Type 0 where
   pub made : Contains (names_made history) name
   pub kept : ¬ IsDead w history (state_of w history).snaps name
 
--- a slot whose names are still to be used; notices may be of freed names
+-- A slot whose names somebody has still to use. (The names in roots and fields are good by a law of histories, and
+-- need no clause. Those of notices may be freed.)
 abbrev pub IsUseSlot : Place → Type 0
 IsUseSlot (barrier m slot) = Unit {0}
 IsUseSlot (work s slot) = Unit {0}
 IsUseSlot (ghost sender receiver slot) = Unit {0}
 IsUseSlot p = ⊥
 
--- each name in such a slot, and each that a seat's view has still to use, is good; the names of a view are its facet
+-- each name in such a slot is good, and so is each that a seat has still to use; these are listed by seat
 pub record UsesStand (n : Numbers) (ws : List ℕ) (w : Facts) (history : List Point)
-    (views : List (List Name)) : Type 0 where
+    (seats : List (List Name)) : Type 0 where
   pub slots : (p : Place) (name : Name) → Within n p → IsUseSlot p → FitsName name → word_at n ws p ≡ name_word name
       → IsGood w history name
-  pub held : (seat : ℕ) (names : List Name) (name : Name) → slice_get views seat ≡ Some names → Contains names name
+  pub held : (seat : ℕ) (names : List Name) (name : Name) → slice_get seats seat ≡ Some names → Contains names name
       → IsGood w history name
 
 -- the slots are as they were
