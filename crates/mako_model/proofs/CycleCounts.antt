@@ -1,5 +1,5 @@
 -- How many snapshots there are, and how many there may be.
-use Rattle.std.proofs.Common.{◌≡◌, ℕ, ◌+◌, ◌≤◌, List, sym, ap, subst, refl, ◌∙◌, arith}
+use Rattle.std.proofs.Common.{◌≡◌, ◌≤◌, List, ap, refl, ◌∙◌, arith}
 use Rattle.mako_words.specs.declared.name.Name.{Name}
 use Rattle.mako_model.specs.declared.point.Point.{Point}
 use Rattle.mako_model.specs.declared.point.Point.TheVariants.{Did, Snap}

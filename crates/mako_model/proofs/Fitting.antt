@@ -1,5 +1,5 @@
 -- Values in the heap of a legal history fit their words, where those of the programs and all names do.
-use Rattle.std.proofs.Common.{◌≡◌, ℕ, zero, suc, ◌+◌, ◌-◌, ◌*◌, ◌<◌, ◌≤◌, ◌^◌, ◌⊎◌, inl, inr, ⊎_elim, List, [], ◌∷◌, ◌++◌, length, flat_map, get_or, set, replicate, slice_get, Contains, Some, None, sym, ap, subst, refl, ◌∙◌, arith, eq-eqb, ne_eqb}
+use Rattle.std.proofs.Common.{◌≡◌, ℕ, zero, suc, ◌+◌, ◌-◌, ◌<◌, ◌≤◌, ◌^◌, ◌⊎◌, inl, inr, ⊎_elim, List, [], ◌∷◌, ◌++◌, length, flat_map, get_or, set, replicate, slice_get, Contains, Some, sym, ap, subst, refl, arith, eq-eqb, ne_eqb}
 use Rattle.std.specs.FinMap as map
 use Rattle.std.specs.List.{fold}
 use Rattle.std.proofs.lemmas.Bool.{cases_eq, cases_lt}
@@ -16,13 +16,13 @@ use Rattle.mako_model.specs.declared.reply.Reply.{Reply}
 use Rattle.mako_model.specs.declared.reply.Reply.TheVariants as reply
 use Rattle.mako_model.specs.declared.point.Point.{Point}
 use Rattle.mako_model.specs.declared.point.Point.TheVariants.{Did, Snap}
-use Rattle.mako_model.specs.Fronts.{Seen, answered_by, calls_by, FollowsPrograms}
+use Rattle.mako_model.specs.Fronts.{Seen, calls_by, FollowsPrograms}
 use Rattle.mako_model.specs.Heaps.{Heap, board_name, opening_roots, with_root, with_fields}
 use Rattle.mako_model.specs.Lawful.{HasRoot, IsLawfulReply, heap_after, heap_replied}
 use Rattle.mako_model.specs.Legal.{Facts, opening_of, state_of, AreLawful, IsLegal}
 use Rattle.mako_model.specs.Dead.{made_by, names_made}
 use Rattle.mako_model.specs.LawfulFronts.{IsLawfulFront}
-use Rattle.mako_model.specs.Laws.{CallFits, ProgramsFit, NamesFit, ValuesFit, RootsFit, HasRoots}
+use Rattle.mako_model.specs.Laws.{CallFits, ProgramsFit, NamesFit, ValuesFit, RootsFit}
 use Rattle.mako_model.proofs.Changes.{put_writes}
 use Rattle.mako_model.proofs.Closed.{empty_has}
 use Rattle.mako_model.proofs.Following.{no_snap_did}

@@ -85,7 +85,7 @@ answers_snap = answers_push roomy after_drop (Snap 1) answers_drop snap_next (λ
 
 -- ---- what the cycle frees
 
-abbrev at_snap : Heap
+abbrev pub at_snap : Heap
 at_snap = state_of roomy before_reuse_snap
 
 rooted : (m q : ℕ) (x : Name) → slice_get (get_or ((value.Ref board_name ∷ value.Null ∷ value.Ref two ∷ value.Null ∷ []) ∷ []) m []) q ≡ Some (value.Ref x) → (board_name ≡ x) ⊎ (two ≡ x)
@@ -118,7 +118,7 @@ one_not_reached : IsReachable at_snap one → ⊥
 one_not_reached reached =
     ⊎_elim (λ e. let f : 0 ≡ 1 = ap (λ (n : Name). n.entry) e in omega arith) (λ e. let f : 2 ≡ 1 = ap (λ (n : Name). n.entry) e in omega arith) (reached_two one reached)
 
-one_dead : (after : List Point) → IsDead roomy (before_reuse_snap ++ Snap 1 ∷ after) 1 one
+pub one_dead : (after : List Point) → IsDead roomy (before_reuse_snap ++ Snap 1 ∷ after) 1 one
 one_dead after = record { before = before_reuse_snap; after = after; numbered = omega arith; split = refl; made = (1, omega arith, refl); unreached = one_not_reached }
 
 made_at_snap : (x : Name) → IsDead roomy after_snap.history 1 x → Contains (one ∷ []) x
