@@ -31,7 +31,7 @@ use Rattle.mako_model.proofs.Growth.{IsNext, IsStarvedIfFull, answers_push, answ
 use Rattle.mako_model.proofs.Histories.{legal_push}
 use Rattle.mako_names.specs.Counts.{name_of, one_of}
 use Rattle.mako_names.specs.Tables.{IsWorkloadOf, published, EntryStands, TableStands, SameTable, entry_of, phase_of, settled_of, running_of}
-use Rattle.mako_names.specs.Uses.{IsGood, IsUseSlot, SameSlots}
+use Rattle.mako_names.specs.Uses.{IsGood, IsUseSlot, UsesStand, SameSlots}
 use Rattle.mako_names.specs.Trying as trying
 use Rattle.mako_names.specs.Trying.{Trying, TryingStands}
 use Rattle.mako_names.specs.Freeing.{Freeing, IsFreedIn, own_entries, entry_by, FreeingStands, FreeingFits, IsMarked, EpochsStand, EpochsFit, AllMarked, since_snap}
@@ -71,29 +71,33 @@ module _ (n : Numbers) (w : Facts) where
 
   -- ---- changes that are no points
 
-  -- another word is stored
-  pub hold_stores : (ws us : List ℕ) (front : Seen) (facets : NameFacets) → length us ≡ total n → SameTable n ws us
-      → SameSlots n ws us → NamesHoldWith n w ws front facets → NamesHoldWith n w us front facets
-  hold_stores ws us front facets size same slots hold =
+  -- other words are stored than those of the table
+  elsewhere : (ws us : List ℕ) (front : Seen) (facets : NameFacets) → length us ≡ total n → SameTable n ws us
+      → UsesStand n us w front.history facets.held → NamesHoldWith n w ws front facets → NamesHoldWith n w us front facets
+  elsewhere ws us front facets size same uses hold =
       let is = phase_same n ws us same.phase in
+      let before = same_history w front.history (cycle_of (phase_of n ws)) in
       let words : (x : ℕ) → x < all_entries n → entry_of n us x ≡ entry_of n ws x =
       λ x within. entry_same n ws us x (same.entries x within) in record {
         size = size;
         answers = hold.answers;
         table = table_stays n ws us w front same hold.table;
-        uses = uses_stay n ws us w front.history facets.held slots hold.uses;
+        uses = uses;
         trying = hold.trying;
         left = hold.left;
         freeing = subst (λ p. FreeingFits p n us w front.history facets.freeing) (sym is)
-            (freeing_fits (phase_of n ws) n ws us w front.history front.history facets.freeing
-            (same_history w front.history (cycle_of (phase_of n ws)))
+            (freeing_fits (phase_of n ws) n ws us w front.history front.history facets.freeing before
             (λ x within. ap (λ (u : EntryWord). u.taken) (words x within))
             (λ x within. ap (λ (u : EntryWord). u.generation) (words x within)) hold.freeing);
-        epochs =
-            subst (λ p. EpochsFit p n us w front.history) (sym is)
-            (epochs_fit (phase_of n ws) n ws us w front.history front.history
-            (same_history w front.history (cycle_of (phase_of n ws))) refl words hold.epochs);
+        epochs = subst (λ p. EpochsFit p n us w front.history) (sym is)
+            (epochs_fit (phase_of n ws) n ws us w front.history front.history before refl words hold.epochs);
       }
+
+  -- other words are stored than those of the table and of slots
+  pub hold_stores : (ws us : List ℕ) (front : Seen) (facets : NameFacets) → length us ≡ total n → SameTable n ws us
+      → SameSlots n ws us → NamesHoldWith n w ws front facets → NamesHoldWith n w us front facets
+  hold_stores ws us front facets size same slots hold =
+      elsewhere ws us front facets size same (uses_stay n ws us w front.history facets.held slots hold.uses) hold
 
   -- a seat has other names to use
   pub hold_holds : (ws : List ℕ) (front : Seen) (facets : NameFacets) (seat : ℕ) (names : List Name)
@@ -132,27 +136,9 @@ module _ (n : Numbers) (w : Facts) where
       → rank p ≢ 16 → ((name : Name) → FitsName name → v ≡ name_word name → IsGood w front.history name)
       → NamesHoldWith n w ws front facets → NamesHoldWith n w (set ws (index n p) v) front facets
   hold_puts ws front facets p v within not_phase not_entry good hold =
-      let us : List ℕ = set ws (index n p) v in
-      let same = table_frame n ws p v within not_phase not_entry in
-      let is = phase_same n ws us same.phase in
-      let words : (x : ℕ) → x < all_entries n → entry_of n us x ≡ entry_of n ws x =
-      λ x inside. entry_same n ws us x (same.entries x inside) in record {
-        size = length-set ws (index n p) v ∙ hold.size;
-        answers = hold.answers;
-        table = table_stays n ws us w front same hold.table;
-        uses = uses_put n ws w front.history facets.held p v hold.size within good hold.uses;
-        trying = hold.trying;
-        left = hold.left;
-        freeing = subst (λ q. FreeingFits q n us w front.history facets.freeing) (sym is)
-            (freeing_fits (phase_of n ws) n ws us w front.history front.history facets.freeing
-            (same_history w front.history (cycle_of (phase_of n ws)))
-            (λ x inside. ap (λ (u : EntryWord). u.taken) (words x inside))
-            (λ x inside. ap (λ (u : EntryWord). u.generation) (words x inside)) hold.freeing);
-        epochs =
-            subst (λ q. EpochsFit q n us w front.history) (sym is)
-            (epochs_fit (phase_of n ws) n ws us w front.history front.history
-            (same_history w front.history (cycle_of (phase_of n ws))) refl words hold.epochs);
-      }
+      elsewhere ws (set ws (index n p) v) front facets (length-set ws (index n p) v ∙ hold.size)
+      (table_frame n ws p v within not_phase not_entry)
+      (uses_put n ws w front.history facets.held p v hold.size within good hold.uses) hold
 
   -- ---- points
 

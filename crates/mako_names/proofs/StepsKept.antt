@@ -40,43 +40,35 @@ use Rattle.mako_names.proofs.Words.{phase_same, phase_else, table_frame}
 
 -- ---- numbers that the front bounds
 
+-- what has a product above 0 is above 0
+factors_some : (a b : ℕ) → 0 < a * b → (0 < a) × (0 < b)
+factors_some a b some =
+    ⊎_elim
+    (λ l. ⊎_elim (λ k. (l, k))
+    (λ none. let e : a * b ≡ a * 0 = ap (λ k. a * k) (let d : b ≡ 0 = omega arith in d) in absurd (omega arith))
+    (cases_lt 0 b))
+    (λ none. let e : a * b ≡ 0 * b = ap (λ k. k * b) (let d : a ≡ 0 = omega arith in d) in absurd (omega arith))
+    (cases_lt 0 a)
+
 module _ (n : Numbers) (w : Facts) where
   board_in_range : (front : Seen) → IsLawfulFront w front → IsInRange w board_name
   board_in_range front lawful = lawful.names board_name (0, omega arith, refl)
 
-  some_entries : (front : Seen) → IsLawfulFront w front → 0 < w.entries
-  some_entries front lawful =
-      let some = (board_in_range front lawful).entry in
-      ⊎_elim (λ l. l)
-      (λ none. let e : w.tablets * w.entries ≡ w.tablets * 0 =
-      ap (λ k. w.tablets * k) (let d : w.entries ≡ 0 = omega arith in d) in absurd (omega arith))
-      (cases_lt 0 w.entries)
+  -- there are tablets, with entries
+  some_of_each : (front : Seen) → IsLawfulFront w front → (0 < w.tablets) × (0 < w.entries)
+  some_of_each front lawful = factors_some w.tablets w.entries (let l = (board_in_range front lawful).entry in omega arith)
 
   some_servers : (front : Seen) → IsWorkloadOf n w → IsLawfulFront w front → 0 < n.servers
   some_servers front of_it lawful =
-      let some = (board_in_range front lawful).entry in
-      ⊎_elim (λ l. l)
-      (λ none.
-      let e : n.servers * n.tablets * w.entries ≡ 0 * n.tablets * w.entries =
-      ap (λ k. k * n.tablets * w.entries) (let d : n.servers ≡ 0 = omega arith in d) in
-      let f : w.tablets * w.entries ≡ n.servers * n.tablets * w.entries = ap (λ k. k * w.entries) of_it.tablets in
-      absurd (omega arith)) (cases_lt 0 n.servers)
-
-  some_tablets : (front : Seen) → IsLawfulFront w front → 0 < w.tablets
-  some_tablets front lawful =
-      let some = (board_in_range front lawful).entry in
-      ⊎_elim (λ l. l)
-      (λ none.
-      let e : w.tablets * w.entries ≡ 0 * w.entries =
-      ap (λ k. k * w.entries) (let d : w.tablets ≡ 0 = omega arith in d) in
-      absurd (omega arith)) (cases_lt 0 w.tablets)
+      let some = (some_of_each front lawful).0 in let same = of_it.tablets in
+      (factors_some n.servers n.tablets (omega arith)).0
 
   -- an entry that an attempt looks at is one of the table
   looked_within : (front : Seen) (m tablets entries : ℕ) → IsWorkloadOf n w → IsLawfulFront w front
       → entries < w.entries
       → looked_at w m tablets entries < all_entries n
   looked_within front m tablets entries of_it lawful l =
-      let low = mod-lt (m + tablets) (some_tablets front lawful) in
+      let low = mod-lt (m + tablets) (some_of_each front lawful).0 in
       let below : looked_at w m tablets entries < w.entries * w.tablets =
       mul-add-lt (tablet_at w m tablets) w.entries entries w.tablets low l in
       let turned = mul_comm w.entries w.tablets in
@@ -118,7 +110,7 @@ attempt_kept n w s m _ _ of_it (Sees fields tablets entries more found) at freed
     (some_generation n w s.front hold.answers.lawful) found hold
 attempt_kept n w s m _ _ of_it (GoesOver fields tablets) at freed hold =
     hold_goes_over n w s.words s.front (with_freed s.facets freed) m fields tablets at
-    (some_entries n w s.front hold.answers.lawful) hold
+    (some_of_each n w s.front hold.answers.lawful).1 hold
 attempt_kept n w s m _ _ of_it (Lacks fields tablets lacks) at freed hold =
     hold_lacks n w s.words s.front (with_freed s.facets freed) m fields tablets at lacks.used lacks.few hold
 attempt_kept n w s m _ _ of_it (Notes fields tablets entries) at freed hold =
