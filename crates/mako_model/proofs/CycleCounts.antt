@@ -22,7 +22,8 @@ cycles_changed h after made (New m q name fields root fresh e one) = ap (λ (a :
 pub cycles_stay : (w : Facts) (history : List Point) → IsLegal w history → (state_of w history).cycles ≡ w.cycles
 cycles_stay w history legal =
     kept (λ h. h.cycles ≡ w.cycles)
-    (λ h p lawful same. cycles_changed h (heap_after h p) (made_by p) (change_of h p lawful) ∙ same) w history legal refl
+    (λ h p lawful same. cycles_changed h (heap_after h p) (made_by p) (change_of h p lawful) ∙ same) w history legal
+    refl
 
 snaps_below : (h : Heap) (p : Point) → IsLawful h p → h.snaps ≤ h.cycles → (heap_after h p).snaps ≤ h.cycles
 snaps_below h (Did m c r) lawful few = let same = snaps_replied h m c r in omega arith

@@ -27,7 +27,8 @@ with_cycle front names = record { history = front.history; finished = front.fini
 -- the calls of a mutator that a history holds, each with its reply, in order
 abbrev pub answered_by : ℕ → List Point → List (Call × Reply)
 answered_by m [] = []
-answered_by m (Did n call reply ∷ points) = if n == m then (call, reply) ∷ answered_by m points else answered_by m points
+answered_by m (Did n call reply ∷ points) =
+    if n == m then (call, reply) ∷ answered_by m points else answered_by m points
 answered_by m (Snap cycle ∷ points) = answered_by m points
 
 -- its calls alone

@@ -26,8 +26,10 @@ pub record IsClosed (h : Heap) : Type 0 where
 
 -- no name that is dead in the cycle stands in a root, or in a field of an object that is not dead in it
 pub record DeadStandApart (w : Facts) (history : List Point) (cycle : ℕ) : Type 0 where
-  pub roots : (mutator root : ℕ) (name : Name) → root_of (state_of w history) mutator root ≡ Some (Ref name) → ¬ IsDead w history cycle name
-  pub fields : (object name : Name) → StandsInField (state_of w history) object name → ¬ IsDead w history cycle object → ¬ IsDead w history cycle name
+  pub roots : (mutator root : ℕ) (name : Name) → root_of (state_of w history) mutator root ≡ Some (Ref name)
+      → ¬ IsDead w history cycle name
+  pub fields : (object name : Name) → StandsInField (state_of w history) object name
+      → ¬ IsDead w history cycle object → ¬ IsDead w history cycle name
 
 -- each mutator of the script has each of its roots, and there are no others
 pub record HasRoots (w : Facts) (h : Heap) : Type 0 where

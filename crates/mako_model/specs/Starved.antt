@@ -33,7 +33,8 @@ pub record AreSpent (w : Facts) (before : List Point) (cycle : ℕ) : Type 0 whe
   pub all : (state_of w before).snaps ≡ w.cycles
   pub last : cycle ≡ w.cycles - 1
 
--- the entry can take no new object: a name of it was made and is not dead in the cycle, or that of its last generation was made
+-- the entry can take no new object: a name of it was made and is not dead in the cycle, or that of its last
+-- generation was made
 abbrev pub IsEntryUnavailable : Facts → Seen → List Point → ℕ → ℕ → Type 0
 IsEntryUnavailable w front before cycle entry =
     ((generation : ℕ) × Contains (names_made before) (record { entry = entry; generation = generation })
@@ -42,14 +43,16 @@ IsEntryUnavailable w front before cycle entry =
 
 -- how many words the object takes that a point makes in the tablet
 abbrev pub words_by : Facts → ℕ → Point → ℕ
-words_by w tablet (Did mutator (New root fields) (Made name)) = if name.entry / w.entries == tablet then fields + 1 else 0
+words_by w tablet (Did mutator (New root fields) (Made name)) =
+    if name.entry / w.entries == tablet then fields + 1 else 0
 words_by w tablet point = 0
 
 -- how many words all objects that were ever made in the tablet take, with the board, which is in tablet 0
 abbrev pub words_made : Facts → ℕ → List Point → ℕ
 words_made w tablet history = (if tablet == 0 then w.board + 1 else 0) + sum_by (words_by w tablet) history
 
--- no entry of the tablet can take a new object, or all objects made in it, with one of so many fields more, take more words than a region has
+-- no entry of the tablet can take a new object, or all objects made in it, with one of so many fields more, take more
+-- words than a region has
 abbrev pub IsTabletFull : Facts → Seen → List Point → ℕ → ℕ → ℕ → Type 0
 IsTabletFull w front before cycle fields tablet =
     ((entry : ℕ) → entry / w.entries ≡ tablet → IsEntryUnavailable w front before cycle entry)
