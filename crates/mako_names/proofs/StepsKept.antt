@@ -1,5 +1,5 @@
 -- Each kind of step keeps the ties of names, and so do all runs.
-use Rattle.std.proofs.Common.{◌+◌, ◌≡◌, ◌≢◌, ℕ, ◌*◌, ◌<◌, ◌≤◌, inl, inr, ⊎_elim, List, [], ◌∷◌, set, slice_get, Some, sym, ap, subst, refl, arith}
+use Rattle.std.proofs.Common.{◌+◌, ◌≡◌, ◌≢◌, ℕ, ◌*◌, ◌<◌, ◌≤◌, inl, inr, ⊎_elim, List, [], ◌∷◌, length, set, slice_get, Some, sym, ap, subst, refl, ◌∙◌, arith, length-set}
 use Rattle.std.proofs.Math.Nat.{mod-lt, mul_comm}
 use Rattle.std.proofs.lemmas.Bool.{cases_lt}
 use Rattle.std.proofs.lemmas.Nat.{mul-add-lt}
@@ -9,7 +9,8 @@ use Rattle.mako_words.specs.Entries.{entry_word, FitsEntry}
 use Rattle.mako_words.specs.Phases.{cycle_of}
 use Rattle.mako_shape.specs.declared.numbers.Numbers.{Numbers}
 use Rattle.mako_shape.specs.Limits.{all_entries}
-use Rattle.mako_shape.specs.Places.{Place, entry, barrier, work, ghost, rank, index}
+use Rattle.mako_shape.specs.Places.{Place, phase, entry, barrier, work, ghost, rank, index, total, Within}
+use Rattle.mako_shape.proofs.PlaceLaws.{word_other}
 use Rattle.mako_model.specs.declared.call.Call.{Call}
 use Rattle.mako_model.specs.declared.call.Call.TheVariants as call
 use Rattle.mako_model.specs.declared.reply.Reply.{Reply}
@@ -25,11 +26,11 @@ use Rattle.mako_model.proofs.CycleCounts.{few_snaps}
 use Rattle.mako_names.specs.Freeing.{Freeing}
 use Rattle.mako_names.specs.Going.{GatheringFits, NamesHold, with_freed}
 use Rattle.mako_names.specs.Holding.{NamesHoldWith}
-use Rattle.mako_names.specs.Steps.{NameScene, NamesHoldIn, LeavesNames, looked_at, AttemptStep, Asks, Waited, FindsNoneLeft, Sees, GoesOver, Lacks, Notes, Forgets, IsPlain, Decision, Plain, Starves, Collects, Spends, answered, Publication, MayPublish, name_made, NameStep, Stores, Puts, Holds, Tries, Decides, Publishes, Marks, Moves, Snaps, Evacuates, Finishes, Stops, Passes, Frees, Gets, ReadsOn, IsNameOpening, Reached, Opened, Stepped}
-use Rattle.mako_names.specs.Tables.{IsWorkloadOf, TableStands, published, entry_of, phase_of}
+use Rattle.mako_names.specs.Steps.{NameScene, NamesHoldIn, LeavesNames, stored, looked_at, AttemptStep, Asks, Waited, FindsNoneLeft, Sees, GoesOver, Lacks, Notes, Forgets, IsPlain, Decision, Plain, Starves, Collects, Spends, answered, Publication, MayPublish, name_made, NameStep, Stores, Puts, Holds, Tries, Decides, Publishes, Marks, Moves, Snaps, Evacuates, Finishes, Stops, Passes, Frees, Gets, ReadsOn, IsNameOpening, Reached, Opened, Stepped}
+use Rattle.mako_names.specs.Tables.{IsWorkloadOf, TableStands, SameTable, published, entry_of, phase_of}
 use Rattle.mako_names.specs.Trying as trying
 use Rattle.mako_names.specs.Trying.{Trying, tablet_at}
-use Rattle.mako_names.specs.Uses.{IsUseSlot}
+use Rattle.mako_names.specs.Uses.{IsUseSlot, IsNamePlace, SameSlots}
 use Rattle.mako_names.proofs.Attempts.{hold_asks, hold_begins_awaited, hold_begins_spent, hold_notes, hold_sees, hold_goes_over, hold_lacks, hold_full, hold_answers, hold_spent, some_generation}
 use Rattle.mako_names.proofs.Going.{go_on, go_snaps, go_evacuates, go_stops, go_passes, go_frees, go_gets, go_ends, go_finishes}
 use Rattle.mako_names.proofs.Good.{in_table}
@@ -56,7 +57,8 @@ module _ (n : Numbers) (w : Facts) where
 
   -- there are tablets, with entries
   some_of_each : (front : Seen) → IsLawfulFront w front → (0 < w.tablets) × (0 < w.entries)
-  some_of_each front lawful = factors_some w.tablets w.entries (let l = (board_in_range front lawful).entry in omega arith)
+  some_of_each front lawful =
+      factors_some w.tablets w.entries (let l = (board_in_range front lawful).entry in omega arith)
 
   some_servers : (front : Seen) → IsWorkloadOf n w → IsLawfulFront w front → 0 < n.servers
   some_servers front of_it lawful =
@@ -90,6 +92,40 @@ slot_rank (barrier m slot) slot_is = ((λ e. omega arith), (λ e. omega arith))
 slot_rank (work s slot) slot_is = ((λ e. omega arith), (λ e. omega arith))
 slot_rank (ghost sender receiver slot) slot_is = ((λ e. omega arith), (λ e. omega arith))
 slot_rank p slot_is = absurd slot_is
+
+-- ---- words in which no name is looked for
+
+slot_is_name : (p : Place) → IsUseSlot p → IsNamePlace p
+slot_is_name (barrier m slot) slot_is = tt
+slot_is_name (work s slot) slot_is = tt
+slot_is_name (ghost sender receiver slot) slot_is = tt
+slot_is_name p slot_is = absurd slot_is
+
+same_table : (n : Numbers) (ws us : List ℕ) → LeavesNames n ws us → SameTable n ws us
+same_table n ws us leaves = record {
+  phase = leaves.same phase tt tt;
+  entries = λ x within. leaves.same (entry x) within tt;
+}
+
+same_slots : (n : Numbers) (ws us : List ℕ) → LeavesNames n ws us → SameSlots n ws us
+same_slots n ws us leaves p within slot_is = leaves.same p within (slot_is_name p slot_is)
+
+-- no word is stored
+pub leaves_all : (n : Numbers) (ws : List ℕ) → length ws ≡ total n → LeavesNames n ws ws
+leaves_all n ws size = record { size = size; same = λ p within name_is. refl }
+
+-- a word is stored elsewhere
+pub leaves_others : (n : Numbers) (ws : List ℕ) (p : Place) (v : ℕ) → length ws ≡ total n → Within n p
+    → (IsNamePlace p → ⊥) → LeavesNames n ws (set ws (index n p) v)
+leaves_others n ws p v size within other = record {
+  size = length-set ws (index n p) v ∙ size;
+  same = λ r inside name_is. word_other n ws p r v within inside (λ e. other (subst IsNamePlace e name_is));
+}
+
+pub elsewhere_step : (n : Numbers) (w : Facts) (s : NameScene) (p : Place) (v : ℕ) → length s.words ≡ total n
+    → Within n p → (IsNamePlace p → ⊥) → NameStep n w s (stored n s p v)
+elsewhere_step n w s p v size within other =
+    Stores (set s.words (index n p) v) (leaves_others n s.words p v size within other)
 
 -- ---- one step of an attempt
 
@@ -139,17 +175,20 @@ decision_kept n w s us m _ _ left (Plain c r plain lawful) next leaves freed hol
     let none = plain_makes_none m c r plain in
     hold_decides n w s.words us s.front (with_freed s.facets freed) m c r left
     (plain_next w s.front m c r hold.answers.lawful lawful none (plain_no_cycle r plain))
-    (not_full w s.front m c r (plain_not_full r plain)) next none leaves.size leaves.table leaves.slots hold
+    (not_full w s.front m c r (plain_not_full r plain)) next none leaves.size (same_table n s.words us leaves)
+    (same_slots n s.words us leaves) hold
 decision_kept n w s us m _ _ left (Starves root fields mutator in_row at) next leaves freed hold =
     hold_full n w s.words us s.front (with_freed s.facets freed) m root fields left at mutator in_row next
-    leaves.size leaves.table leaves.slots hold
+    leaves.size (same_table n s.words us leaves) (same_slots n s.words us leaves) hold
 decision_kept n w s us m _ _ left (Collects k mutator at told) next leaves freed hold =
     hold_answers n w s.words us s.front (with_freed s.facets freed) m k left at told
-    (asked_above w s.front.history m k (hold.trying m (trying.Asked k) at)) mutator next leaves.size leaves.table
-    leaves.slots hold
+    (asked_above w s.front.history m k (hold.trying m (trying.Asked k) at)) mutator next leaves.size
+    (same_table n s.words us leaves)
+    (same_slots n s.words us leaves) hold
 decision_kept n w s us m _ _ left (Spends mutator last) next leaves freed hold =
-    hold_spent n w s.words us s.front (with_freed s.facets freed) m left last mutator next leaves.size leaves.table
-    leaves.slots hold
+    hold_spent n w s.words us s.front (with_freed s.facets freed) m left last mutator next leaves.size
+    (same_table n s.words us leaves)
+    (same_slots n s.words us leaves) hold
 
 -- ---- a publication
 
@@ -188,9 +227,11 @@ publication_kept n w s p left of_it may names =
 pub step_kept : (n : Numbers) (w : Facts) (s after : NameScene) → IsWorkloadOf n w → NameStep n w s after
     → NamesHoldIn n w s → NamesHoldIn n w after
 step_kept n w s _ of_it (Stores us leaves) names =
-    go_on n w s.words us s.front s.front s.facets s.facets (phase_same n s.words us leaves.table.phase) refl refl refl
-    (λ freed hold. hold_stores n w s.words us s.front (with_freed s.facets freed) leaves.size leaves.table
-    leaves.slots hold) names
+    go_on n w s.words us s.front s.front s.facets s.facets (phase_same n s.words us (leaves.same phase tt tt)) refl
+    refl refl
+    (λ freed hold. hold_stores n w s.words us s.front (with_freed s.facets freed) leaves.size
+    (same_table n s.words us leaves)
+    (same_slots n s.words us leaves) hold) names
 step_kept n w s _ of_it (Puts p v within slot good) names =
     let us : List ℕ = set s.words (index n p) v in
     let other = slot_rank p slot in
@@ -207,7 +248,7 @@ step_kept n w s _ of_it (Tries m before after at step) names =
     (attempt_kept n w s m before after of_it step at) names
 step_kept n w s _ of_it (Decides us m c r left next decision leaves) names =
     go_on n w s.words us s.front (with_point s.front (Did m c r)) s.facets (answered s.facets m left)
-    (phase_same n s.words us leaves.table.phase) refl refl refl
+    (phase_same n s.words us (leaves.same phase tt tt)) refl refl refl
     (decision_kept n w s us m c r left decision next leaves) names
 step_kept n w s _ of_it (Publishes p left may) names = publication_kept n w s p left of_it may names
 step_kept n w s _ of_it (Marks c x e keeps trace epoch good) names =

@@ -27,10 +27,10 @@ use Rattle.mako_model.specs.Starved.{words_made}
 use Rattle.mako_names.specs.Counts.{name_of}
 use Rattle.mako_names.specs.Freeing.{own_entries, entry_by, AllMarked}
 use Rattle.mako_names.specs.Going.{Facets, NamesHold}
-use Rattle.mako_names.specs.Tables.{SameTable, entry_of, phase_of, running_of, published}
+use Rattle.mako_names.specs.Tables.{entry_of, phase_of, running_of, published}
 use Rattle.mako_names.specs.Trying as trying
 use Rattle.mako_names.specs.Trying.{Trying, tablet_at}
-use Rattle.mako_names.specs.Uses.{IsGood, IsUseSlot, SameSlots}
+use Rattle.mako_names.specs.Uses.{IsGood, IsUseSlot, IsNamePlace}
 
 -- what is read of a state: all words, the front, and the facets of all seats
 pub record NameScene : Type 0 where
@@ -49,8 +49,7 @@ stored n s p v = record s { words = slice_set s.words (index n p) v }
 -- the words of the phase, of the entries, and of the slots whose names are still to be used are as they were
 pub record LeavesNames (n : Numbers) (ws us : List ℕ) : Type 0 where
   pub size : length us ≡ total n
-  pub table : SameTable n ws us
-  pub slots : SameSlots n ws us
+  pub same : (p : Place) → Within n p → IsNamePlace p → word_at n us p ≡ word_at n ws p
 
 -- where the word is a name's, the name is good
 abbrev pub IsGoodWord : Facts → List Point → ℕ → Type 0

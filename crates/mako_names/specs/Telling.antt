@@ -1,10 +1,11 @@
 -- What the ties of names come to: the laws, each as a statement.
-use Rattle.std.specs.Prelude.{ℕ, ◌≡◌, ◌<◌, List, [], ◌∷◌, ◌++◌, slice_get, Some, true}
+use Rattle.std.specs.Prelude.{ℕ, ◌≡◌, ◌<◌, List, [], ◌∷◌, ◌++◌, length, slice_get, Some, true}
 use Rattle.mako_words.specs.declared.name.Name.{Name}
 use Rattle.mako_words.specs.declared.value.Value.TheVariants.{Ref}
 use Rattle.mako_words.specs.declared.phase_word.PhaseWord.TheVariants.{Evac}
 use Rattle.mako_shape.specs.declared.numbers.Numbers.{Numbers}
 use Rattle.mako_shape.specs.Limits.{all_entries}
+use Rattle.mako_shape.specs.Places.{Place, total, Within}
 use Rattle.mako_model.specs.declared.call.Call.{Call}
 use Rattle.mako_model.specs.declared.point.Point.{Point}
 use Rattle.mako_model.specs.declared.point.Point.TheVariants.{Snap}
@@ -17,9 +18,9 @@ use Rattle.mako_model.specs.Legal.{Facts, state_of, IsLegal}
 use Rattle.mako_model.specs.Reachable.{StandsInField, IsReachable}
 use Rattle.mako_names.specs.Counts.{name_of, NamesStand}
 use Rattle.mako_names.specs.Freeing.{entry_by, AllMarked}
-use Rattle.mako_names.specs.Steps.{NameScene, NamesHoldIn, NameStep, AllIsRead, IsNameOpening, Reached}
+use Rattle.mako_names.specs.Steps.{NameScene, NamesHoldIn, stored, NameStep, AllIsRead, IsNameOpening, Reached}
 use Rattle.mako_names.specs.Tables.{IsWorkloadOf, EntryTells, IsTaken, entry_of, phase_of}
-use Rattle.mako_names.specs.Uses.{IsGood}
+use Rattle.mako_names.specs.Uses.{IsGood, IsNamePlace}
 
 -- ---- what is kept
 
@@ -27,6 +28,11 @@ use Rattle.mako_names.specs.Uses.{IsGood}
 abbrev pub StepsKeepNames : Type 0
 StepsKeepNames = (n : Numbers) (w : Facts) (s after : NameScene) → IsWorkloadOf n w → NameStep n w s after
     → NamesHoldIn n w s → NamesHoldIn n w after
+
+-- a store at any other place is one of these steps, whatever is stored
+abbrev pub StoresElsewhereAreSteps : Type 0
+StoresElsewhereAreSteps = (n : Numbers) (w : Facts) (s : NameScene) (p : Place) (v : ℕ) → length s.words ≡ total n
+    → Within n p → (IsNamePlace p → ⊥) → NameStep n w s (stored n s p v)
 
 -- they hold at the opening
 abbrev pub OpeningsHaveNames : Type 0

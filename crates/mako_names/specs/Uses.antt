@@ -4,7 +4,7 @@ use Rattle.std.specs.List.{Contains}
 use Rattle.mako_words.specs.declared.name.Name.{Name}
 use Rattle.mako_words.specs.Names.{name_word, FitsName}
 use Rattle.mako_shape.specs.declared.numbers.Numbers.{Numbers}
-use Rattle.mako_shape.specs.Places.{Place, barrier, work, ghost, Within, word_at}
+use Rattle.mako_shape.specs.Places.{Place, phase, entry, barrier, work, ghost, Within, word_at}
 use Rattle.mako_model.specs.declared.point.Point.{Point}
 use Rattle.mako_model.specs.Legal.{Facts, state_of}
 use Rattle.mako_model.specs.Dead.{names_made, IsDead}
@@ -29,6 +29,12 @@ pub record UsesStand (n : Numbers) (ws : List ℕ) (w : Facts) (history : List P
       → IsGood w history name
   pub held : (seat : ℕ) (names : List Name) (name : Name) → slice_get seats seat ≡ Some names → Contains names name
       → IsGood w history name
+
+-- a place of which anything is said here: the phase, an entry, or such a slot
+abbrev pub IsNamePlace : Place → Type 0
+IsNamePlace phase = Unit {0}
+IsNamePlace (entry x) = Unit {0}
+IsNamePlace p = IsUseSlot p
 
 -- the slots are as they were
 abbrev pub SameSlots : Numbers → List ℕ → List ℕ → Type 0
