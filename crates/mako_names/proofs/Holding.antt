@@ -254,7 +254,7 @@ module _ (n : Numbers) (w : Facts) where
   phase_slots : (ws : List ℕ) (v : ℕ) → SameSlots n ws (set ws (index n phase) v)
   phase_slots ws v = slots_frame n ws phase v tt (λ slot. slot)
 
-  -- The store of Trace with its snapshot: no cycle runs, one is left, the slots are empty, each name that a view has
+  -- The store of Trace with its snapshot: no cycle runs, one is left, the slots are empty, each name that a seat has
   -- still to use stands in a root, and no server has freed anything in the new cycle.
   pub hold_snaps : (ws : List ℕ) (front : Seen) (facets : NameFacets) (c : ℕ) → IsWorkloadOf n w
       → phase_of n ws ≡ Idle c → c < w.cycles

@@ -1,8 +1,11 @@
 -- What the ties of names come to.
-use Rattle.std.proofs.Common.{◌≡◌, ℕ, ◌<◌, ◌≤◌, true, length, slice_get, Some, sym, subst, arith}
+use Rattle.std.proofs.Common.{◌≡◌, ℕ, ◌<◌, ◌≤◌, true, List, length, slice_get, Contains, Some, sym, subst, arith}
+use Rattle.mako_words.specs.declared.name.Name.{Name}
+use Rattle.mako_words.specs.Names.{name_word, FitsName}
 use Rattle.mako_words.specs.declared.phase_word.PhaseWord.TheVariants.{Evac}
 use Rattle.mako_shape.specs.declared.numbers.Numbers.{Numbers}
 use Rattle.mako_shape.specs.Limits.{all_entries}
+use Rattle.mako_shape.specs.Places.{Place, Within, word_at}
 use Rattle.mako_model.specs.Dead.{AreFreed}
 use Rattle.mako_model.specs.Legal.{Facts}
 use Rattle.mako_names.specs.Counts.{name_of}
@@ -10,7 +13,7 @@ use Rattle.mako_names.specs.Freeing.{Freeing, own_entries, entry_by, FreeingStan
 use Rattle.mako_names.specs.Going.{GatheringStands, GatheringFits}
 use Rattle.mako_names.specs.Steps.{NameScene, NamesHoldIn, AllIsRead}
 use Rattle.mako_names.specs.Tables.{IsWorkloadOf, EntryTells, IsTaken, entry_of, phase_of}
-use Rattle.mako_names.specs.Uses.{IsGood}
+use Rattle.mako_names.specs.Uses.{IsGood, IsUseSlot}
 use Rattle.mako_names.proofs.FreeingKinds.{freeing_lists}
 use Rattle.mako_names.proofs.Going.{get_map, map_get}
 use Rattle.mako_names.proofs.Good.{entry_tells, good_is_taken}
@@ -25,6 +28,18 @@ pub good_are_taken : (n : Numbers) (w : Facts) (s : NameScene) (x g : ℕ) → I
     → IsGood w s.front.history (name_of x g) → IsTaken n s.words x g
 good_are_taken n w s x g of_it names good =
     good_is_taken n s.words w s.front x g of_it names.hold.answers.lawful names.hold.table good
+
+pub slot_names_are_taken : (n : Numbers) (w : Facts) (s : NameScene) (p : Place) (name : Name) → IsWorkloadOf n w
+    → NamesHoldIn n w s → Within n p → IsUseSlot p → FitsName name → word_at n s.words p ≡ name_word name
+    → IsTaken n s.words name.entry name.generation
+slot_names_are_taken n w s p name of_it names within slot fits is =
+    good_are_taken n w s name.entry name.generation of_it names (names.hold.uses.slots p name within slot fits is)
+
+pub held_names_are_taken : (n : Numbers) (w : Facts) (s : NameScene) (seat : ℕ) (used : List Name) (name : Name)
+    → IsWorkloadOf n w → NamesHoldIn n w s → slice_get s.facets.held seat ≡ Some used → Contains used name
+    → IsTaken n s.words name.entry name.generation
+held_names_are_taken n w s seat used name of_it names at here =
+    good_are_taken n w s name.entry name.generation of_it names (names.hold.uses.held seat used name at here)
 
 module _ (n : Numbers) (w : Facts) (s : NameScene) where
   gathered : (c : ℕ) (names : NamesHoldIn n w s) → phase_of n s.words ≡ Evac c

@@ -73,7 +73,7 @@ uses_stay n ws us w history views same uses = record {
   held = uses.held;
 }
 
--- a view has other names to use, each of which is good
+-- a seat has other names to use, each of which is good
 pub uses_hold : (n : Numbers) (ws : List ℕ) (w : Facts) (history : List Point) (views : List (List Name)) (seat : ℕ)
     (names : List Name) → ((name : Name) → Contains names name → IsGood w history name)
     → UsesStand n ws w history views → UsesStand n ws w history (set views seat names)
@@ -98,7 +98,7 @@ uses_put n ws w history views p v size within good uses = record {
   held = uses.held;
 }
 
--- the snapshot, at which the slots are empty and each name of a view stands in a root
+-- the snapshot, at which the slots are empty and each name of a seat stands in a root
 pub uses_snap : (n : Numbers) (ws us : List ℕ) (w : Facts) (history : List Point) (views : List (List Name))
     (cycle : ℕ) → IsLegal w (history ++ Snap cycle ∷ []) → SameSlots n ws us
     → ((p : Place) (name : Name) → Within n p → IsUseSlot p → FitsName name → word_at n ws p ≡ name_word name → ⊥)

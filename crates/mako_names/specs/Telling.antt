@@ -1,11 +1,13 @@
 -- What the ties of names come to: the laws, each as a statement.
 use Rattle.std.specs.Prelude.{ℕ, ◌≡◌, ◌<◌, List, [], ◌∷◌, ◌++◌, length, slice_get, Some, true}
+use Rattle.std.specs.List.{Contains}
 use Rattle.mako_words.specs.declared.name.Name.{Name}
 use Rattle.mako_words.specs.declared.value.Value.TheVariants.{Ref}
 use Rattle.mako_words.specs.declared.phase_word.PhaseWord.TheVariants.{Evac}
+use Rattle.mako_words.specs.Names.{name_word, FitsName}
 use Rattle.mako_shape.specs.declared.numbers.Numbers.{Numbers}
 use Rattle.mako_shape.specs.Limits.{all_entries}
-use Rattle.mako_shape.specs.Places.{Place, total, Within}
+use Rattle.mako_shape.specs.Places.{Place, total, Within, word_at}
 use Rattle.mako_model.specs.declared.call.Call.{Call}
 use Rattle.mako_model.specs.declared.point.Point.{Point}
 use Rattle.mako_model.specs.declared.point.Point.TheVariants.{Snap}
@@ -20,7 +22,7 @@ use Rattle.mako_names.specs.Counts.{name_of, NamesStand}
 use Rattle.mako_names.specs.Freeing.{entry_by, AllMarked}
 use Rattle.mako_names.specs.Steps.{NameScene, NamesHoldIn, stored, NameStep, AllIsRead, IsNameOpening, Reached}
 use Rattle.mako_names.specs.Tables.{IsWorkloadOf, EntryTells, IsTaken, entry_of, phase_of}
-use Rattle.mako_names.specs.Uses.{IsGood, IsNamePlace}
+use Rattle.mako_names.specs.Uses.{IsGood, IsUseSlot, IsNamePlace}
 
 -- ---- what is kept
 
@@ -68,6 +70,18 @@ EntriesTell = (n : Numbers) (w : Facts) (s : NameScene) (x : ℕ) → NamesHoldI
 abbrev pub GoodNamesAreTaken : Type 0
 GoodNamesAreTaken = (n : Numbers) (w : Facts) (s : NameScene) (x g : ℕ) → IsWorkloadOf n w → NamesHoldIn n w s
     → IsGood w s.front.history (name_of x g) → IsTaken n s.words x g
+
+-- so is that of each name in a slot
+abbrev pub SlotNamesAreTaken : Type 0
+SlotNamesAreTaken = (n : Numbers) (w : Facts) (s : NameScene) (p : Place) (name : Name) → IsWorkloadOf n w
+    → NamesHoldIn n w s → Within n p → IsUseSlot p → FitsName name → word_at n s.words p ≡ name_word name
+    → IsTaken n s.words name.entry name.generation
+
+-- and that of each name that a seat has still to use
+abbrev pub HeldNamesAreTaken : Type 0
+HeldNamesAreTaken = (n : Numbers) (w : Facts) (s : NameScene) (seat : ℕ) (names : List Name) (name : Name)
+    → IsWorkloadOf n w → NamesHoldIn n w s → slice_get s.facets.held seat ≡ Some names → Contains names name
+    → IsTaken n s.words name.entry name.generation
 
 -- a name in a root is good
 abbrev pub RootsAreGood : Type 0

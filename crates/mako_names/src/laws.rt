@@ -1,7 +1,7 @@
 //! What ties the table's entries and the names in use to the front, and what follows from it. The functions do
 //! nothing; what they ensure is for contracts and proofs.
 
-ghost use Rattle.mako_names.specs.Telling.{StepsKeepNames, StoresElsewhereAreSteps, OpeningsHaveNames, ReachedHaveNames, ReachedAnswer, ReachedAnswerToEnd, NamesAreInOrder, EntriesTell, GoodNamesAreTaken, RootsAreGood, FieldsAreGood, MarksReach, PassedHaveEpoch, ListsAreFreed};
+ghost use Rattle.mako_names.specs.Telling.{StepsKeepNames, StoresElsewhereAreSteps, OpeningsHaveNames, ReachedHaveNames, ReachedAnswer, ReachedAnswerToEnd, NamesAreInOrder, EntriesTell, GoodNamesAreTaken, SlotNamesAreTaken, HeldNamesAreTaken, RootsAreGood, FieldsAreGood, MarksReach, PassedHaveEpoch, ListsAreFreed};
 
 /// Each kind of step keeps the ties of names, and a store at a place of which they say nothing is one of them.
 pub fn names_are_kept()
@@ -22,12 +22,14 @@ pub fn names_hold_always()
 {}
 
 /// What they tell of names: those of an entry are in order, and the entry tells which were made and which of them
-/// are dead; the entry of a good name is taken with its generation; and good are the names in roots, and in fields
-/// of good objects.
+/// are dead; the entry of a good name is taken with its generation, and so it is for each name in a slot, and each
+/// that a seat has still to use; and good are the names in roots, and in fields of good objects.
 pub fn names_tell()
     ensures order { NamesAreInOrder }
     ensures entries { EntriesTell }
     ensures taken { GoodNamesAreTaken }
+    ensures slots { SlotNamesAreTaken }
+    ensures held { HeldNamesAreTaken }
     ensures roots { RootsAreGood }
     ensures fields { FieldsAreGood }
 {}
