@@ -80,7 +80,7 @@ objects_along names h (p ∷ points) all are =
     subst (λ m. AreObjects m (fold heap_after (heap_after h p) points)) (append_assoc names (made_by p) (flat_map made_by points))
     (objects_along (names ++ made_by p) (heap_after h p) points all.1 (more_objects names h (heap_after h p) (made_by p) (change_of h p all.0) are))
 
-empty_has : (h : Heap) (x : Name) → h.objects ≡ map.empty → HasObject h x → ⊥
+pub empty_has : (h : Heap) (x : Name) → h.objects ≡ map.empty → HasObject h x → ⊥
 empty_has h x e has = none-some has.0 (sym (map.get-empty name_cmp x) ∙ ap (λ o. map.get o x) (sym e) ∙ has.1)
 
 none_contains : (x : Name) → Contains [] x → ⊥

@@ -12,7 +12,7 @@ use Rattle.mako_model.specs.declared.call.Call.{Call}
 use Rattle.mako_model.specs.declared.call.Call.TheVariants as call
 use Rattle.mako_model.specs.declared.reply.Reply.TheVariants as reply
 use Rattle.mako_model.specs.declared.point.Point.TheVariants.{Did, Snap}
-use Rattle.mako_model.specs.Fronts.{Seen, calls_by}
+use Rattle.mako_model.specs.Fronts.{Seen, calls_by, opening_front, with_point, with_cycle}
 use Rattle.mako_model.specs.Heaps.{Heap, board_name}
 use Rattle.mako_model.specs.Legal.{state_of}
 use Rattle.mako_model.specs.Reachable.{IsReachable}
@@ -20,7 +20,7 @@ use Rattle.mako_model.specs.Dead.{names_made, IsDead, AreFreed}
 use Rattle.mako_model.specs.Starved.{IsEntryUnavailable, IsStarved}
 use Rattle.mako_model.specs.Answering.{Answers, AnswersToEnd}
 use Rattle.mako_model.specs.Examples.{one, filling, crowded, before_crowded_snap, crowded_history, crowded_front, used_freed_front}
-use Rattle.mako_model.proofs.Growth.{IsNext, IsStarvedIfFull, with_point, with_cycle, answers_push, answers_finish, answers_opening, opening_front}
+use Rattle.mako_model.proofs.Growth.{IsNext, IsStarvedIfFull, answers_push, answers_finish, answers_opening}
 use Rattle.mako_model.proofs.Following.{same_reply, no_snap_did, in_none, made_next, made_full, follows, lost_at_snap}
 
 abbrev Entries : Type 0

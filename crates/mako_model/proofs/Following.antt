@@ -18,6 +18,7 @@ use Rattle.mako_model.specs.Legal.{Facts, state_of}
 use Rattle.mako_model.specs.Reachable.{StandsInField, LeadsTo, IsReachable}
 use Rattle.mako_model.specs.Dead.{IsDead}
 use Rattle.mako_model.specs.LawfulFronts.{IsInRange}
+use Rattle.mako_model.specs.Starved.{snaps_in}
 use Rattle.mako_model.proofs.Closed.{no_null_ref}
 use Rattle.mako_model.proofs.DeadApart.{IsLost}
 use Rattle.mako_model.proofs.Growth.{IsNext, IsStarvedIfFull}
@@ -72,12 +73,6 @@ follows program history rest is zero found e = (rest, sym is ∙ same_Some progr
 follows program history rest is (suc m) found e = absurd (none-some found e)
 
 -- ---- the first snapshot
-
--- how many of the points are snapshots
-abbrev pub snaps_in : List Point → ℕ
-snaps_in [] = 0
-snaps_in (Did m c r ∷ points) = snaps_in points
-snaps_in (Snap cycle ∷ points) = suc (snaps_in points)
 
 fewer : (p : Point) (points : List Point) → snaps_in (p ∷ points) ≡ 0 → snaps_in points ≡ 0
 fewer (Did m c r) points e = e

@@ -24,10 +24,10 @@ not_less x e = let same : name_cmp x x ≡ Equal = tied_itself names_total x in 
 not_both : (x y : Name) → name_cmp x y ≡ Less → name_cmp y x ≡ Less → ⊥
 not_both x y e f = let turned = names_total.antisymm x y ∙ ap ordering_reverse f in cc
 
-first_in : (x : Name) (xs : List Name) → Contains (x ∷ xs) x
+pub first_in : (x : Name) (xs : List Name) → Contains (x ∷ xs) x
 first_in x xs = (0, omega arith, refl)
 
-rest_in : (x : Name) (xs : List Name) (z : Name) → Contains xs z → Contains (x ∷ xs) z
+pub rest_in : (x : Name) (xs : List Name) (z : Name) → Contains xs z → Contains (x ∷ xs) z
 rest_in x xs z c = Contains-append_right (x ∷ []) xs z c
 
 first_or_less : (x y : Name) (ys : List Name) → IsStrictlySortedBy name_cmp (y ∷ ys) → Contains (y ∷ ys) x → (x ≡ y) ⊎ (name_cmp y x ≡ Less)

@@ -10,7 +10,7 @@ use Rattle.mako_model.specs.declared.call.Call.TheVariants as call
 use Rattle.mako_model.specs.declared.reply.Reply.TheVariants as reply
 use Rattle.mako_model.specs.declared.point.Point.{Point}
 use Rattle.mako_model.specs.declared.point.Point.TheVariants.{Did, Snap}
-use Rattle.mako_model.specs.Fronts.{Seen, FollowsPrograms}
+use Rattle.mako_model.specs.Fronts.{Seen, FollowsPrograms, opening_front, with_point, with_cycle}
 use Rattle.mako_model.specs.Heaps.{board_name}
 use Rattle.mako_model.specs.Lawful.{IsLawful, heap_after}
 use Rattle.mako_model.specs.Legal.{Facts, state_of, IsLegal}
@@ -94,9 +94,6 @@ pub record IsNext (w : Facts) (front : Seen) (p : Point) : Type 0 where
       → Contains (names_made front.history) (record { entry = entry; generation = generation })
       × IsDead w front.history (state_of w front.history).snaps (record { entry = entry; generation = generation })
 
-abbrev pub with_point : Seen → Point → Seen
-with_point front p = record { history = front.history ++ p ∷ []; finished = front.finished }
-
 waits_push : (w : Facts) (front : Seen) (p : Point) → AnsweredWaitsAreOver front → IsNext w front p → AnsweredWaitsAreOver (with_point front p)
 waits_push w front p waits next before after m c cycle e =
     ⊎_elim
@@ -135,10 +132,7 @@ front_push w front p lawful next =
 
 -- ---- one finished cycle more
 
-abbrev pub with_cycle : Seen → List Name → Seen
-with_cycle front names = record { history = front.history; finished = front.finished ++ names ∷ [] }
-
-cycles_longer : (front : Seen) (names : List Name) → length (front.finished ++ names ∷ []) ≡ length front.finished + 1
+pub cycles_longer : (front : Seen) (names : List Name) → length (front.finished ++ names ∷ []) ≡ length front.finished + 1
 cycles_longer front names = length-append front.finished (names ∷ [])
 
 freed_at : (cycles : List (List Name)) (freed names : List Name) (i : ℕ) → slice_get (cycles ++ freed ∷ []) i ≡ Some names → ((i ≡ length cycles) × (freed ≡ names)) ⊎ (slice_get cycles i ≡ Some names)
@@ -166,9 +160,16 @@ front_finish w front names lawful begun freed =
 
 -- ---- starved
 
-entry_stays : (w : Facts) (front : Seen) (p : Point) (before : List Point) (cycle entry : ℕ) → IsLegal w (front.history ++ p ∷ []) → cycle ≤ (state_of w front.history).snaps → IsEntryUnavailable w front before cycle entry → IsEntryUnavailable w (with_point front p) before cycle entry
-entry_stays w front p before cycle entry legal begun taken =
-    ⊎_elim (λ t. inl (t.0, t.1, (λ dead. t.2 (dead_was w front.history (p ∷ []) cycle (record { entry = entry; generation = t.0 }) legal begun dead)))) (λ t. inr t) taken
+-- an entry that could take no object can take none when the front goes on, and the points before with it
+pub entry_stays : (w : Facts) (front : Seen) (p : Point) (before after : List Point) (cycle entry : ℕ)
+    → IsLegal w (front.history ++ p ∷ []) → cycle ≤ (state_of w front.history).snaps
+    → ((name : Name) → Contains (names_made before) name → Contains (names_made after) name)
+    → IsEntryUnavailable w front before cycle entry → IsEntryUnavailable w (with_point front p) after cycle entry
+entry_stays w front p before after cycle entry legal begun more taken =
+    ⊎_elim
+    (λ t. let x : Name = record { entry = entry; generation = t.0 } in
+    inl (t.0, more x t.1, (λ dead. t.2 (dead_was w front.history (p ∷ []) cycle x legal begun dead))))
+    (λ t. inr (more _ t)) taken
 
 -- a cycle that starved a call has begun
 starved_begun : (w : Facts) (front : Seen) (before after : List Point) (m cycle : ℕ) → IsLawfulFront w front → front.history ≡ before ++ after → IsAwaited front before m cycle ⊎ AreSpent w before cycle → cycle ≤ (state_of w front.history).snaps
@@ -185,7 +186,7 @@ starved_push w front p before after m fields lawful legal e starved =
     let begun = starved_begun w front before after m starved.cycle lawful e starved.awaited in record {
       cycle = starved.cycle;
       awaited = ⊎_elim (λ t. inl (record { first = t.first; finished = t.finished })) (λ t. inr t) starved.awaited;
-      full = λ tablet l. ⊎_elim (λ t. inl (λ entry is. entry_stays w front p before starved.cycle entry legal begun (t entry is))) (λ t. inr t) (starved.full tablet l);
+      full = λ tablet l. ⊎_elim (λ t. inl (λ entry is. entry_stays w front p before before starved.cycle entry legal begun (λ name made. made) (t entry is))) (λ t. inr t) (starved.full tablet l);
     }
 
 -- the point is starved, if it is a `Full`
@@ -226,9 +227,6 @@ answers_finish w front names answers begun freed = record {
 no_split : {A : Type 0} (before : List A) (x : A) (after : List A) → [] ≡ before ++ x ∷ after → ⊥
 no_split [] x after e = nil_cons x after e
 no_split (y ∷ before) x after e = nil_cons y (before ++ x ∷ after) e
-
-abbrev pub opening_front : Seen
-opening_front = record { history = []; finished = [] }
 
 -- before the first point nothing is asked but that the board is in range
 pub answers_opening : (w : Facts) → IsInRange w board_name → Answers w opening_front

@@ -2,7 +2,9 @@ pub mod Beginnings
 pub mod Changes
 pub mod Closed
 pub mod Crowded
+pub mod CycleCounts
 pub mod DeadApart
+pub mod Fitting
 pub mod Following
 pub mod FreedLists
 pub mod Growth
@@ -14,6 +16,7 @@ pub mod ObjectsIn
 pub mod Pieces
 pub mod Retired
 pub mod Reused
+pub mod RootRows
 pub mod RootsIn
 pub mod Searching
 pub mod Splits

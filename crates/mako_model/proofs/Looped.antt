@@ -14,7 +14,7 @@ use Rattle.mako_model.specs.declared.call.Call.TheVariants as call
 use Rattle.mako_model.specs.declared.reply.Reply.TheVariants as reply
 use Rattle.mako_model.specs.declared.point.Point.{Point}
 use Rattle.mako_model.specs.declared.point.Point.TheVariants.{Did, Snap}
-use Rattle.mako_model.specs.Fronts.{Seen, calls_by}
+use Rattle.mako_model.specs.Fronts.{Seen, calls_by, opening_front, with_point, with_cycle}
 use Rattle.mako_model.specs.Heaps.{Heap, board_name, fields_of}
 use Rattle.mako_model.specs.Lawful.{heap_after}
 use Rattle.mako_model.specs.Legal.{Facts, state_of, IsLegal}
@@ -25,7 +25,7 @@ use Rattle.mako_model.specs.Answering.{Answers, AnswersToEnd}
 use Rattle.mako_model.specs.Examples.{one, looping, looped, before_looped_snap, before_second_snap, looped_history, looped_front, twice_freed_front}
 use Rattle.mako_model.proofs.Splits.{split_of_append}
 use Rattle.mako_model.proofs.DeadApart.{IsLost, snap_number, snaps_grow, state_append}
-use Rattle.mako_model.proofs.Growth.{IsNext, IsStarvedIfFull, with_point, with_cycle, answers_push, answers_finish, answers_opening, opening_front}
+use Rattle.mako_model.proofs.Growth.{IsNext, IsStarvedIfFull, answers_push, answers_finish, answers_opening}
 use Rattle.mako_model.proofs.Following.{same_reply, no_snap_did, in_none, plain_next, plain_full, made_next, made_full, follows, board_reached, other_not_reached}
 
 -- ---- a snapshot stands once in a legal history

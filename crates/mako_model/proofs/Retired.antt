@@ -13,14 +13,14 @@ use Rattle.mako_model.specs.declared.call.Call.TheVariants as call
 use Rattle.mako_model.specs.declared.reply.Reply.TheVariants as reply
 use Rattle.mako_model.specs.declared.point.Point.{Point}
 use Rattle.mako_model.specs.declared.point.Point.TheVariants.{Did, Snap}
-use Rattle.mako_model.specs.Fronts.{Seen, calls_by}
+use Rattle.mako_model.specs.Fronts.{Seen, calls_by, opening_front, with_point, with_cycle}
 use Rattle.mako_model.specs.Heaps.{Heap, board_name, fields_of}
 use Rattle.mako_model.specs.Legal.{state_of}
 use Rattle.mako_model.specs.Reachable.{IsReachable}
 use Rattle.mako_model.specs.Dead.{IsDead, AreFreed}
 use Rattle.mako_model.specs.Starved.{IsStarved}
 use Rattle.mako_model.specs.Answering.{Answers, AnswersToEnd}
-use Rattle.mako_model.proofs.Growth.{IsNext, IsStarvedIfFull, with_point, with_cycle, answers_push, answers_finish, answers_opening, opening_front}
+use Rattle.mako_model.proofs.Growth.{IsNext, IsStarvedIfFull, answers_push, answers_finish, answers_opening}
 use Rattle.mako_model.specs.Starved.{IsEntryUnavailable}
 use Rattle.mako_model.specs.Examples.{one, remaking, retiring, before_retiring_snap, retiring_history, retired_front, hasty_front}
 use Rattle.mako_model.proofs.Following.{same_reply, no_snap_did, in_none, plain_next, plain_full, made_next, made_full, follows, lost_at_snap, board_reached, other_not_reached}

@@ -13,7 +13,7 @@ use Rattle.mako_model.specs.declared.call.Call.TheVariants as call
 use Rattle.mako_model.specs.declared.reply.Reply.TheVariants as reply
 use Rattle.mako_model.specs.declared.point.Point.{Point}
 use Rattle.mako_model.specs.declared.point.Point.TheVariants.{Did, Snap}
-use Rattle.mako_model.specs.Fronts.{Seen, calls_by}
+use Rattle.mako_model.specs.Fronts.{Seen, calls_by, opening_front, with_point, with_cycle}
 use Rattle.mako_model.specs.Heaps.{Heap, board_name, fields_of}
 use Rattle.mako_model.specs.Legal.{state_of}
 use Rattle.mako_model.specs.Reachable.{StandsInField, LeadsTo, IsReachable}
@@ -22,7 +22,7 @@ use Rattle.mako_model.specs.LawfulFronts.{IsInRange}
 use Rattle.mako_model.specs.Answering.{Answers, AnswersToEnd}
 use Rattle.mako_model.proofs.Lists.{get_replicate}
 use Rattle.mako_model.proofs.Closed.{no_null_ref, same_ref}
-use Rattle.mako_model.proofs.Growth.{IsNext, with_point, with_cycle, answers_push, answers_finish, answers_opening, opening_front}
+use Rattle.mako_model.proofs.Growth.{IsNext, answers_push, answers_finish, answers_opening}
 use Rattle.mako_model.specs.Examples.{one, two, one_again, reusing, roomy, before_reuse_snap, reuse_history, reused_front, reused_too_soon}
 use Rattle.mako_model.proofs.Following.{same_reply, no_snap_did, in_none, plain_next, plain_full, made_next, made_full, follows, lost_at_snap}
 
@@ -85,7 +85,7 @@ answers_snap = answers_push roomy after_drop (Snap 1) answers_drop snap_next (λ
 
 -- ---- what the cycle frees
 
-abbrev at_snap : Heap
+abbrev pub at_snap : Heap
 at_snap = state_of roomy before_reuse_snap
 
 rooted : (m q : ℕ) (x : Name) → slice_get (get_or ((value.Ref board_name ∷ value.Null ∷ value.Ref two ∷ value.Null ∷ []) ∷ []) m []) q ≡ Some (value.Ref x) → (board_name ≡ x) ⊎ (two ≡ x)
@@ -118,7 +118,7 @@ one_not_reached : IsReachable at_snap one → ⊥
 one_not_reached reached =
     ⊎_elim (λ e. let f : 0 ≡ 1 = ap (λ (n : Name). n.entry) e in omega arith) (λ e. let f : 2 ≡ 1 = ap (λ (n : Name). n.entry) e in omega arith) (reached_two one reached)
 
-one_dead : (after : List Point) → IsDead roomy (before_reuse_snap ++ Snap 1 ∷ after) 1 one
+pub one_dead : (after : List Point) → IsDead roomy (before_reuse_snap ++ Snap 1 ∷ after) 1 one
 one_dead after = record { before = before_reuse_snap; after = after; numbered = omega arith; split = refl; made = (1, omega arith, refl); unreached = one_not_reached }
 
 made_at_snap : (x : Name) → IsDead roomy after_snap.history 1 x → Contains (one ∷ []) x

@@ -13,7 +13,7 @@ use Rattle.mako_model.specs.declared.call.Call.{Call}
 use Rattle.mako_model.specs.declared.call.Call.TheVariants as call
 use Rattle.mako_model.specs.declared.reply.Reply.TheVariants as reply
 use Rattle.mako_model.specs.declared.point.Point.TheVariants.{Did, Snap}
-use Rattle.mako_model.specs.Fronts.{Seen, calls_by}
+use Rattle.mako_model.specs.Fronts.{Seen, calls_by, opening_front, with_point, with_cycle}
 use Rattle.mako_model.specs.Heaps.{Heap, board_name, fields_of}
 use Rattle.mako_model.specs.Legal.{state_of}
 use Rattle.mako_model.specs.Reachable.{IsReachable}
@@ -22,7 +22,7 @@ use Rattle.mako_model.specs.LawfulFronts.{since, IsInRange}
 use Rattle.mako_model.specs.Answering.{Answers, AnswersToEnd}
 use Rattle.mako_model.specs.Examples.{one, two, tying, tied, before_tied_snap, tied_history, tied_front, half_freed_front}
 use Rattle.mako_model.proofs.Following.{same_reply, no_snap_did, in_none, plain_next, plain_full, made_next, made_full, follows, lost_at_snap, board_reached, other_not_reached}
-use Rattle.mako_model.proofs.Growth.{IsNext, with_point, with_cycle, answers_push, answers_finish, answers_opening, opening_front}
+use Rattle.mako_model.proofs.Growth.{IsNext, answers_push, answers_finish, answers_opening}
 
 -- ---- the objects, point by point
 

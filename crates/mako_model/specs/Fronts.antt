@@ -1,6 +1,6 @@
 -- Fronts: histories with their finished cycles.
 use mathlib.Core.List.{IsPrefix}
-use Rattle.std.specs.Prelude.{ℕ, ◌≡◌, ◌≤◌, ◌==◌, length, List, [], ◌∷◌, map, slice_get, Some, if◌then◌else◌}
+use Rattle.std.specs.Prelude.{ℕ, ◌≡◌, ◌≤◌, ◌==◌, length, List, [], ◌∷◌, ◌++◌, map, slice_get, Some, if◌then◌else◌}
 use Rattle.mako_words.specs.declared.name.Name.{Name}
 use Rattle.mako_model.specs.declared.call.Call.{Call}
 use Rattle.mako_model.specs.declared.reply.Reply.{Reply}
@@ -12,10 +12,23 @@ pub record Seen : Type 0 where
   pub history : List Point
   pub finished : List (List Name)
 
+-- before the first point
+abbrev pub opening_front : Seen
+opening_front = record { history = []; finished = [] }
+
+-- the front with one point more
+abbrev pub with_point : Seen → Point → Seen
+with_point front point = record { history = front.history ++ point ∷ []; finished = front.finished }
+
+-- the front with one finished cycle more, which freed these names
+abbrev pub with_cycle : Seen → List Name → Seen
+with_cycle front names = record { history = front.history; finished = front.finished ++ names ∷ [] }
+
 -- the calls of a mutator that a history holds, each with its reply, in order
 abbrev pub answered_by : ℕ → List Point → List (Call × Reply)
 answered_by m [] = []
-answered_by m (Did n call reply ∷ points) = if n == m then (call, reply) ∷ answered_by m points else answered_by m points
+answered_by m (Did n call reply ∷ points) =
+    if n == m then (call, reply) ∷ answered_by m points else answered_by m points
 answered_by m (Snap cycle ∷ points) = answered_by m points
 
 -- its calls alone

@@ -17,6 +17,12 @@ first_snap [] = None
 first_snap (Snap cycle ∷ points) = Some cycle
 first_snap (Did mutator call reply ∷ points) = first_snap points
 
+-- how many of the points are snapshots
+abbrev pub snaps_in : List Point → ℕ
+snaps_in [] = 0
+snaps_in (Snap cycle ∷ points) = snaps_in points + 1
+snaps_in (Did mutator call reply ∷ points) = snaps_in points
+
 -- a finished cycle, the first whose snapshot came since the mutator's last point
 pub record IsAwaited (front : Seen) (before : List Point) (mutator cycle : ℕ) : Type 0 where
   pub first : first_snap (since mutator before) ≡ Some cycle
@@ -27,7 +33,8 @@ pub record AreSpent (w : Facts) (before : List Point) (cycle : ℕ) : Type 0 whe
   pub all : (state_of w before).snaps ≡ w.cycles
   pub last : cycle ≡ w.cycles - 1
 
--- the entry can take no new object: a name of it was made and is not dead in the cycle, or that of its last generation was made
+-- the entry can take no new object: a name of it was made and is not dead in the cycle, or that of its last
+-- generation was made
 abbrev pub IsEntryUnavailable : Facts → Seen → List Point → ℕ → ℕ → Type 0
 IsEntryUnavailable w front before cycle entry =
     ((generation : ℕ) × Contains (names_made before) (record { entry = entry; generation = generation })
@@ -36,14 +43,16 @@ IsEntryUnavailable w front before cycle entry =
 
 -- how many words the object takes that a point makes in the tablet
 abbrev pub words_by : Facts → ℕ → Point → ℕ
-words_by w tablet (Did mutator (New root fields) (Made name)) = if name.entry / w.entries == tablet then fields + 1 else 0
+words_by w tablet (Did mutator (New root fields) (Made name)) =
+    if name.entry / w.entries == tablet then fields + 1 else 0
 words_by w tablet point = 0
 
 -- how many words all objects that were ever made in the tablet take, with the board, which is in tablet 0
 abbrev pub words_made : Facts → ℕ → List Point → ℕ
 words_made w tablet history = (if tablet == 0 then w.board + 1 else 0) + sum_by (words_by w tablet) history
 
--- no entry of the tablet can take a new object, or all objects made in it, with one of so many fields more, take more words than a region has
+-- no entry of the tablet can take a new object, or all objects made in it, with one of so many fields more, take more
+-- words than a region has
 abbrev pub IsTabletFull : Facts → Seen → List Point → ℕ → ℕ → ℕ → Type 0
 IsTabletFull w front before cycle fields tablet =
     ((entry : ℕ) → entry / w.entries ≡ tablet → IsEntryUnavailable w front before cycle entry)

@@ -6,12 +6,12 @@ ghost use mathlib.Core.List.{IsPrefix};
 ghost use Rattle.std.specs.List.{Contains};
 ghost use Rattle.mako_words.specs.declared.name.Name.{Name};
 ghost use Rattle.mako_model.specs.declared.point.Point.{Point};
-ghost use Rattle.mako_model.specs.Fronts.{Seen, BeginsWith};
+ghost use Rattle.mako_model.specs.Fronts.{Seen, BeginsWith, FollowsPrograms};
 ghost use Rattle.mako_model.specs.Lawful.{IsLawful};
 ghost use Rattle.mako_model.specs.Legal.{Facts, state_of, IsLegal};
 ghost use Rattle.mako_model.specs.Dead.{names_made, IsDead, AreFreed};
 ghost use Rattle.mako_model.specs.LawfulFronts.{IsLawfulFront};
-ghost use Rattle.mako_model.specs.Laws.{HasObject, IsClosed, DeadStandApart};
+ghost use Rattle.mako_model.specs.Laws.{HasObject, IsClosed, DeadStandApart, HasRoots, ProgramsFit, NamesFit, ValuesFit, RootsFit};
 
 /// What was made stays made.
 pub fn made_names_stay()
@@ -67,4 +67,16 @@ pub fn dead_names_stand_apart()
 /// The names that a cycle freed are one list.
 pub fn freed_names_are_one_list()
     ensures { (w : Facts) (history : List Point) (cycle : ℕ) (a b : List Name) → AreFreed w history cycle a → AreFreed w history cycle b → a ≡ b }
+{}
+
+/// Each mutator keeps its roots, and no more snapshots are taken than there may be cycles.
+pub fn heaps_keep_their_shape()
+    ensures roots { (w : Facts) (history : List Point) → IsLegal w history → HasRoots w (state_of w history) }
+    ensures snapshots { (w : Facts) (history : List Point) → IsLegal w history → (state_of w history).snaps ≤ w.cycles }
+{}
+
+/// Each value in a root or a field fits its word, where the numbers of the programs and all names do.
+pub fn values_fit()
+    ensures { (w : Facts) (front : Seen) → ProgramsFit w.programs → NamesFit w → IsLawfulFront w front
+        → FollowsPrograms w.programs front.history → ValuesFit (state_of w front.history) × RootsFit (state_of w front.history) }
 {}
