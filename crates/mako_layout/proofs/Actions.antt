@@ -36,11 +36,11 @@ homes_change_in_pauses n s _ _ e (step.raise_and_go_on V i x r o z g seat sets) 
 homes_change_in_pauses n s _ _ e (step.load_leaving i x g seat inside_ turn_ stays) t0 h0 d0 = absurd (d0 refl)
 homes_change_in_pauses n s _ _ e (step.load_room i x z g seat some fits) t0 h0 d0 = absurd (d0 refl)
 homes_change_in_pauses n s _ _ e (step.skip_entry i x o z g seat inside_ same) t0 h0 d0 = absurd (d0 refl)
-homes_change_in_pauses n s _ _ e (step.find_entry i x o z g seat free) t0 h0 d0 = absurd (d0 refl)
-homes_change_in_pauses n s _ _ e (step.begin_new i x o z g seat) t0 h0 d0 = absurd (d0 refl)
-homes_change_in_pauses n s _ _ e (step.store_null V i x r o z j g seat more sets) t0 h0 d0 = absurd (d0 (sets.others (home t0) h0 (λ c. cc)))
-homes_change_in_pauses n s _ _ e (step.raise_for_new V i x r o z g seat sets) t0 h0 d0 = absurd (d0 (sets.others (home t0) h0 (λ c. cc)))
-homes_change_in_pauses n s _ _ e (step.store_new V h d i x r o z g seat small sets are others grown more) t0 h0 d0 = absurd (d0 (sets.others (home t0) h0 (λ c. cc)))
+homes_change_in_pauses n s _ _ e (step.find_entry i name o z g seat free next) t0 h0 d0 = absurd (d0 refl)
+homes_change_in_pauses n s _ _ e (step.begin_new i name o z g seat) t0 h0 d0 = absurd (d0 refl)
+homes_change_in_pauses n s _ _ e (step.store_null V i name r o z j g seat more sets) t0 h0 d0 = absurd (d0 (sets.others (home t0) h0 (λ c. cc)))
+homes_change_in_pauses n s _ _ e (step.raise_for_new V i name r o z g seat sets) t0 h0 d0 = absurd (d0 (sets.others (home t0) h0 (λ c. cc)))
+homes_change_in_pauses n s _ _ e (step.store_new V h d i name r o z g seat small sets are others grown more) t0 h0 d0 = absurd (d0 (sets.others (home t0) h0 (λ c. cc)))
 homes_change_in_pauses n s _ _ e (step.store_field V h i x r o j v g fields seat were less sets are others) t0 h0 d0 = absurd (d0 (sets.others (home t0) h0 (λ c. cc)))
 homes_change_in_pauses n s _ _ e (step.store_leaving V t r gl sl paused debt inside_ region mine unchosen spare sets gifts spares) t0 h0 d0 = absurd (d0 (sets.others (home t0) h0 (λ c. cc)))
 homes_change_in_pauses n s _ _ e (step.store_home V t r gl sl inside_ is sets) t0 h0 d0 = paused_by n s e (owes_home t r) gl sl is (λ c. cc)
@@ -65,9 +65,9 @@ pub free_words_are_the_writers : FreeWordsAreTheWriters
 free_words_are_the_writers n s _ _ e (step.store_word V i x r o j v g seat sets) t0 a0 inside0 past below d0 =
     let k = (e.knows i g (carries x r o j v) seat.gate seat.work).fills in
     stored_by n s e V i x r (o + j) v g seat.gate (belongings_in_range.entry n x k.inside) k.writer k.kept.region sets t0 a0 inside0 below d0
-free_words_are_the_writers n s _ _ e (step.store_null V i x r o z j g seat more sets) t0 a0 inside0 past below d0 =
-    let k = e.knows i g (makes x r o z j) seat.gate seat.work in
-    stored_by n s e V i x r (o + j) (null_words z j) g seat.gate (belongings_in_range.entry n x k.inside) (let a = k.turn in omega arith) k.kept.region sets t0 a0 inside0 below d0
+free_words_are_the_writers n s _ _ e (step.store_null V i name r o z j g seat more sets) t0 a0 inside0 past below d0 =
+    let k = e.knows i g (makes name r o z j) seat.gate seat.work in
+    stored_by n s e V i name.entry r (o + j) (null_words z j) g seat.gate (belongings_in_range.entry n name.entry k.inside) (let a = k.turn in omega arith) k.kept.region sets t0 a0 inside0 below d0
 free_words_are_the_writers n s _ _ e (step.store_field V h i x r o j v g fields seat were less sets are others) t0 a0 inside0 past below d0 =
     let k = e.knows i g (uses x r o) seat.gate seat.work in
     let under = object.below n s e i g seat.gate x r o j v V h seat.work fields were less sets are others in
@@ -95,10 +95,10 @@ free_words_are_the_writers n s _ _ e (step.raise_and_go_on V i x r o z g seat se
 free_words_are_the_writers n s _ _ e (step.load_leaving i x g seat inside_ turn_ stays) t0 a0 inside0 past below d0 = absurd (d0 refl)
 free_words_are_the_writers n s _ _ e (step.load_room i x z g seat some fits) t0 a0 inside0 past below d0 = absurd (d0 refl)
 free_words_are_the_writers n s _ _ e (step.skip_entry i x o z g seat inside_ same) t0 a0 inside0 past below d0 = absurd (d0 refl)
-free_words_are_the_writers n s _ _ e (step.find_entry i x o z g seat free) t0 a0 inside0 past below d0 = absurd (d0 refl)
-free_words_are_the_writers n s _ _ e (step.begin_new i x o z g seat) t0 a0 inside0 past below d0 = absurd (d0 refl)
-free_words_are_the_writers n s _ _ e (step.raise_for_new V i x r o z g seat sets) t0 a0 inside0 past below d0 = absurd (d0 (sets.others (region_word ((layout n s).home t0) a0) (e.copy.home_in t0 inside0, below) (λ c. cc)))
-free_words_are_the_writers n s _ _ e (step.store_new V h d i x r o z g seat small sets are others grown more) t0 a0 inside0 past below d0 = absurd (d0 (sets.others (region_word ((layout n s).home t0) a0) (e.copy.home_in t0 inside0, below) (λ c. cc)))
+free_words_are_the_writers n s _ _ e (step.find_entry i name o z g seat free next) t0 a0 inside0 past below d0 = absurd (d0 refl)
+free_words_are_the_writers n s _ _ e (step.begin_new i name o z g seat) t0 a0 inside0 past below d0 = absurd (d0 refl)
+free_words_are_the_writers n s _ _ e (step.raise_for_new V i name r o z g seat sets) t0 a0 inside0 past below d0 = absurd (d0 (sets.others (region_word ((layout n s).home t0) a0) (e.copy.home_in t0 inside0, below) (λ c. cc)))
+free_words_are_the_writers n s _ _ e (step.store_new V h d i name r o z g seat small sets are others grown more) t0 a0 inside0 past below d0 = absurd (d0 (sets.others (region_word ((layout n s).home t0) a0) (e.copy.home_in t0 inside0, below) (λ c. cc)))
 free_words_are_the_writers n s _ _ e (step.store_leaving V t r gl sl paused debt inside_ region mine unchosen spare sets gifts spares) t0 a0 inside0 past below d0 = absurd (d0 (sets.others (region_word ((layout n s).home t0) a0) (e.copy.home_in t0 inside0, below) (λ c. cc)))
 free_words_are_the_writers n s _ _ e (step.store_home V t r gl sl inside_ is sets) t0 a0 inside0 past below d0 = absurd (d0 (sets.others (region_word ((layout n s).home t0) a0) (e.copy.home_in t0 inside0, below) (λ c. cc)))
 free_words_are_the_writers n s _ _ e (step.zero_top V t gl sl inside_ is sets) t0 a0 inside0 past below d0 = absurd (d0 (sets.others (region_word ((layout n s).home t0) a0) (e.copy.home_in t0 inside0, below) (λ c. cc)))

@@ -27,12 +27,12 @@ nothing_known n l m W V f (holds_home x r) none k = absurd (let a = k.stands_the
 nothing_known n l m W V f (moves x r) none k = absurd (let a = k.writer in let b = none (tablet_of_entry n x) in let c = holds_le (tablet_of_entry n x) f.standing in omega arith)
 nothing_known n l m W V f (asks x) none k = absurd (let a = k.turn in let b = none (tablet_of_entry n x) in let c = holds_le (tablet_of_entry n x) f.standing in omega arith)
 nothing_known n l m W V f (tops x o z) none k = absurd (let a = k.asks.turn in let b = none (tablet_of_entry n x) in let c = holds_le (tablet_of_entry n x) f.standing in omega arith)
-nothing_known n l m W V f (finds x o z) none k = absurd (let a = k.tops.asks.turn in let b = none (tablet_of_entry n x) in let c = holds_le (tablet_of_entry n x) f.standing in omega arith)
+nothing_known n l m W V f (finds name o z) none k = absurd (let a = k.tops.asks.turn in let b = none (tablet_of_entry n name.entry) in let c = holds_le (tablet_of_entry n name.entry) f.standing in omega arith)
 nothing_known n l m W V f (fills x r o j) none k = absurd (let a = k.writer in let b = none (tablet_of_entry n x) in let c = holds_le (tablet_of_entry n x) f.standing in omega arith)
 nothing_known n l m W V f (carries x r o j w) none k = absurd (let a = k.fills.writer in let b = none (tablet_of_entry n x) in let c = holds_le (tablet_of_entry n x) f.standing in omega arith)
 nothing_known n l m W V f (raises x r o z) none k = absurd (let a = k.writer in let b = none (tablet_of_entry n x) in let c = holds_le (tablet_of_entry n x) f.standing in omega arith)
-nothing_known n l m W V f (makes x r o z j) none k = absurd (let a = k.turn in let b = none (tablet_of_entry n x) in let c = holds_le (tablet_of_entry n x) f.standing in omega arith)
-nothing_known n l m W V f (counts x r o z) none k = absurd (let a = k.makes.turn in let b = none (tablet_of_entry n x) in let c = holds_le (tablet_of_entry n x) f.standing in omega arith)
+nothing_known n l m W V f (makes name r o z j) none k = absurd (let a = k.turn in let b = none (tablet_of_entry n name.entry) in let c = holds_le (tablet_of_entry n name.entry) f.standing in omega arith)
+nothing_known n l m W V f (counts name r o z) none k = absurd (let a = k.makes.turn in let b = none (tablet_of_entry n name.entry) in let c = holds_le (tablet_of_entry n name.entry) f.standing in omega arith)
 
 -- a collector that owes is alone
 pub paused_by : (n : Numbers) (s : State) → Evacuation n s → (d : Debt) (gl : List (ℕ × ℕ)) (sl : List ℕ) → s.choice ≡ record { debt = d; given = gl; spare = sl } → (d ≡ settled → ⊥) → Paused n s.gates

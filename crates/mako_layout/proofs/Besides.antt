@@ -9,6 +9,7 @@ use Rattle.mako_layout.specs.Evacuations.{Kept, Reads, Uses, Moves, Asks, Tops, 
 use Rattle.mako_layout.specs.Beside.{entry_of, IsWriting, MindsEntry, Quiet, BesideWork, Beside}
 use Rattle.mako_layout.proofs.Roles.{copy_fits}
 use Rattle.mako_gate.specs.Standings.{GateFacet, writes}
+use Rattle.mako_words.specs.declared.name.Name.{Name}
 
 module _ (n : Numbers) (l m : Layout) (one : OneCopy n l) (W V : Place → ℕ) (g : GateFacet) where
   reads_kept : (x r o : ℕ) → BesideWork n l m W V (reads x r o) x → Reads n l g x r o → Reads n m g x r o
@@ -85,19 +86,20 @@ module _ (n : Numbers) (l m : Layout) (one : OneCopy n l) (W V : Place → ℕ) 
         left = λ z. k.left (sym u.leaving ∙ z);
       }
 
-  makes_kept : (x r o z j : ℕ) → BesideWork n l m W V (makes x r o z j) x → Makes n l W g x r o z j → Makes n m V g x r o z j
-  makes_kept x r o z j b k =
+  makes_kept : (name : Name) (r o z j : ℕ) → BesideWork n l m W V (makes name r o z j) name.entry → Makes n l W g name r o z j → Makes n m V g name r o z j
+  makes_kept name r o z j b k =
       let u = b.writer tt in
       record {
         inside = k.inside;
         turn = k.turn;
-        kept = kept_kept x r o b.home u.filled k.kept;
+        kept = kept_kept name.entry r o b.home u.filled k.kept;
         stays = u.leaving ∙ k.stays;
         free = ap (λ (s : Slot). s.taken) (b.slot tt) ∙ k.free;
+        generation = ap (λ (s : Slot). s.generation) (b.slot tt) ∙ k.generation;
         some = k.some;
         fits = k.fits;
         most = k.most;
-        words = λ i h. stored_stays x r o i k.kept u (omega (arith, k.most, k.fits)) ∙ k.words i h;
+        words = λ i h. stored_stays name.entry r o i k.kept u (omega (arith, k.most, k.fits)) ∙ k.words i h;
       }
 
   moves_kept : (x r : ℕ) → BesideWork n l m W V (moves x r) x → Moves n l g x r → Moves n m g x r
@@ -126,13 +128,17 @@ module _ (n : Numbers) (l m : Layout) (one : OneCopy n l) (W V : Place → ℕ) 
   work_knows_kept (moves x r) b k = moves_kept x r (b k.inside k) k
   work_knows_kept (asks x) b k = asks_kept x ((b k.inside k).writer tt) k
   work_knows_kept (tops x o z) b k = tops_kept x o z ((b k.asks.inside k).writer tt) k
-  work_knows_kept (finds x o z) b k = record { tops = tops_kept x o z ((b k.tops.asks.inside k).writer tt) k.tops; free = ap (λ (s : Slot). s.taken) ((b k.tops.asks.inside k).slot tt) ∙ k.free }
+  work_knows_kept (finds name o z) b k = record {
+    tops = tops_kept name.entry o z ((b k.tops.asks.inside k).writer tt) k.tops;
+    free = ap (λ (s : Slot). s.taken) ((b k.tops.asks.inside k).slot tt) ∙ k.free;
+    generation = ap (λ (s : Slot). s.generation) ((b k.tops.asks.inside k).slot tt) ∙ k.generation;
+  }
   work_knows_kept (fills x r o j) b k = fills_kept x r o j (b k.inside k) k
   work_knows_kept (carries x r o j v) b k = carries_kept x r o j v (b k.fills.inside k) k
   work_knows_kept (raises x r o z) b k = raises_kept x r o z (b k.inside k) k
-  work_knows_kept (makes x r o z j) b k = makes_kept x r o z j (b k.inside k) k
-  work_knows_kept (counts x r o z) b k = record {
-    makes = makes_kept x r o z z (let c = b k.makes.inside k in
+  work_knows_kept (makes name r o z j) b k = makes_kept name r o z j (b k.inside k) k
+  work_knows_kept (counts name r o z) b k = record {
+    makes = makes_kept name r o z z (let c = b k.makes.inside k in
         record { cycle = c.cycle; home = c.home; taken = c.taken; region = c.region; offset = c.offset; writer = c.writer; slot = c.slot }) k.makes;
   }
 

@@ -6,7 +6,7 @@ use Rattle.mako_shape.specs.Belongings.{tablet_of_entry, server_of_tablet, serve
 use Rattle.mako_shape.proofs.BelongingLaws.{belongings_in_range}
 use Rattle.mako_gate.specs.Sums.{counted}
 use Rattle.mako_gate.specs.Changes.{tablets_of}
-use Rattle.mako_layout.specs.Layouts.{Slot, Layout, entries_of, regions_of, part_in, part_of_cycle, home_words, live_words, homes_at, gifts_at, InHome, InGiven, Holds, OneCopy}
+use Rattle.mako_layout.specs.Layouts.{Slot, Layout, entries_of, regions_of, part_in, part_of_cycle, home_words, cycle_words, homes_at, gifts_at, InHome, InGiven, Holds, OneCopy}
 use Rattle.mako_layout.specs.Changes.{Chooses, AreSame}
 use Rattle.mako_layout.proofs.Sums.{sum_below_same, sum_below_one, over_le, over_same, over_none, counted_cases, counted_is, counted_not, one_same}
 use Rattle.mako_layout.proofs.Roles.{home_not_spare, given_not_spare}
@@ -39,10 +39,10 @@ module _ (n : Numbers) (l : Layout) (o : OneCopy n l) (m : Layout) (t r : ℕ) (
   same_home : (u : ℕ) → u < tablets_of n → u ≢ t → home_words n m u ≡ home_words n l u
   same_home u k d = over_same n u k (λ y. part_in (m.home u) (m.slot y)) (λ y. part_in (l.home u) (l.slot y)) (λ y h e i. part_in (p.homes u k d i) (p.slots y h i))
 
-  same_live : (u : ℕ) → u < tablets_of n → live_words n m u ≡ live_words n l u
+  same_live : (u : ℕ) → u < tablets_of n → cycle_words n m u ≡ cycle_words n l u
   same_live u k = over_same n u k (λ y. part_of_cycle m.cycle (m.slot y)) (λ y. part_of_cycle l.cycle (l.slot y)) (λ y h e i. part_of_cycle (p.cycle i) (p.slots y h i))
 
-  live_fits : live_words n l t ≤ n.words
+  live_fits : cycle_words n l t ≤ n.words
   live_fits = omega (
     arith,
     o.room t p.inside,
@@ -115,7 +115,7 @@ module _ (n : Numbers) (l : Layout) (o : OneCopy n l) (m : Layout) (t r : ℕ) (
       | inr d ↦ same_home u k d ∙ o.exact u k (λ z. left (p.leavings u k d ∙ z)) ∙ sym (p.filleds u k d)
     ];
     live = λ u k left. elim (cases_eq u t) [
-      | inl e ↦ omega (arith, same_live u k, subst (λ v. live_words n l v ≤ n.words) (sym e) live_fits)
+      | inl e ↦ omega (arith, same_live u k, subst (λ v. cycle_words n l v ≤ n.words) (sym e) live_fits)
       | inr d ↦ omega (arith, same_live u k, o.live u k (λ z. left (p.leavings u k d ∙ z)))
     ];
     fresh = λ y h. subst (λ (q : Slot). q.taken ≡ true → m.leaving (tablet_of_entry n y) ≢ 0 → q.region ≡ m.home (tablet_of_entry n y) → q.epoch ≡ m.cycle) (sym (p.slots y h)) (λ taken left here.
@@ -133,7 +133,7 @@ module _ (n : Numbers) (l : Layout) (o : OneCopy n l) (m : Layout) (p : AreSame 
   homes_same : (u : ℕ) → u < tablets_of n → home_words n m u ≡ home_words n l u
   homes_same u k = over_same n u k (λ y. part_in (m.home u) (m.slot y)) (λ y. part_in (l.home u) (l.slot y)) (λ y h e i. part_in (p.homes u k i) (p.slots y h i))
 
-  lives_same : (u : ℕ) → u < tablets_of n → live_words n m u ≡ live_words n l u
+  lives_same : (u : ℕ) → u < tablets_of n → cycle_words n m u ≡ cycle_words n l u
   lives_same u k = over_same n u k (λ y. part_of_cycle m.cycle (m.slot y)) (λ y. part_of_cycle l.cycle (l.slot y)) (λ y h e i. part_of_cycle (p.cycle i) (p.slots y h i))
 
   pub same_kept : OneCopy n m

@@ -13,7 +13,7 @@ use Rattle.mako_layout.specs.Facets.{reads, uses, holds_home, fills}
 use Rattle.mako_layout.specs.Evacuations.{layout}
 use Rattle.mako_layout.specs.Beside.{entry_of}
 use Rattle.mako_layout.proofs.Passing.{passed_all, same_one}
-use Rattle.mako_layout.specs.Conclusions.{ServersCopyAlone, OneWriter, UsedIsPresent, ReadIsPresent, EachHasItsRecord, RecordsAreApart, BegunCopiesFit, ClearedTopsAreLive, part_to_come, WhatIsLeftFits}
+use Rattle.mako_layout.specs.Conclusions.{ServersCopyAlone, OneWriter, UsedIsPresent, ReadIsPresent, EachHasItsRecord, RecordsAreApart, BegunCopiesFit, ClearedTopsAreExact, part_to_come, WhatIsLeftFits}
 use Rattle.mako_layout.proofs.Roles.{copy_fits, part_le}
 use Rattle.mako_layout.proofs.Besides.{writing}
 use Rattle.mako_layout.proofs.Frames.{record_within}
@@ -92,8 +92,8 @@ begun_copies_fit n s e i x r o j g seat =
     let fit = copy_fits n (layout n s) e.copy x k.inside k.taken k.epoch (λ c. k.out (c ∙ sym k.kept.region)) in
     omega (arith, k.kept.offset)
 
-pub cleared_tops_are_live : ClearedTopsAreLive
-cleared_tops_are_live n s e i t x r seat h left =
+pub cleared_tops_are_exact : ClearedTopsAreExact
+cleared_tops_are_exact n s e i t x r seat h left =
     cleared_top n s e i (shutter_at i (has_drained t (t * n.entries + n.entries))) seat.gate (holds_home x r) seat.work (λ c. c) (λ _. (refl, refl)) t h (let a = same_one t in omega arith) left
     (passed_all n (layout n s) t (e.passed i t (t * n.entries + n.entries) (shutter_at i (has_drained t (t * n.entries + n.entries))) seat.gate refl))
 

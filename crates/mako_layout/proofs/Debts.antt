@@ -33,12 +33,12 @@ raiser n l W f t (holds_home x r) h k = absurd (omega arith)
 raiser n l W f t (moves x r) h k = absurd (omega arith)
 raiser n l W f t (asks x) h k = absurd (omega arith)
 raiser n l W f t (tops x o z) h k = absurd (omega arith)
-raiser n l W f t (finds x o z) h k = absurd (omega arith)
+raiser n l W f t (finds name o z) h k = absurd (omega arith)
 raiser n l W f t (fills x r o j) h k = absurd (omega arith)
 raiser n l W f t (carries x r o j v) h k = absurd (omega arith)
 raiser n l W f t (raises x r o z) h k = subst (λ q. 1 ≤ writes q f) (counted_pos (tablet_of_entry n x) t z h) k.writer
-raiser n l W f t (makes x r o z j) h k = absurd (omega arith)
-raiser n l W f t (counts x r o z) h k = absurd (omega arith)
+raiser n l W f t (makes name r o z j) h k = absurd (omega arith)
+raiser n l W f t (counts name r o z) h k = absurd (omega arith)
 
 counter : (n : Numbers) (l : Layout) (W : Place → ℕ) (f : GateFacet) (t : ℕ) (v : Work) → 0 < counted_in n t v → Knows n l W f v → 1 ≤ writes t f
 counter n l W f t idle h k = absurd (omega arith)
@@ -48,12 +48,12 @@ counter n l W f t (holds_home x r) h k = absurd (omega arith)
 counter n l W f t (moves x r) h k = absurd (omega arith)
 counter n l W f t (asks x) h k = absurd (omega arith)
 counter n l W f t (tops x o z) h k = absurd (omega arith)
-counter n l W f t (finds x o z) h k = absurd (omega arith)
+counter n l W f t (finds name o z) h k = absurd (omega arith)
 counter n l W f t (fills x r o j) h k = absurd (omega arith)
 counter n l W f t (carries x r o j v) h k = absurd (omega arith)
 counter n l W f t (raises x r o z) h k = absurd (omega arith)
-counter n l W f t (makes x r o z j) h k = absurd (omega arith)
-counter n l W f t (counts x r o z) h k = subst (λ q. 1 ≤ writes q f) (counted_pos (tablet_of_entry n x) t z h) (let c = k.makes.turn in omega arith)
+counter n l W f t (makes name r o z j) h k = absurd (omega arith)
+counter n l W f t (counts name r o z) h k = subst (λ q. 1 ≤ writes q f) (counted_pos (tablet_of_entry n name.entry) t z h) (let c = k.makes.turn in omega arith)
 
 module _ (n : Numbers) (s : State) (e : Evacuation n s) where
   -- a seat with work has a gate facet

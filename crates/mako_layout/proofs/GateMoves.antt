@@ -23,12 +23,12 @@ standing_kept n l W V f g (holds_home x r) never more drains k = record { inside
 standing_kept n l W V f g (moves x r) never more drains k = absurd (never tt)
 standing_kept n l W V f g (asks x) never more drains k = absurd (never tt)
 standing_kept n l W V f g (tops x o z) never more drains k = absurd (never tt)
-standing_kept n l W V f g (finds x o z) never more drains k = absurd (never tt)
+standing_kept n l W V f g (finds name o z) never more drains k = absurd (never tt)
 standing_kept n l W V f g (fills x r o j) never more drains k = absurd (never tt)
 standing_kept n l W V f g (carries x r o j v) never more drains k = absurd (never tt)
 standing_kept n l W V f g (raises x r o z) never more drains k = absurd (never tt)
-standing_kept n l W V f g (makes x r o z j) never more drains k = absurd (never tt)
-standing_kept n l W V f g (counts x r o z) never more drains k = absurd (never tt)
+standing_kept n l W V f g (makes name r o z j) never more drains k = absurd (never tt)
+standing_kept n l W V f g (counts name r o z) never more drains k = absurd (never tt)
 
 -- a view that has drained no tablet passes nothing
 passes_none : (n : Numbers) (l : Layout) (g : GateFacet) → ((t : ℕ) → drained_by t g.watch ≡ 0) → (t b : ℕ) → g.watch ≡ has_drained t b → Passed n l t b

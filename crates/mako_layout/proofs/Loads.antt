@@ -13,6 +13,7 @@ use Rattle.mako_gate.specs.Changes.{Sets}
 use Rattle.mako_gate.proofs.Numbers.{holds_le, count_at, count_off}
 use Rattle.mako_layout.proofs.Works.{load_kept}
 use Rattle.mako_layout.proofs.Debts.{home_is, filled_is, top_kept}
+use Rattle.mako_words.specs.declared.name.Name.{Name}
 
 module _ (n : Numbers) (s : State) (e : Evacuation n s) (i : ℕ) (g : GateFacet) (at_g : slice_get s.gates i ≡ Some g) where
   -- the entry of the call's object is loaded
@@ -96,21 +97,24 @@ module _ (n : Numbers) (s : State) (e : Evacuation n s) (i : ℕ) (g : GateFacet
         fits = k.fits;
       })
 
-  pub find_entry : (x o z : ℕ) → slice_get s.works i ≡ Some (tops x o z) → ((layout n s).slot x).taken ≡ false → Evacuation n (record s { works = set s.works i (finds x o z) })
-  find_entry x o z at free =
-      load_kept n s e i g (tops x o z) at_g at (finds x o z) (record { raise = λ u. refl; count = λ u. refl }) (record { tops = e.knows i g (tops x o z) at_g at; free = free })
+  pub find_entry : (name : Name) (o z : ℕ) → slice_get s.works i ≡ Some (tops name.entry o z) → ((layout n s).slot name.entry).taken ≡ false →
+      ((layout n s).slot name.entry).generation ≡ name.generation → Evacuation n (record s { works = set s.works i (finds name o z) })
+  find_entry name o z at free next =
+      load_kept n s e i g (tops name.entry o z) at_g at (finds name o z) (record { raise = λ u. refl; count = λ u. refl })
+      (record { tops = e.knows i g (tops name.entry o z) at_g at; free = free; generation = next })
 
-  pub begin_new : (x o z : ℕ) → slice_get s.works i ≡ Some (finds x o z) → Evacuation n (record s { works = set s.works i (makes x (s.words (home (tablet_of_entry n x))) o z 0) })
-  begin_new x o z at =
-      let k = e.knows i g (finds x o z) at_g at in
-      let t : ℕ = tablet_of_entry n x in
-      load_kept n s e i g (finds x o z) at_g at (makes x (s.words (home t)) o z 0) (record { raise = λ u. refl; count = λ u. refl })
+  pub begin_new : (name : Name) (o z : ℕ) → slice_get s.works i ≡ Some (finds name o z) → Evacuation n (record s { works = set s.works i (makes name (s.words (home (tablet_of_entry n name.entry))) o z 0) })
+  begin_new name o z at =
+      let k = e.knows i g (finds name o z) at_g at in
+      let t : ℕ = tablet_of_entry n name.entry in
+      load_kept n s e i g (finds name o z) at_g at (makes name (s.words (home t)) o z 0) (record { raise = λ u. refl; count = λ u. refl })
       (record {
         inside = k.tops.asks.inside;
         turn = k.tops.asks.turn;
         kept = record { region = sym (home_is n s e i g at_g t (let a = k.tops.asks.turn in let b = holds_le t g.standing in omega arith)); offset = k.tops.offset };
         stays = k.tops.asks.stays;
         free = k.free;
+        generation = k.generation;
         some = k.tops.some;
         fits = k.tops.fits;
         most = omega arith;
@@ -153,15 +157,15 @@ module _ (n : Numbers) (s : State) (e : Evacuation n s) (i : ℕ) (g : GateFacet
       (record { inside = k.inside; stands_there = (let a = k.writer in let b = holds_le (tablet_of_entry n x) g.standing in omega arith); region = k.home })
 
   -- a New raises the top before it publishes its entry
-  pub raise_for_new : (x r o z : ℕ) (V : Place → ℕ) → slice_get s.works i ≡ Some (makes x r o z z) →
-      Sets n s.words V (top (tablet_of_entry n x)) (o + z) → Evacuation n (record s { words = V; works = set s.works i (counts x r o z) })
-  raise_for_new x r o z V at sets =
-      let k : Makes n (layout n s) s.words g x r o z z = e.knows i g (makes x r o z z) at_g at in
-      let t0 : ℕ = tablet_of_entry n x in
-      let t0_in = belongings_in_range.entry n x k.inside in
+  pub raise_for_new : (name : Name) (r o z : ℕ) (V : Place → ℕ) → slice_get s.works i ≡ Some (makes name r o z z) →
+      Sets n s.words V (top (tablet_of_entry n name.entry)) (o + z) → Evacuation n (record s { words = V; works = set s.works i (counts name r o z) })
+  raise_for_new name r o z V at sets =
+      let k : Makes n (layout n s) s.words g name r o z z = e.knows i g (makes name r o z z) at_g at in
+      let t0 : ℕ = tablet_of_entry n name.entry in
+      let t0_in = belongings_in_range.entry n name.entry k.inside in
       let writer : 1 ≤ writes t0 g = omega (arith, k.turn) in
-      let was0 : s.words (top t0) ≡ o = sym (filled_is n s e i g at_g (makes x r o z z) at t0 t0_in writer refl refl) ∙ sym k.kept.offset in
-      top_kept n s e i g at_g (makes x r o z z) at V (counts x r o z) x (o + z) k.inside writer sets
+      let was0 : s.words (top t0) ≡ o = sym (filled_is n s e i g at_g (makes name r o z z) at t0 t0_in writer refl refl) ∙ sym k.kept.offset in
+      top_kept n s e i g at_g (makes name r o z z) at V (counts name r o z) name.entry (o + z) k.inside writer sets
       (λ t h. elim (cases_eq t t0) [
         | inl c ↦ (let here : V (top t) ≡ o + z = subst (λ q. V (top q) ≡ o + z) (sym c) sets.here in
             let was : s.words (top t) ≡ o = subst (λ q. s.words (top q) ≡ o) (sym c) was0 in
@@ -177,6 +181,7 @@ module _ (n : Numbers) (s : State) (e : Evacuation n s) (i : ℕ) (g : GateFacet
           kept = k.kept;
           stays = k.stays;
           free = k.free;
+          generation = k.generation;
           some = k.some;
           fits = k.fits;
           most = k.most;

@@ -85,28 +85,28 @@ module _ (n : Numbers) (shape : IsShape n) (s : State) (e : Evacuation n s) (i :
       })
 
   -- the entry of a new object of nulls is stored, which the heap has from then on
-  pub store_new : (x r o z : ℕ) (V : Place → ℕ) (h : Heap) (d : ℕ → ℕ) → slice_get s.works i ≡ Some (counts x r o z) → (layout n s).cycle < 2 ^ 20 →
-      Sets n s.words V (entry x) (entry_word (new_entry (s.words (entry x)) (layout n s).cycle (index n (region_word r o)))) →
-      fields_of h (name_of x (s.words (entry x))) ≡ Some (replicate (z - 1) Null) →
-      ((name : Name) → name.entry ≢ x → fields_of h name ≡ fields_of s.heap name) →
-      s.made (tablet_of_entry n x) + z ≤ d (tablet_of_entry n x) → ((q : ℕ) → s.made q ≤ d q) →
+  pub store_new : (name : Name) (r o z : ℕ) (V : Place → ℕ) (h : Heap) (d : ℕ → ℕ) → slice_get s.works i ≡ Some (counts name r o z) → (layout n s).cycle < 2 ^ 20 →
+      Sets n s.words V (entry name.entry) (entry_word (new_entry name (layout n s).cycle (index n (region_word r o)))) →
+      fields_of h name ≡ Some (replicate (z - 1) Null) →
+      ((other : Name) → other.entry ≢ name.entry → fields_of h other ≡ fields_of s.heap other) →
+      s.made (tablet_of_entry n name.entry) + z ≤ d (tablet_of_entry n name.entry) → ((q : ℕ) → s.made q ≤ d q) →
       Evacuation n (record s { words = V; heap = h; works = set s.works i idle; made = d })
-  store_new x r o z V h d at small sets are others grown more =
+  store_new name r o z V h d at small sets are others grown more =
       let l : Layout = layout n s in
-      let w : Work = counts x r o z in
-      let c : Counts n l s.words g x r o z = e.knows i g w at_g at in
+      let w : Work = counts name r o z in
+      let c : Counts n l s.words g name r o z = e.knows i g w at_g at in
       let k = c.makes in
-      let t : ℕ = tablet_of_entry n x in
-      let t_in = belongings_in_range.entry n x k.inside in
+      let t : ℕ = tablet_of_entry n name.entry in
+      let t_in = belongings_in_range.entry n name.entry k.inside in
       let r_in = subst (λ q. q < regions_of n) (sym k.kept.region) (e.copy.home_in t t_in) in
-      let E : EntryWord = new_entry (s.words (entry x)) l.cycle (index n (region_word r o)) in
+      let E : EntryWord = new_entry name l.cycle (index n (region_word r o)) in
       let long : length (replicate (z - 1) Null) ≡ z - 1 = length-replicate (z - 1) Null in
-      let p : Publishes n s V h d g w idle E x r o z = record {
+      let p : Publishes n s V h d g w idle E name.entry r o z = record {
         inside = k.inside;
         writer = omega (arith, k.turn);
         kept = k.kept;
         sets = sets;
-        fits_word = record { address = address_fits n r o r_in (omega (arith, k.fits, k.some)) shape; epoch = small; generation = generation_small (s.words (entry x)) };
+        fits_word = record { address = address_fits n r o r_in (omega (arith, k.fits, k.some)) shape; epoch = small; generation = subst (λ q. q < 2 ^ 20) k.generation (generation_small (s.words (entry name.entry))) };
         taken = refl;
         epoch = refl;
         address = refl;
@@ -123,7 +123,7 @@ module _ (n : Numbers) (shape : IsShape n) (s : State) (e : Evacuation n s) (i :
         fields_are = are;
         words = λ b less. k.words b (let s1 = k.some in omega arith);
       } in
-      publish_kept n s e i g w at_g at V h d idle E x r o z p tt
+      publish_kept n s e i g w at_g at V h d idle E name.entry r o z p tt
 
 -- the words of a record whose field is stored
 field_words : (fields : List Value) (j : ℕ) (v : Value) (b : ℕ) → j < length fields → b ≢ 1 + j →
@@ -163,6 +163,7 @@ module _ (n : Numbers) (s : State) (e : Evacuation n s) (i : ℕ) (g : GateFacet
         cycle = base.cycle;
         slots = λ y m. ap (λ q. slot_of n h y q) (table.entries y m) ∙ (λ q. record {
           taken = (entry_at (s.words (entry y))).taken;
+    generation = (entry_at (s.words (entry y))).generation;
           epoch = (entry_at (s.words (entry y))).epoch;
           region = region_of_address n (entry_at (s.words (entry y))).address;
           offset = word_of_address n (entry_at (s.words (entry y))).address;

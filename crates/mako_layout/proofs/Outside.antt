@@ -39,6 +39,7 @@ module _ (n : Numbers) (s : State) (e : Evacuation n s) (V : Place → ℕ) (h :
   slot_outside : (y : ℕ) → y < entries_of n → slot_of n h y (V (entry y)) ≡ slot_of n s.heap y (s.words (entry y))
   slot_outside y m = ap (λ q. slot_of n h y q) (only.table.entries y m) ∙ (λ q. record {
     taken = (entry_at (s.words (entry y))).taken;
+    generation = (entry_at (s.words (entry y))).generation;
     epoch = (entry_at (s.words (entry y))).epoch;
     region = region_of_address n (entry_at (s.words (entry y))).address;
     offset = word_of_address n (entry_at (s.words (entry y))).address;
@@ -92,23 +93,22 @@ words_there w m root fields t name e = ap (λ q. cond q (fields + 1) 0) (eq-eqb 
 -- New publishes its entry: its point enters the history
 pub new_published : (n : Numbers) → IsShape n → (s : State) → Evacuation n s → (i : ℕ) (g : GateFacet) → slice_get s.gates i ≡ Some g →
     (w : Facts) → w.entries ≡ n.entries → (history : List Point) → s.heap ≡ state_of w history → ((t : ℕ) → s.made t ≡ words_made w t history) →
-    (x r o fields m root : ℕ) (V : Place → ℕ) → slice_get s.works i ≡ Some (counts x r o (fields + 1)) → (layout n s).cycle < 2 ^ 20 →
-    Sets n s.words V (entry x) (entry_word (new_entry (s.words (entry x)) (layout n s).cycle (index n (region_word r o)))) →
+    (name : Name) (r o fields m root : ℕ) (V : Place → ℕ) → slice_get s.works i ≡ Some (counts name r o (fields + 1)) → (layout n s).cycle < 2 ^ 20 →
+    Sets n s.words V (entry name.entry) (entry_word (new_entry name (layout n s).cycle (index n (region_word r o)))) →
     Evacuation n (record s {
       words = V;
-      heap = state_of w (history ++ Did m (New root fields) (Made (name_of x (s.words (entry x)))) ∷ []);
+      heap = state_of w (history ++ Did m (New root fields) (Made name) ∷ []);
       works = set s.works i idle;
-      made = λ t. words_made w t (history ++ Did m (New root fields) (Made (name_of x (s.words (entry x)))) ∷ []);
+      made = λ t. words_made w t (history ++ Did m (New root fields) (Made name) ∷ []);
     })
-new_published n shape s e i g at_g w same_entries history is was x r o fields m root V at small sets =
-    let name : Name = name_of x (s.words (entry x)) in
+new_published n shape s e i g at_g w same_entries history is was name r o fields m root V at small sets =
     let point : Point = Did m (New root fields) (Made name) in
     let h : Heap = heap_after (state_of w history) point in
     let d : ℕ → ℕ = λ t. words_made w t (history ++ point ∷ []) in
-    let t : ℕ = tablet_of_entry n x in
-    let there : words_by w t point ≡ fields + 1 = words_there w m root fields t name (ap (λ q. x / q) same_entries) in
+    let t : ℕ = tablet_of_entry n name.entry in
+    let there : words_by w t point ≡ fields + 1 = words_there w m root fields t name (ap (λ q. name.entry / q) same_entries) in
     let kept : Evacuation n (record s { words = V; heap = h; works = set s.works i idle; made = d }) =
-    store_new n shape s e i g at_g x r o (fields + 1) V h d at small sets
+    store_new n shape s e i g at_g name r o (fields + 1) V h d at small sets
     (fields_same (state_of w history) name (replicate fields Null) ∙ ap (λ q. Some (replicate q Null)) (let a : fields ≡ fields + 1 - 1 = omega arith in a))
     (λ other d. fields_other (state_of w history) name (replicate fields Null) other (λ c. d (ap (λ (q : Name). q.entry) c)) ∙ ap (λ q. fields_of q other) (sym is))
     (let a = made_more w history point t in let b = was t in omega arith)

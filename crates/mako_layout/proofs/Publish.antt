@@ -96,6 +96,7 @@ module _ (n : Numbers) (s : State) (e : Evacuation n s) (i : ℕ) (g : GateFacet
   slot_same : (y : ℕ) → y < entries_of n → y ≢ x → m.slot y ≡ l.slot y
   slot_same y k ne = ap (λ q. slot_of n h y q) (entry_same y k ne) ∙ (λ q. record {
     taken = (entry_at (s.words (entry y))).taken;
+    generation = (entry_at (s.words (entry y))).generation;
     epoch = (entry_at (s.words (entry y))).epoch;
     region = region_of_address n (entry_at (s.words (entry y))).address;
     offset = word_of_address n (entry_at (s.words (entry y))).address;

@@ -6,7 +6,7 @@ use Rattle.mako_shape.specs.Belongings.{tablet_of_entry}
 use Rattle.mako_shape.proofs.BelongingLaws.{belongings_in_range}
 use Rattle.mako_gate.specs.Sums.{counted}
 use Rattle.mako_gate.specs.Changes.{tablets_of}
-use Rattle.mako_layout.specs.Layouts.{Slot, Layout, entries_of, part_in, part_of_cycle, taken_words, home_words, live_words, InHome, InGiven, Holds, OneCopy}
+use Rattle.mako_layout.specs.Layouts.{Slot, Layout, entries_of, part_in, part_of_cycle, taken_words, home_words, cycle_words, InHome, InGiven, Holds, OneCopy}
 use Rattle.mako_layout.specs.Changes.{Puts}
 use Rattle.mako_layout.proofs.Sums.{over_one, over_same, over_le, counted_is, counted_not}
 use Rattle.mako_layout.proofs.Roles.{free_above}
@@ -48,7 +48,7 @@ module _ (n : Numbers) (l : Layout) (o : OneCopy n l) (s : ℕ → Slot) (f d : 
     )
   ]
 
-  live_after : (u : ℕ) → u < tablets_of n → l.leaving u ≢ 0 → live_words n after u ≡ live_words n l u
+  live_after : (u : ℕ) → u < tablets_of n → l.leaving u ≢ 0 → cycle_words n after u ≡ cycle_words n l u
   live_after u k left = over_same n u k (λ y. part_of_cycle l.cycle (s y)) (λ y. part_of_cycle l.cycle (l.slot y)) (λ y m e. elim (cases_eq y x) [
     | inl c ↦ (let was = p.was (subst (λ v. l.leaving v ≢ 0) (sym e ∙ ap (tablet_of_entry n) c) left) in
         let a = counted_is (s x).taken (s x).epoch l.cycle (s x).size p.taken p.epoch in

@@ -6,7 +6,7 @@ use Rattle.mako_shape.specs.Belongings.{tablet_of_entry}
 use Rattle.mako_shape.proofs.BelongingLaws.{belongings_in_range}
 use Rattle.mako_gate.specs.Sums.{counted}
 use Rattle.mako_gate.specs.Changes.{tablets_of}
-use Rattle.mako_layout.specs.Layouts.{Layout, entries_of, part_in, part_of_cycle, home_words, live_words, Holds, OneCopy}
+use Rattle.mako_layout.specs.Layouts.{Layout, entries_of, part_in, part_of_cycle, home_words, cycle_words, Holds, OneCopy}
 use Rattle.mako_layout.proofs.Sums.{term_below, terms_below, over_le_at, over_same, counted_cases, counted_is, counted_not}
 use Rattle.mako_gate.proofs.Numbers.{count_at}
 
@@ -82,7 +82,7 @@ module _ (n : Numbers) (l : Layout) (o : OneCopy n l) where
       let left : l.leaving t ≢ 0 = away x h taken now out in
       let nothing = counted_not (l.slot x).taken (l.slot x).region (l.home t) (l.slot x).size (λ _. out) in
       let all = counted_is (l.slot x).taken (l.slot x).epoch l.cycle (l.slot x).size taken now in
-      let more : home_words n l t + (l.slot x).size ≤ live_words n l t =
+      let more : home_words n l t + (l.slot x).size ≤ cycle_words n l t =
       over_le_at n t k (λ y. part_in (l.home t) (l.slot y)) (λ y. part_of_cycle l.cycle (l.slot y)) x (l.slot x).size h (λ i. t)
       (λ y m e. part_le t y m e left) (omega arith) in
       omega (arith, o.exact t k left, o.live t k left)
@@ -90,7 +90,7 @@ module _ (n : Numbers) (l : Layout) (o : OneCopy n l) where
   -- all records of the cycle are in the home: the words in use are theirs
   pub all_moved : (t : ℕ) → t < tablets_of n → l.leaving t ≢ 0 →
       ((x : ℕ) → x < entries_of n → tablet_of_entry n x ≡ t → (l.slot x).taken ≡ true → (l.slot x).epoch ≡ l.cycle → (l.slot x).region ≡ l.home t) →
-      l.filled t ≡ live_words n l t
+      l.filled t ≡ cycle_words n l t
   all_moved t k left moved =
       sym (o.exact t k left) ∙ over_same n t k (λ y. part_in (l.home t) (l.slot y)) (λ y. part_of_cycle l.cycle (l.slot y)) (λ y m e.
       elim (counted_cases (l.slot y).taken (l.slot y).epoch l.cycle (l.slot y).size) [

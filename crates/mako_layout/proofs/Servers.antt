@@ -15,7 +15,7 @@ use Rattle.mako_model.specs.Heaps.{fields_of}
 use Rattle.mako_gate.specs.Sums.{counted}
 use Rattle.mako_gate.specs.Changes.{tablets_of, Sets, LeavesGates}
 use Rattle.mako_gate.specs.Standings.{GateFacet, drained_by, writes}
-use Rattle.mako_layout.specs.Layouts.{Slot, Layout, entries_of, regions_of, live_words, gifts_at, OneCopy}
+use Rattle.mako_layout.specs.Layouts.{Slot, Layout, entries_of, regions_of, cycle_words, gifts_at, OneCopy}
 use Rattle.mako_layout.specs.Changes.{Alters, AreSame}
 use Rattle.mako_layout.specs.Facets.{Work, idle, reads, uses, holds_home, moves, asks, tops, finds, fills, carries, raises, makes, counts, Choice}
 use Rattle.mako_layout.specs.Evacuations.{slot_of_entry, slot_of, home_read, top_read, to_raise, counted_in, layout_of, IsRecordOf, Knows, State, layout, Evacuation}
@@ -124,7 +124,7 @@ module _ (n : Numbers) (s : State) (e : Evacuation n s) (i : ℕ) (g : GateFacet
       ]))
 
   -- and where it does, the top word is the sum of the records of the cycle
-  pub cleared_top : (t : ℕ) → t < tablets_of n → 1 ≤ drained_by t g.watch → s.words (leaving t) ≢ 0 → IsMoved n (layout n s) t → s.words (top t) ≡ live_words n (layout n s) t
+  pub cleared_top : (t : ℕ) → t < tablets_of n → 1 ≤ drained_by t g.watch → s.words (leaving t) ≢ 0 → IsMoved n (layout n s) t → s.words (top t) ≡ cycle_words n (layout n s) t
   cleared_top t inside drained left moved =
       sym (filled_is n s e i g at_g w at_w t inside (omega (arith, drained)) (owes t).0 (owes t).1) ∙ all_moved n (layout n s) e.copy t inside left moved
 
@@ -195,12 +195,12 @@ no_writing n l o W f (holds_home x r) k is none taken = is
 no_writing n l o W f (moves x r) k is none taken = away n l o x k.inside k.taken k.epoch (λ c. k.out (c ∙ sym k.region)) none
 no_writing n l o W f (asks x) k is none taken = is
 no_writing n l o W f (tops x q z) k is none taken = is
-no_writing n l o W f (finds x q z) k is none taken = let c = k.free in cc
+no_writing n l o W f (finds name q z) k is none taken = let c = k.free in cc
 no_writing n l o W f (fills x r q j) k is none taken = away n l o x k.inside k.taken k.epoch (λ c. k.out (c ∙ sym k.kept.region)) none
 no_writing n l o W f (carries x r q j v) k is none taken = away n l o x k.fills.inside k.fills.taken k.fills.epoch (λ c. k.fills.out (c ∙ sym k.fills.kept.region)) none
 no_writing n l o W f (raises x r q z) k is none taken = k.left none
-no_writing n l o W f (makes x r q z j) k is none taken = let c = k.free in cc
-no_writing n l o W f (counts x r q z) k is none taken = let c = k.makes.free in cc
+no_writing n l o W f (makes name r q z j) k is none taken = let c = k.free in cc
+no_writing n l o W f (counts name r q z) k is none taken = let c = k.makes.free in cc
 
 module _ (n : Numbers) (s : State) (e : Evacuation n s) (V : Place → ℕ) (E : EntryWord) (x : ℕ) (p : AltersEntry n s V E x) where
   abbrev l1 : Layout

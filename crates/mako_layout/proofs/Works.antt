@@ -19,6 +19,7 @@ use Rattle.mako_layout.proofs.Roles.{copy_fits}
 use Rattle.mako_layout.proofs.Frames.{table_beside_region, gates_beside_region, gates_frame, layout_same, record_stays, ahead_stays}
 use Rattle.mako_layout.proofs.Stays.{KnownAfter, stays_kept}
 use Rattle.mako_gate.proofs.GatesTell.{gates_tell}
+use Rattle.mako_words.specs.declared.name.Name.{Name}
 
 same_table : (n : Numbers) (W : Place → ℕ) → SameTable n W W
 same_table n W = record { phase = refl; entries = λ _ _. refl; homes = λ _ _. refl; tops = λ _ _. refl; leavings = λ _ _. refl }
@@ -130,22 +131,23 @@ module _ (n : Numbers) (s : State) (e : Evacuation n s) (i : ℕ) (g : GateFacet
       })
 
   -- a word of a new record is stored
-  pub store_null : (x r o z j : ℕ) (V : Place → ℕ) → slice_get s.works i ≡ Some (makes x r o z j) → j < z → Sets n s.words V (region_word r (o + j)) (null_words z j) →
-      Evacuation n (record s { words = V; works = set s.works i (makes x r o z (j + 1)) })
-  store_null x r o z j V at more sets =
+  pub store_null : (name : Name) (r o z j : ℕ) (V : Place → ℕ) → slice_get s.works i ≡ Some (makes name r o z j) → j < z → Sets n s.words V (region_word r (o + j)) (null_words z j) →
+      Evacuation n (record s { words = V; works = set s.works i (makes name r o z (j + 1)) })
+  store_null name r o z j V at more sets =
       let l : Layout = layout n s in
-      let k : Makes n l s.words g x r o z j = e.knows i g (makes x r o z j) at_g at in
-      let t : ℕ = tablet_of_entry n x in
-      let inside = belongings_in_range.entry n x k.inside in
+      let k : Makes n l s.words g name r o z j = e.knows i g (makes name r o z j) at_g at in
+      let t : ℕ = tablet_of_entry n name.entry in
+      let inside = belongings_in_range.entry n name.entry k.inside in
       let sets' = subst (λ a. Sets n s.words V (region_word a (o + j)) (null_words z j)) k.kept.region sets in
       let past : l.filled t ≤ o + j = omega (arith, k.kept.offset) in
-      store_kept n s e i g (makes x r o z j) at_g at V (makes x r o z (j + 1)) t (o + j) (null_words z j) inside (omega (arith, k.turn)) past sets' (record { raise = λ t. refl; count = λ t. refl })
+      store_kept n s e i g (makes name r o z j) at_g at V (makes name r o z (j + 1)) t (o + j) (null_words z j) inside (omega (arith, k.turn)) past sets' (record { raise = λ t. refl; count = λ t. refl })
       (record {
         inside = k.inside;
         turn = k.turn;
         kept = k.kept;
         stays = k.stays;
         free = k.free;
+        generation = k.generation;
         some = k.some;
         fits = k.fits;
         most = omega arith;

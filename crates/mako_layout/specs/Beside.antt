@@ -16,12 +16,12 @@ entry_of (holds_home x r) = x
 entry_of (moves x r) = x
 entry_of (asks x) = x
 entry_of (tops x o z) = x
-entry_of (finds x o z) = x
+entry_of (finds name o z) = name.entry
 entry_of (fills x r o j) = x
 entry_of (carries x r o j v) = x
 entry_of (raises x r o z) = x
-entry_of (makes x r o z j) = x
-entry_of (counts x r o z) = x
+entry_of (makes name r o z j) = name.entry
+entry_of (counts name r o z) = name.entry
 
 -- to a view that may write in the tablet, where the entry is not looked at
 pub record Quiet (n : Numbers) (l m : Layout) (W V : Place → ℕ) (x t : ℕ) : Type 0 where

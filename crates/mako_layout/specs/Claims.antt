@@ -2,7 +2,7 @@
 use Rattle.std.specs.Prelude.{ℕ, true, ◌≡◌, ◌≢◌, ◌+◌, ◌<◌, ◌≤◌}
 use Rattle.mako_shape.specs.declared.numbers.Numbers.{Numbers}
 use Rattle.mako_shape.specs.Belongings.{tablet_of_entry}
-use Rattle.mako_layout.specs.Layouts.{Slot, Layout, entries_of, regions_of, live_words, gifts_at, Holds, OneCopy}
+use Rattle.mako_layout.specs.Layouts.{Slot, Layout, entries_of, regions_of, cycle_words, gifts_at, Holds, OneCopy}
 use Rattle.mako_layout.specs.Changes.{Puts, Alters, Chooses, Clears, AreSame}
 use Rattle.mako_gate.specs.Changes.{tablets_of}
 
@@ -38,7 +38,7 @@ CopyFits = (n : Numbers) (l : Layout) → OneCopy n l → (x : ℕ) → x < entr
 abbrev pub AllMoved : Type 0
 AllMoved = (n : Numbers) (l : Layout) → OneCopy n l → (t : ℕ) → t < tablets_of n → l.leaving t ≢ 0 →
     ((x : ℕ) → x < entries_of n → tablet_of_entry n x ≡ t → (l.slot x).taken ≡ true → (l.slot x).epoch ≡ l.cycle → (l.slot x).region ≡ l.home t) →
-    l.filled t ≡ live_words n l t
+    l.filled t ≡ cycle_words n l t
 
 -- no word of a home from the words in use on belongs to a record
 abbrev pub FreeAbove : Type 0

@@ -5,7 +5,7 @@ use Rattle.mako_shape.specs.declared.numbers.Numbers.{Numbers}
 use Rattle.mako_shape.specs.Places.{entry, home, top, leaving, region_word, index}
 use Rattle.mako_shape.specs.Belongings.{tablet_of_entry}
 use Rattle.mako_layout.specs.Sums.{over_tablet}
-use Rattle.mako_layout.specs.Layouts.{entries_of, home_words, live_words, Slot, Layout}
+use Rattle.mako_layout.specs.Layouts.{entries_of, home_words, cycle_words, Slot, Layout}
 use Rattle.mako_layout.specs.Facets.{Work, reads, uses, holds_home, fills}
 use Rattle.mako_layout.specs.Evacuations.{IsRecordOf, State, layout, Evacuation}
 use Rattle.mako_layout.specs.Beside.{entry_of, IsWriting}
@@ -56,9 +56,9 @@ abbrev pub BegunCopiesFit : Type 0
 BegunCopiesFit = (n : Numbers) (s : State) → Evacuation n s → (i x r o j : ℕ) (g : GateFacet) → Seat s i g (fills x r o j) → o + ((layout n s).slot x).size ≤ n.words
 
 -- where a server clears leaving, having passed the tablet's entries, the top is the sum of the tablet's taken records of the cycle
-abbrev pub ClearedTopsAreLive : Type 0
-ClearedTopsAreLive = (n : Numbers) (s : State) → Evacuation n s → (i t x r : ℕ) → Seat s i (shutter_at i (has_drained t (t * n.entries + n.entries))) (holds_home x r) → t < tablets_of n →
-    s.words (leaving t) ≢ 0 → s.words (top t) ≡ live_words n (layout n s) t
+abbrev pub ClearedTopsAreExact : Type 0
+ClearedTopsAreExact = (n : Numbers) (s : State) → Evacuation n s → (i t x r : ℕ) → Seat s i (shutter_at i (has_drained t (t * n.entries + n.entries))) (holds_home x r) → t < tablets_of n →
+    s.words (leaving t) ≢ 0 → s.words (top t) ≡ cycle_words n (layout n s) t
 
 -- the words of a taken record of the cycle that does not lie in the home
 abbrev pub part_to_come : ℕ → ℕ → Slot → ℕ

@@ -30,6 +30,7 @@ fields_in h name = unwrap_or (fields_of h name) []
 abbrev pub slot_of_entry : Numbers → Heap → ℕ → EntryWord → Slot
 slot_of_entry n h x e = record {
   taken = e.taken;
+  generation = e.generation;
   epoch = e.epoch;
   region = region_of_address n e.address;
   offset = word_of_address n e.address;
@@ -57,7 +58,7 @@ to_raise n t (raises x r o z) = counted (tablet_of_entry n x == t) z
 to_raise n t w = 0
 
 abbrev pub counted_in : Numbers → ℕ → Work → ℕ
-counted_in n t (counts x r o z) = counted (tablet_of_entry n x == t) z
+counted_in n t (counts name r o z) = counted (tablet_of_entry n name.entry == t) z
 counted_in n t w = 0
 
 abbrev pub layout_of : Numbers → (Place → ℕ) → Heap → List Work → Choice → (ℕ → ℕ) → Layout
@@ -132,9 +133,11 @@ pub record Tops (n : Numbers) (l : Layout) (g : GateFacet) (x o z : ℕ) : Type 
   pub some : 1 ≤ z
   pub fits : o + z ≤ n.words
 
-pub record Finds (n : Numbers) (l : Layout) (g : GateFacet) (x o z : ℕ) : Type 0 where
-  pub tops : Tops n l g x o z
-  pub free : (l.slot x).taken ≡ false
+-- the entry is free, and the name is the next that it may have
+pub record Finds (n : Numbers) (l : Layout) (g : GateFacet) (name : Name) (o z : ℕ) : Type 0 where
+  pub tops : Tops n l g name.entry o z
+  pub free : (l.slot name.entry).taken ≡ false
+  pub generation : (l.slot name.entry).generation ≡ name.generation
 
 pub record Fills (n : Numbers) (l : Layout) (W : Place → ℕ) (g : GateFacet) (x r o j : ℕ) : Type 0 where
   pub inside : x < entries_of n
@@ -165,19 +168,20 @@ pub record Raises (n : Numbers) (l : Layout) (W : Place → ℕ) (g : GateFacet)
 abbrev pub null_words : ℕ → ℕ → ℕ
 null_words z i = get_or (record_words (replicate (z - 1) Null)) i 0
 
-pub record Makes (n : Numbers) (l : Layout) (W : Place → ℕ) (g : GateFacet) (x r o z j : ℕ) : Type 0 where
-  pub inside : x < entries_of n
-  pub turn : 1 ≤ holds_turn (tablet_of_entry n x) g.standing
-  pub kept : Kept n l x r o
-  pub stays : l.leaving (tablet_of_entry n x) ≡ 0
-  pub free : (l.slot x).taken ≡ false
+pub record Makes (n : Numbers) (l : Layout) (W : Place → ℕ) (g : GateFacet) (name : Name) (r o z j : ℕ) : Type 0 where
+  pub inside : name.entry < entries_of n
+  pub turn : 1 ≤ holds_turn (tablet_of_entry n name.entry) g.standing
+  pub kept : Kept n l name.entry r o
+  pub stays : l.leaving (tablet_of_entry n name.entry) ≡ 0
+  pub free : (l.slot name.entry).taken ≡ false
+  pub generation : (l.slot name.entry).generation ≡ name.generation
   pub some : 1 ≤ z
   pub fits : o + z ≤ n.words
   pub most : j ≤ z
   pub words : Stand W r o j (null_words z)
 
-pub record Counts (n : Numbers) (l : Layout) (W : Place → ℕ) (g : GateFacet) (x r o z : ℕ) : Type 0 where
-  pub makes : Makes n l W g x r o z z
+pub record Counts (n : Numbers) (l : Layout) (W : Place → ℕ) (g : GateFacet) (name : Name) (r o z : ℕ) : Type 0 where
+  pub makes : Makes n l W g name r o z z
 
 abbrev pub Knows : Numbers → Layout → (Place → ℕ) → GateFacet → Work → Type 0
 Knows n l W g idle = Unit {0}
@@ -187,12 +191,12 @@ Knows n l W g (holds_home x r) = HoldsHome n l g x r
 Knows n l W g (moves x r) = Moves n l g x r
 Knows n l W g (asks x) = Asks n l g x
 Knows n l W g (tops x o z) = Tops n l g x o z
-Knows n l W g (finds x o z) = Finds n l g x o z
+Knows n l W g (finds name o z) = Finds n l g name o z
 Knows n l W g (fills x r o j) = Fills n l W g x r o j
 Knows n l W g (carries x r o j v) = Carries n l W g x r o j v
 Knows n l W g (raises x r o z) = Raises n l W g x r o z
-Knows n l W g (makes x r o z j) = Makes n l W g x r o z j
-Knows n l W g (counts x r o z) = Counts n l W g x r o z
+Knows n l W g (makes name r o z j) = Makes n l W g name r o z j
+Knows n l W g (counts name r o z) = Counts n l W g name r o z
 
 -- all that evacuation reads
 pub record State : Type 0 where

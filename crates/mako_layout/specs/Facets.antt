@@ -2,6 +2,7 @@
 use Rattle.std.specs.Prelude.{ℕ, ◌≡◌, ◌+◌, ◌<◌, ◌≤◌, List, slice_get, Some}
 use Rattle.mako_shape.specs.declared.numbers.Numbers.{Numbers}
 use Rattle.mako_gate.specs.Standings.{GateFacet, admitted, drained_by, drained_own}
+use Rattle.mako_words.specs.declared.name.Name.{Name}
 
 -- no home of the tablet changes beside the view
 abbrev pub stands : ℕ → GateFacet → ℕ
@@ -21,16 +22,16 @@ pub data Work : Type 0 where
   -- a New found the tablet of the entry not left; it keeps the top, with room for so many words, and looks at the entry; it found the entry free
   asks : ℕ → Work
   tops : ℕ → ℕ → ℕ → Work
-  finds : ℕ → ℕ → ℕ → Work
+  finds : Name → ℕ → ℕ → Work
   -- it copies the entry's record, and has stored so many words, and holds the next
   fills : ℕ → ℕ → ℕ → ℕ → Work
   carries : ℕ → ℕ → ℕ → ℕ → ℕ → Work
   -- the entry is stored, and the top is still to be raised by the words of its record
   raises : ℕ → ℕ → ℕ → ℕ → Work
   -- it makes a record of so many words, and has stored so many
-  makes : ℕ → ℕ → ℕ → ℕ → ℕ → Work
+  makes : Name → ℕ → ℕ → ℕ → ℕ → Work
   -- the top is raised, and the entry still to be stored
-  counts : ℕ → ℕ → ℕ → ℕ → Work
+  counts : Name → ℕ → ℕ → ℕ → Work
 
 -- what the collector has still to store of its choice
 pub data Debt : Type 0 where

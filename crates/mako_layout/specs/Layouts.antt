@@ -9,6 +9,7 @@ use Rattle.mako_gate.specs.Changes.{tablets_of}
 -- An entry with its record: the region and the first word in it, and its words with the header.
 pub record Slot : Type 0 where
   pub taken : Bool
+  pub generation : ℕ
   pub epoch : ℕ
   pub region : ℕ
   pub offset : ℕ
@@ -49,8 +50,8 @@ abbrev pub home_words : Numbers → Layout → ℕ → ℕ
 home_words n l t = over_tablet n t (λ x. part_in (l.home t) (l.slot x))
 
 -- the words of the tablet's taken records of the cycle
-abbrev pub live_words : Numbers → Layout → ℕ → ℕ
-live_words n l t = over_tablet n t (λ x. part_of_cycle l.cycle (l.slot x))
+abbrev pub cycle_words : Numbers → Layout → ℕ → ℕ
+cycle_words n l t = over_tablet n t (λ x. part_of_cycle l.cycle (l.slot x))
 
 -- the words of the tablet's taken records
 abbrev pub taken_words : Numbers → Layout → ℕ → ℕ
@@ -106,6 +107,6 @@ pub record OneCopy (n : Numbers) (l : Layout) : Type 0 where
   -- while a region is left
   pub leaves : (t : ℕ) → t < tablets_of n → l.leaving t ≢ 0 → l.leaving t ≡ l.given t
   pub exact : (t : ℕ) → t < tablets_of n → l.leaving t ≢ 0 → home_words n l t ≡ l.filled t
-  pub live : (t : ℕ) → t < tablets_of n → l.leaving t ≢ 0 → live_words n l t ≤ n.words
+  pub live : (t : ℕ) → t < tablets_of n → l.leaving t ≢ 0 → cycle_words n l t ≤ n.words
   pub fresh : (x : ℕ) → x < entries_of n → (l.slot x).taken ≡ true → l.leaving (tablet_of_entry n x) ≢ 0 →
       (l.slot x).region ≡ l.home (tablet_of_entry n x) → (l.slot x).epoch ≡ l.cycle

@@ -21,6 +21,7 @@ use Rattle.mako_layout.specs.Evacuations.{name_of, top_read, to_raise, counted_i
 use Rattle.mako_layout.specs.StepParts.{new_entry}
 use Rattle.mako_layout.specs.Steps.{Step}
 use Rattle.mako_layout.specs.Openings.{opening_state}
+use Rattle.mako_words.specs.declared.name.Name.{Name}
 
 -- the states after any steps of any seats
 pub data Reaches (n : Numbers) (board : ℕ) : State → Type 0 where
@@ -39,13 +40,13 @@ UsedIsMade = (n : Numbers) (s : State) → Evacuation n s → (t : ℕ) → t < 
 abbrev pub NewIsPublished : Type 0
 NewIsPublished = (n : Numbers) → IsShape n → (s : State) → Evacuation n s → (i : ℕ) (g : GateFacet) → slice_get s.gates i ≡ Some g →
     (w : Facts) → w.entries ≡ n.entries → (history : List Point) → s.heap ≡ state_of w history → ((t : ℕ) → s.made t ≡ words_made w t history) →
-    (x r o fields m root : ℕ) (V : Place → ℕ) → slice_get s.works i ≡ Some (counts x r o (fields + 1)) → (layout n s).cycle < 2 ^ 20 →
-    Sets n s.words V (entry x) (entry_word (new_entry (s.words (entry x)) (layout n s).cycle (index n (region_word r o)))) →
+    (name : Name) (r o fields m root : ℕ) (V : Place → ℕ) → slice_get s.works i ≡ Some (counts name r o (fields + 1)) → (layout n s).cycle < 2 ^ 20 →
+    Sets n s.words V (entry name.entry) (entry_word (new_entry name (layout n s).cycle (index n (region_word r o)))) →
     Evacuation n (record s {
       words = V;
-      heap = state_of w (history ++ Did m (New root fields) (Made (name_of x (s.words (entry x)))) ∷ []);
+      heap = state_of w (history ++ Did m (New root fields) (Made name) ∷ []);
       works = slice_set s.works i idle;
-      made = λ t. words_made w t (history ++ Did m (New root fields) (Made (name_of x (s.words (entry x)))) ∷ []);
+      made = λ t. words_made w t (history ++ Did m (New root fields) (Made name) ∷ []);
     })
 
 -- Put stores its field: its point enters the history

@@ -11,6 +11,7 @@ use Rattle.mako_layout.specs.Evacuations.{State, layout}
 use Rattle.mako_layout.specs.Beside.{entry_of, IsReading}
 use Rattle.mako_gate.specs.Standings.{GateFacet}
 use Rattle.mako_gate.specs.Changes.{Sets}
+use Rattle.mako_words.specs.declared.name.Name.{Name}
 
 -- the seat stands so at the gates, and has this work
 pub record Seat (s : State) (i : ℕ) (g : GateFacet) (w : Work) : Type 0 where
@@ -22,8 +23,8 @@ abbrev pub moved_entry : ℕ → ℕ → EntryWord
 moved_entry w a = record (entry_at w) { address = a }
 
 -- the entry word of a new object
-abbrev pub new_entry : ℕ → ℕ → ℕ → EntryWord
-new_entry w c a = record { taken = true; generation = (entry_at w).generation; epoch = c; address = a }
+abbrev pub new_entry : Name → ℕ → ℕ → EntryWord
+new_entry name c a = record { taken = true; generation = name.generation; epoch = c; address = a }
 
 -- what is to be moved was moved
 abbrev pub IsMoved : Numbers → Layout → ℕ → Type 0

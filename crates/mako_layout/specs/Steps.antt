@@ -85,16 +85,21 @@ pub data Step (n : Numbers) (s : State) : ℕ → State → Type 0 where
       Step n s i (at_work s s.words i (tops x (s.words (top (tablet_of_entry n x))) z))
   skip_entry : (i x o z : ℕ) (g : GateFacet) → Seat s i g (tops x o z) → x + 1 < entries_of n → tablet_of_entry n (x + 1) ≡ tablet_of_entry n x →
       Step n s i (at_work s s.words i (tops (x + 1) o z))
-  find_entry : (i x o z : ℕ) (g : GateFacet) → Seat s i g (tops x o z) → ((layout n s).slot x).taken ≡ false → Step n s i (at_work s s.words i (finds x o z))
-  begin_new : (i x o z : ℕ) (g : GateFacet) → Seat s i g (finds x o z) → Step n s i (at_work s s.words i (makes x (s.words (home (tablet_of_entry n x))) o z 0))
-  store_null : (V : Place → ℕ) (i x r o z j : ℕ) (g : GateFacet) → Seat s i g (makes x r o z j) → j < z →
-      Sets n s.words V (region_word r (o + j)) (null_words z j) → Step n s i (at_work s V i (makes x r o z (j + 1)))
-  raise_for_new : (V : Place → ℕ) (i x r o z : ℕ) (g : GateFacet) → Seat s i g (makes x r o z z) →
-      Sets n s.words V (top (tablet_of_entry n x)) (o + z) → Step n s i (at_work s V i (counts x r o z))
-  store_new : (V : Place → ℕ) (h : Heap) (d : ℕ → ℕ) (i x r o z : ℕ) (g : GateFacet) → Seat s i g (counts x r o z) → (layout n s).cycle < 2 ^ 20 →
-      Sets n s.words V (entry x) (entry_word (new_entry (s.words (entry x)) (layout n s).cycle (index n (region_word r o)))) →
-      fields_of h (name_of x (s.words (entry x))) ≡ Some (replicate (z - 1) Null) → ((name : Name) → name.entry ≢ x → fields_of h name ≡ fields_of s.heap name) →
-      s.made (tablet_of_entry n x) + z ≤ d (tablet_of_entry n x) → ((q : ℕ) → s.made q ≤ d q) →
+  find_entry : (i : ℕ) (name : Name) (o z : ℕ) (g : GateFacet) → Seat s i g (tops name.entry o z) →
+      ((layout n s).slot name.entry).taken ≡ false → ((layout n s).slot name.entry).generation ≡ name.generation →
+      Step n s i (at_work s s.words i (finds name o z))
+  begin_new : (i : ℕ) (name : Name) (o z : ℕ) (g : GateFacet) → Seat s i g (finds name o z) →
+      Step n s i (at_work s s.words i (makes name (s.words (home (tablet_of_entry n name.entry))) o z 0))
+  store_null : (V : Place → ℕ) (i : ℕ) (name : Name) (r o z j : ℕ) (g : GateFacet) → Seat s i g (makes name r o z j) → j < z →
+      Sets n s.words V (region_word r (o + j)) (null_words z j) → Step n s i (at_work s V i (makes name r o z (j + 1)))
+  raise_for_new : (V : Place → ℕ) (i : ℕ) (name : Name) (r o z : ℕ) (g : GateFacet) → Seat s i g (makes name r o z z) →
+      Sets n s.words V (top (tablet_of_entry n name.entry)) (o + z) → Step n s i (at_work s V i (counts name r o z))
+  store_new : (V : Place → ℕ) (h : Heap) (d : ℕ → ℕ) (i : ℕ) (name : Name) (r o z : ℕ) (g : GateFacet) →
+      Seat s i g (counts name r o z) → (layout n s).cycle < 2 ^ 20 →
+      Sets n s.words V (entry name.entry) (entry_word (new_entry name (layout n s).cycle (index n (region_word r o)))) →
+      fields_of h name ≡ Some (replicate (z - 1) Null) →
+      ((other : Name) → other.entry ≢ name.entry → fields_of h other ≡ fields_of s.heap other) →
+      s.made (tablet_of_entry n name.entry) + z ≤ d (tablet_of_entry n name.entry) → ((q : ℕ) → s.made q ≤ d q) →
       Step n s i (record s { words = V; heap = h; works = slice_set s.works i idle; made = d })
   -- a field is stored where the view uses the record
   store_field : (V : Place → ℕ) (h : Heap) (i x r o j : ℕ) (v : Value) (g : GateFacet) (fields : List Value) → Seat s i g (uses x r o) →

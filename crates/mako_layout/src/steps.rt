@@ -4,7 +4,7 @@ ghost use Rattle.mako_layout.specs.Steps.{EachStepKeeps};
 ghost use Rattle.mako_layout.specs.Actions.{HomesChangeInPauses, FreeWordsAreTheWriters};
 ghost use Rattle.mako_layout.specs.Openings.{OpeningHolds};
 ghost use Rattle.mako_layout.specs.Runs.{AllReachedHold, UsedIsMade, NewIsPublished, PutIsStored};
-ghost use Rattle.mako_layout.specs.Conclusions.{ServersCopyAlone, OneWriter, UsedIsPresent, ReadIsPresent, EachHasItsRecord, RecordsAreApart, BegunCopiesFit, WhatIsLeftFits, ClearedTopsAreLive};
+ghost use Rattle.mako_layout.specs.Conclusions.{ServersCopyAlone, OneWriter, UsedIsPresent, ReadIsPresent, EachHasItsRecord, RecordsAreApart, BegunCopiesFit, WhatIsLeftFits, ClearedTopsAreExact};
 
 /// Each kind of step keeps the invariant, for any number of mutators, servers and tablets.
 pub fn each_step()
@@ -33,7 +33,7 @@ pub fn says()
     ensures apart { RecordsAreApart }
     ensures fits { BegunCopiesFit }
     ensures left { WhatIsLeftFits }
-    ensures cleared { ClearedTopsAreLive }
+    ensures cleared { ClearedTopsAreExact }
     ensures made { UsedIsMade }
 {}
 

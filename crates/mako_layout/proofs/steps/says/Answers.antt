@@ -1,4 +1,4 @@
-use Rattle.mako_layout.proofs.Conclusions.{servers_copy_alone, writers_are_one, used_is_present, read_is_present, each_has_its_record, records_are_apart, begun_copies_fit, what_is_left_fits, cleared_tops_are_live}
+use Rattle.mako_layout.proofs.Conclusions.{servers_copy_alone, writers_are_one, used_is_present, read_is_present, each_has_its_record, records_are_apart, begun_copies_fit, what_is_left_fits, cleared_tops_are_exact}
 use Rattle.mako_layout.proofs.Runs.{used_is_made}
 use Rattle.mako_layout.proofs.steps.says.Goals as goal
 
@@ -24,7 +24,7 @@ pub returns-clause-fits : goal.returns-clause-fits
 returns-clause-fits c = begun_copies_fit
 
 pub returns-clause-cleared : goal.returns-clause-cleared
-returns-clause-cleared c = cleared_tops_are_live
+returns-clause-cleared c = cleared_tops_are_exact
 
 pub returns-clause-made : goal.returns-clause-made
 returns-clause-made c = used_is_made
