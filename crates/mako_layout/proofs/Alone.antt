@@ -10,7 +10,7 @@ use Rattle.mako_gate.specs.Changes.{tablets_of, Sets, LeavesGates}
 use Rattle.mako_gate.specs.Standings.{GateFacet, drained_by}
 use Rattle.mako_gate.proofs.Numbers.{holds_le}
 use Rattle.mako_layout.specs.Layouts.{Layout, entries_of, regions_of, OneCopy}
-use Rattle.mako_layout.specs.Facets.{stands, Work, idle, reads, uses, holds_home, moves, asks, tops, finds, fills, carries, raises, makes, counts, settled, owes_home, owes_top, Choice, Paused, Debt}
+use Rattle.mako_layout.specs.Facets.{stands, Work, idle, reads, uses, holds_home, moves, asks, tops, finds, fills, carries, raises, makes, counts, settled, owes_home, owes_top, Choice, Paused, Debt, debt_of, given_of, spare_of, rests_with, chooses}
 use Rattle.mako_layout.specs.Evacuations.{slot_of, home_read, top_read, to_raise, counted_in, layout_of, Knows, State, layout, Evacuation}
 use Rattle.mako_layout.proofs.Alterations.{cycle_kept}
 use Rattle.mako_layout.proofs.Choices.{choose_kept, same_kept}
@@ -35,8 +35,8 @@ nothing_known n l m W V f (makes name r o z j) none k = absurd (let a = k.turn i
 nothing_known n l m W V f (counts name r o z) none k = absurd (let a = k.makes.turn in let b = none (tablet_of_entry n name.entry) in let c = holds_le (tablet_of_entry n name.entry) f.standing in omega arith)
 
 -- a collector that owes is alone
-pub paused_by : (n : Numbers) (s : State) → Evacuation n s → (d : Debt) (gl : List (ℕ × ℕ)) (sl : List ℕ) → s.choice ≡ record { debt = d; given = gl; spare = sl } → (d ≡ settled → ⊥) → Paused n s.gates
-paused_by n s e d gl sl is owes = ⊎_elim (λ c. absurd (owes (sym (ap (λ (q : Choice). q.debt) is) ∙ c))) (λ q. q) e.pause
+pub paused_by : (n : Numbers) (s : State) → Evacuation n s → (d : Debt) (gl : List (ℕ × ℕ)) (sl : List ℕ) → s.choice ≡ chooses d gl sl → (d ≡ settled → ⊥) → Paused n s.gates
+paused_by n s e d gl sl is owes = ⊎_elim (λ c. absurd (owes (sym (ap debt_of is) ∙ c))) (λ q. q) e.pause
 
 module _ (n : Numbers) (s : State) (e : Evacuation n s) (p : Paused n s.gates) where
   nobody_stands : (j : ℕ) (f : GateFacet) → slice_get s.gates j ≡ Some f → (t : ℕ) → stands t f ≡ 0
@@ -63,18 +63,18 @@ module _ (n : Numbers) (s : State) (e : Evacuation n s) (p : Paused n s.gates) w
   }
 
   -- store leaving: the tablet is to get the spare region r for its home
-  pub store_leaving : s.choice.debt ≡ settled → (V : Place → ℕ) (t r : ℕ) (gl : List (ℕ × ℕ)) (sl : List ℕ) → t < tablets_of n → r < regions_of n →
+  pub store_leaving : debt_of s.choice ≡ settled → (V : Place → ℕ) (t r : ℕ) (gl : List (ℕ × ℕ)) (sl : List ℕ) → t < tablets_of n → r < regions_of n →
       server_of_region n r ≡ server_of_tablet n t → (layout n s).given t ≡ 0 → 1 ≤ (layout n s).spare r → Sets n s.words V (leaving t) (s.words (home t) + 1) →
       ((u : ℕ) → sum_by (λ (q : ℕ × ℕ). counted (q.0 == u) (q.1 + 1)) gl ≡ (layout n s).given u + counted (t == u) (s.words (home t) + 1)) →
       ((q : ℕ) → sum_by (λ c. counted (c == q) 1) sl + counted (r == q) 1 ≡ (layout n s).spare q) →
-      Evacuation n (record s { words = V; choice = record { debt = owes_home t r; given = gl; spare = sl } })
+      Evacuation n (record s { words = V; choice = chooses (owes_home t r) gl sl })
   store_leaving d V t r gl sl inside region mine unchosen spare sets gifts spares =
-      let k : Choice = record { debt = owes_home t r; given = gl; spare = sl } in
+      let k : Choice = chooses (owes_home t r) gl sl in
       let l : Layout = layout n s in
       let m : Layout = layout_of n V s.heap s.works k s.made in
       let tops : (u : ℕ) → u < tablets_of n → V (top u) ≡ s.words (top u) = λ u h. sets.others (top u) h (λ c. cc) in
       let home_was : (u : ℕ) → l.home u ≡ s.words (home u) = λ u. ap (λ q. home_read q u (s.words (home u))) d in
-      let top_was : (u : ℕ) → top_read s.choice.debt u (s.words (top u)) ≡ s.words (top u) = λ u. ap (λ q. top_read q u (s.words (top u))) d in
+      let top_was : (u : ℕ) → top_read (debt_of s.choice) u (s.words (top u)) ≡ s.words (top u) = λ u. ap (λ q. top_read q u (s.words (top u))) d in
       alone_kept V k
       (record { tablets = λ u h. sets.others (tablet_gate u) h (λ c. cc); owns = λ u h. sets.others (mutator_gate u) h (λ c. cc); turns = λ u h. sets.others (turn u) h (λ c. cc) })
       (λ x h. sets.others (entry x) h (λ c. cc)) (λ a b h j. sets.others (region_word a b) (h, j) (λ c. cc))
@@ -99,10 +99,10 @@ module _ (n : Numbers) (s : State) (e : Evacuation n s) (p : Paused n s.gates) w
       }))
 
   -- store home
-  pub store_home : (V : Place → ℕ) (t r : ℕ) (gl : List (ℕ × ℕ)) (sl : List ℕ) → t < tablets_of n → s.choice ≡ record { debt = owes_home t r; given = gl; spare = sl } →
-      Sets n s.words V (home t) r → Evacuation n (record s { words = V; choice = record { debt = owes_top t; given = gl; spare = sl } })
+  pub store_home : (V : Place → ℕ) (t r : ℕ) (gl : List (ℕ × ℕ)) (sl : List ℕ) → t < tablets_of n → s.choice ≡ chooses (owes_home t r) gl sl →
+      Sets n s.words V (home t) r → Evacuation n (record s { words = V; choice = chooses (owes_top t) gl sl })
   store_home V t r gl sl inside is sets =
-      let k : Choice = record { debt = owes_top t; given = gl; spare = sl } in
+      let k : Choice = chooses (owes_top t) gl sl in
       let m : Layout = layout_of n V s.heap s.works k s.made in
       alone_kept V k
       (record { tablets = λ u h. sets.others (tablet_gate u) h (λ c. cc); owns = λ u h. sets.others (mutator_gate u) h (λ c. cc); turns = λ u h. sets.others (turn u) h (λ c. cc) })
@@ -111,25 +111,25 @@ module _ (n : Numbers) (s : State) (e : Evacuation n s) (p : Paused n s.gates) w
         cycle = ap (λ q. cycle_of (phase_at q)) (sets.others phase tt (λ c. cc));
         slots = λ x h. ap (λ q. slot_of n s.heap x q) (sets.others (entry x) h (λ c. cc));
         homes = λ u h. elim (cases_eq u t) [
-          | inl c ↦ subst (λ q. V (home q) ≡ (layout n s).home q) (sym c) (sets.here ∙ sym (ap (λ q. cond q r (s.words (home t))) (eq-eqb t t refl)) ∙ ap (λ q. home_read q t (s.words (home t))) (ap (λ (q : Choice). q.debt) (sym is)))
-          | inr c ↦ sets.others (home u) h (λ b. c (let a : u ≡ t = cc in a)) ∙ sym (ap (λ q. cond q r (s.words (home u))) (ne_eqb t u (λ b. c (sym b)))) ∙ ap (λ q. home_read q u (s.words (home u))) (ap (λ (q : Choice). q.debt) (sym is))
+          | inl c ↦ subst (λ q. V (home q) ≡ (layout n s).home q) (sym c) (sets.here ∙ sym (ap (λ q. cond q r (s.words (home t))) (eq-eqb t t refl)) ∙ ap (λ q. home_read q t (s.words (home t))) (ap debt_of (sym is)))
+          | inr c ↦ sets.others (home u) h (λ b. c (let a : u ≡ t = cc in a)) ∙ sym (ap (λ q. cond q r (s.words (home u))) (ne_eqb t u (λ b. c (sym b)))) ∙ ap (λ q. home_read q u (s.words (home u))) (ap debt_of (sym is))
         ];
-        filleds = λ u h. (let a : top_read s.choice.debt u (s.words (top u)) ≡ cond (t == u) 0 (s.words (top u)) = ap (λ q. top_read q u (s.words (top u))) (ap (λ (q : Choice). q.debt) is) in
+        filleds = λ u h. (let a : top_read (debt_of s.choice) u (s.words (top u)) ≡ cond (t == u) 0 (s.words (top u)) = ap (λ q. top_read q u (s.words (top u))) (ap debt_of is) in
             let b : cond (t == u) 0 (V (top u)) ≡ cond (t == u) 0 (s.words (top u)) = ap (cond (t == u) 0) (sets.others (top u) h (λ c. cc)) in
             let z = nobody_owes u in omega (arith, z.0, z.1));
         leavings = λ u h. sets.others (leaving u) h (λ c. cc);
-        givens = λ u h. ap (λ (q : Choice). sum_by (λ (b : ℕ × ℕ). counted (b.0 == u) (b.1 + 1)) q.given) (sym is);
-        spares = λ q h. ap (λ (c : Choice). sum_by (λ b. counted (b == q) 1) c.spare) (sym is);
+        givens = λ u h. ap (λ (q : Choice). sum_by (λ (b : ℕ × ℕ). counted (b.0 == u) (b.1 + 1)) (given_of q)) (sym is);
+        spares = λ q h. ap (λ (c : Choice). sum_by (λ b. counted (b == q) 1) (spare_of c)) (sym is);
         mades = λ _ _. refl;
       }))
 
   -- zero top
-  pub zero_top : (V : Place → ℕ) (t : ℕ) (gl : List (ℕ × ℕ)) (sl : List ℕ) → t < tablets_of n → s.choice ≡ record { debt = owes_top t; given = gl; spare = sl } →
-      Sets n s.words V (top t) 0 → Evacuation n (record s { words = V; choice = record { debt = settled; given = gl; spare = sl } })
+  pub zero_top : (V : Place → ℕ) (t : ℕ) (gl : List (ℕ × ℕ)) (sl : List ℕ) → t < tablets_of n → s.choice ≡ chooses (owes_top t) gl sl →
+      Sets n s.words V (top t) 0 → Evacuation n (record s { words = V; choice = chooses settled gl sl })
   zero_top V t gl sl inside is sets =
-      let k : Choice = record { debt = settled; given = gl; spare = sl } in
+      let k : Choice = chooses settled gl sl in
       let m : Layout = layout_of n V s.heap s.works k s.made in
-      let debt_is : s.choice.debt ≡ owes_top t = ap (λ (q : Choice). q.debt) is in
+      let debt_is : debt_of s.choice ≡ owes_top t = ap debt_of is in
       alone_kept V k
       (record { tablets = λ u h. sets.others (tablet_gate u) h (λ c. cc); owns = λ u h. sets.others (mutator_gate u) h (λ c. cc); turns = λ u h. sets.others (turn u) h (λ c. cc) })
       (λ x h. sets.others (entry x) h (λ c. cc)) (λ a b h j. sets.others (region_word a b) (h, j) (λ c. cc))
@@ -139,15 +139,15 @@ module _ (n : Numbers) (s : State) (e : Evacuation n s) (p : Paused n s.gates) w
         homes = λ u h. sets.others (home u) h (λ c. cc) ∙ sym (ap (λ q. home_read q u (s.words (home u))) debt_is);
         filleds = λ u h.
             let z = nobody_owes u in
-            let a : top_read s.choice.debt u (s.words (top u)) ≡ cond (t == u) 0 (s.words (top u)) = ap (λ q. top_read q u (s.words (top u))) debt_is in
+            let a : top_read (debt_of s.choice) u (s.words (top u)) ≡ cond (t == u) 0 (s.words (top u)) = ap (λ q. top_read q u (s.words (top u))) debt_is in
             let b : V (top u) ≡ cond (t == u) 0 (s.words (top u)) = elim (cases_eq u t) [
               | inl c ↦ subst (λ q. V (top q) ≡ cond (t == q) 0 (s.words (top q))) (sym c) (sets.here ∙ sym (ap (λ q. cond q 0 (s.words (top t))) (eq-eqb t t refl)))
               | inr c ↦ sets.others (top u) h (λ b. c (let w : u ≡ t = cc in w)) ∙ sym (ap (λ q. cond q 0 (s.words (top u))) (ne_eqb t u (λ b. c (sym b))))
             ] in
             omega (arith, z.0, z.1);
         leavings = λ u h. sets.others (leaving u) h (λ c. cc);
-        givens = λ u h. ap (λ (q : Choice). sum_by (λ (b : ℕ × ℕ). counted (b.0 == u) (b.1 + 1)) q.given) (sym is);
-        spares = λ q h. ap (λ (c : Choice). sum_by (λ b. counted (b == q) 1) c.spare) (sym is);
+        givens = λ u h. ap (λ (q : Choice). sum_by (λ (b : ℕ × ℕ). counted (b.0 == u) (b.1 + 1)) (given_of q)) (sym is);
+        spares = λ q h. ap (λ (c : Choice). sum_by (λ b. counted (b == q) 1) (spare_of c)) (sym is);
         mades = λ _ _. refl;
       }))
 
@@ -162,10 +162,14 @@ module _ (n : Numbers) (s : State) (e : Evacuation n s) (p : Paused n s.gates) w
       (same_kept n (record l { cycle = m.cycle }) (cycle_kept n l e.copy m.cycle none) m (record {
         cycle = refl;
         slots = λ x h. ap (λ q. slot_of n s.heap x q) (sets.others (entry x) h (λ c. cc));
-        homes = λ u h. ap (home_read s.choice.debt u) (sets.others (home u) h (λ c. cc));
-        filleds = λ u h. (λ q. top_read s.choice.debt u (sets.others (top u) h (λ c. cc) q) + sum_by (to_raise n u) s.works - sum_by (counted_in n u) s.works);
+        homes = λ u h. ap (home_read (debt_of s.choice) u) (sets.others (home u) h (λ c. cc));
+        filleds = λ u h. (λ q. top_read (debt_of s.choice) u (sets.others (top u) h (λ c. cc) q) + sum_by (to_raise n u) s.works - sum_by (counted_in n u) s.works);
         leavings = λ u h. sets.others (leaving u) h (λ c. cc);
         givens = λ u h. refl;
         spares = λ q h. refl;
         mades = λ _ _. refl;
       }))
+
+-- while nothing is chosen, no tablet has given up a region
+pub none_given : (n : Numbers) (s : State) (sl : List ℕ) → s.choice ≡ rests_with sl → (t : ℕ) → (layout n s).given t ≡ 0
+none_given n s sl is t = ap (λ k. sum_by (λ (p : ℕ × ℕ). counted (p.0 == t) (p.1 + 1)) (given_of k)) is

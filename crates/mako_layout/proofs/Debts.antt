@@ -14,7 +14,7 @@ use Rattle.mako_gate.specs.Standings.{GateFacet, writes, admitted}
 use Rattle.mako_gate.proofs.Lists.{sum_at, some_term}
 use Rattle.mako_gate.proofs.Numbers.{holds_le}
 use Rattle.mako_layout.specs.Layouts.{Layout, entries_of, regions_of}
-use Rattle.mako_layout.specs.Facets.{stands, Work, idle, reads, uses, holds_home, moves, asks, tops, finds, fills, carries, raises, makes, counts, settled, Paused}
+use Rattle.mako_layout.specs.Facets.{stands, Work, idle, reads, uses, holds_home, moves, asks, tops, finds, fills, carries, raises, makes, counts, settled, Paused, debt_of}
 use Rattle.mako_layout.specs.Evacuations.{slot_of, home_read, top_read, to_raise, counted_in, layout_of, Knows, State, layout, Evacuation}
 use Rattle.mako_layout.proofs.Frames.{gates_beside_top, gates_frame, record_within}
 use Rattle.mako_layout.proofs.Stays.{stays_kept}
@@ -84,19 +84,19 @@ nobody_there n s e p j f at t =
 
 module _ (n : Numbers) (s : State) (e : Evacuation n s) (i : ℕ) (g : GateFacet) (at_g : slice_get s.gates i ≡ Some g) where
   -- while a view stands at a tablet the collector owes nothing
-  pub collector_settled : (t : ℕ) → 1 ≤ stands t g → s.choice.debt ≡ settled
+  pub collector_settled : (t : ℕ) → 1 ≤ stands t g → debt_of s.choice ≡ settled
   collector_settled t one = elim e.pause [
     | inl d ↦ d
     | inr p ↦ absurd (let a = nobody_there n s e p i g at_g t in let b = p.servers i t g at_g in omega arith)
   ]
 
-  writer_settled : (t : ℕ) → 1 ≤ writes t g → s.choice.debt ≡ settled
+  writer_settled : (t : ℕ) → 1 ≤ writes t g → debt_of s.choice ≡ settled
   writer_settled t one = collector_settled t (omega (arith, holds_le t g.standing))
 
   pub home_is : (t : ℕ) → 1 ≤ stands t g → (layout n s).home t ≡ s.words (home t)
   home_is t one = ap (λ d. home_read d t (s.words (home t))) (collector_settled t one)
 
-  pub top_is : (t w : ℕ) → 1 ≤ writes t g → top_read s.choice.debt t w ≡ w
+  pub top_is : (t w : ℕ) → 1 ≤ writes t g → top_read (debt_of s.choice) t w ≡ w
   top_is t w one = ap (λ d. top_read d t w) (writer_settled t one)
 
   module _ (w : Work) (at_w : slice_get s.works i ≡ Some w) where
@@ -132,13 +132,13 @@ module _ (n : Numbers) (s : State) (e : Evacuation n s) (i : ℕ) (g : GateFacet
         let p = e.even t h in
         elim (cases_eq t t0) [
           | inl same ↦ (let one = subst (λ q. 1 ≤ writes q g) (sym same) writing in omega (arith, top_is t (V (top t)) one, top_is t (s.words (top t)) one))
-          | inr d ↦ omega (arith, ap (top_read s.choice.debt t) (other_top t h d), (elsewhere t d).0, (elsewhere t d).1)
+          | inr d ↦ omega (arith, ap (top_read (debt_of s.choice) t) (other_top t h d), (elsewhere t d).0, (elsewhere t d).1)
         ] in
         stays_kept n s e V s.gates (set s.works i u) (length-set s.works i u ∙ e.seats) (gates_frame n s.words V s.gates (gates_beside_top n s.words V t0 v sets) e.gates)
         (record {
           cycle = ap (λ q. cycle_of (phase_at q)) (sets.others phase tt (λ c. cc));
           slots = λ y h. ap (slot_of n s.heap y) (entries y h);
-          homes = λ t h. ap (home_read s.choice.debt t) (sets.others (home t) h (λ c. cc));
+          homes = λ t h. ap (home_read (debt_of s.choice) t) (sets.others (home t) h (λ c. cc));
           filleds = filled;
           leavings = λ t h. sets.others (leaving t) h (λ c. cc);
           givens = λ t h. refl;
@@ -153,7 +153,7 @@ module _ (n : Numbers) (s : State) (e : Evacuation n s) (i : ℕ) (g : GateFacet
         let p = e.even t h in
         elim (cases_eq t t0) [
           | inl same ↦ (let one = subst (λ q. 1 ≤ writes q g) (sym same) writing in omega (arith, top_is t (V (top t)) one, top_is t (s.words (top t)) one))
-          | inr d ↦ omega (arith, ap (top_read s.choice.debt t) (other_top t h d), (elsewhere t d).0, (elsewhere t d).1)
+          | inr d ↦ omega (arith, ap (top_read (debt_of s.choice) t) (other_top t h d), (elsewhere t d).0, (elsewhere t d).1)
         ])
         (λ y r a h holds. let q = record_within n (layout n s) e.copy y r a h holds in regions r a q.0 q.1)
         e.passed

@@ -1,10 +1,10 @@
 -- Each kind of step keeps the invariant.
-use Rattle.std.proofs.Common.{◌≡◌, ℕ, ◌+◌, ◌*◌, ap, ◌∙◌, refl, subst, arith, inl}
+use Rattle.std.proofs.Common.{◌≡◌, ℕ, ◌+◌, ◌*◌, ap, ◌∙◌, refl, subst, arith, inl, [], sym}
 use Rattle.mako_shape.specs.declared.numbers.Numbers.{Numbers}
 use Rattle.mako_shape.specs.Limits.{IsShape}
 use Rattle.mako_gate.specs.Standings.{keeps_shut, has_drained, mutator_at, shutter_at}
 use Rattle.mako_layout.specs.Layouts.{Passed}
-use Rattle.mako_layout.specs.Facets.{idle, holds_home, owes_home, owes_top}
+use Rattle.mako_layout.specs.Facets.{idle, holds_home, owes_home, owes_top, chooses, has_chosen, settled, debt_of, given_of, spare_of}
 use Rattle.mako_layout.specs.Evacuations.{State, layout, Evacuation}
 use Rattle.mako_layout.specs.Steps as step
 use Rattle.mako_layout.specs.Steps.{Step}
@@ -64,12 +64,17 @@ each_step_keeps n shape s _ _ e (step.raise_for_new V i name r o z g seat sets) 
 each_step_keeps n shape s _ _ e (step.store_new V h d i name r o z g seat small sets are others grown more) = object.store_new n shape s e i g seat.gate name r o z V h d seat.work small sets are others grown more
 each_step_keeps n shape s _ _ e (step.store_field V h i x r o j v g fields seat were less sets are others) = object.store_field n s e i g seat.gate x r o j v V h seat.work fields were less sets are others
 each_step_keeps n shape s _ _ e (step.outside i V h only gates objects) = outside_kept n s e V h only gates objects
-each_step_keeps n shape s _ _ e (step.store_leaving V t r gl sl paused debt inside_ region mine unchosen spare sets gifts spares) = alone.store_leaving n s e paused debt V t r gl sl inside_ region mine unchosen spare sets gifts spares
+each_step_keeps n shape s _ _ e (step.begins_choice sl is) =
+    server.choice_kept n s e (chooses settled [] sl) (sym (ap debt_of is)) (sym (ap given_of is)) (sym (ap spare_of is))
+each_step_keeps n shape s _ _ e (step.ends_choice gl sl is) =
+    server.choice_kept n s e (has_chosen gl sl) (sym (ap debt_of is)) (sym (ap given_of is)) (sym (ap spare_of is))
+each_step_keeps n shape s _ _ e (step.store_leaving V t r gl gl' sl sl' paused is inside_ region mine unchosen spare sets gifts spares) =
+    alone.store_leaving n s e paused (ap debt_of is) V t r gl' sl' inside_ region mine unchosen spare sets gifts spares
 each_step_keeps n shape s _ _ e (step.store_home V t r gl sl inside_ is sets) = alone.store_home n s e (alone.paused_by n s e (owes_home t r) gl sl is (λ c. cc)) V t r gl sl inside_ is sets
 each_step_keeps n shape s _ _ e (step.zero_top V t gl sl inside_ is sets) = alone.zero_top n s e (alone.paused_by n s e (owes_top t) gl sl is (λ c. cc)) V t gl sl inside_ is sets
-each_step_keeps n shape s _ _ e (step.store_trace V v paused sets none) = alone.store_trace n s e paused V v sets none
-each_step_keeps n shape s _ _ e (step.store_evac V v sets same) = server.store_phase n s e V v sets same
-each_step_keeps n shape s _ _ e (step.store_idle V v k sets same debt none good empty more) = server.store_idle n s e V v k sets same debt none good empty more
+each_step_keeps n shape s _ _ e (step.store_trace V v sl paused is sets) = alone.store_trace n s e paused V v sets (λ t _. alone.none_given n s sl is t)
+each_step_keeps n shape s _ _ e (step.store_phase V v sets same) = server.store_phase n s e V v sets same
+each_step_keeps n shape s _ _ e (step.store_idle V v gl sl sl' is sets same none good more) = server.store_idle n s e V v gl sl sl' is sets same none good more
 each_step_keeps n shape s _ _ e (step.clear_leaving V i t x r seat inside_ left sets) =
     server.clear_leaving n s e i (shutter_at i (has_drained t (t * n.entries + n.entries))) seat.gate (holds_home x r) seat.work (λ c. c) (λ _. (refl, refl)) V t inside_ (let a = same_one t in omega arith) left
     (passed_all n (layout n s) t (e.passed i t (t * n.entries + n.entries) (shutter_at i (has_drained t (t * n.entries + n.entries))) seat.gate refl)) sets

@@ -9,7 +9,7 @@ use Rattle.mako_model.specs.Heaps.{Heap}
 use Rattle.mako_words.specs.Phases.{phase_at, cycle_of}
 use Rattle.mako_layout.specs.Layouts.{Slot, Layout, entries_of, regions_of, Holds, OneCopy}
 use Rattle.mako_layout.specs.Changes.{AreSame}
-use Rattle.mako_layout.specs.Facets.{Work, Choice}
+use Rattle.mako_layout.specs.Facets.{Work, Choice, debt_of}
 use Rattle.mako_layout.specs.Evacuations.{slot_of, home_read, top_read, to_raise, counted_in, layout_of}
 use Rattle.mako_layout.specs.Beside.{Beside}
 use Rattle.mako_layout.specs.Frames.{SameTable}
@@ -73,8 +73,8 @@ module _ (n : Numbers) (W V : Place → ℕ) where
   layout_same h js ks k d s raise count = record {
     cycle = ap (λ w. cycle_of (phase_at w)) s.phase;
     slots = λ x m. ap (slot_of n h x) (s.entries x m);
-    homes = λ t m. ap (home_read k.debt t) (s.homes t m);
-    filleds = λ t m. (λ i. top_read k.debt t (s.tops t m i) + raise t m i - count t m i);
+    homes = λ t m. ap (home_read (debt_of k) t) (s.homes t m);
+    filleds = λ t m. (λ i. top_read (debt_of k) t (s.tops t m i) + raise t m i - count t m i);
     leavings = s.leavings;
     givens = λ t m. refl;
     spares = λ r m. refl;

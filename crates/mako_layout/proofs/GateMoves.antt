@@ -4,7 +4,7 @@ use Rattle.mako_shape.specs.declared.numbers.Numbers.{Numbers}
 use Rattle.mako_shape.specs.Places.{Place}
 use Rattle.mako_shape.specs.Belongings.{tablet_of_entry}
 use Rattle.mako_layout.specs.Layouts.{Layout, Passed}
-use Rattle.mako_layout.specs.Facets.{Work, idle, reads, uses, holds_home, moves, asks, tops, finds, fills, carries, raises, makes, counts, settled}
+use Rattle.mako_layout.specs.Facets.{Work, idle, reads, uses, holds_home, moves, asks, tops, finds, fills, carries, raises, makes, counts, settled, debt_of}
 use Rattle.mako_layout.specs.Evacuations.{Knows, State, layout, Evacuation}
 use Rattle.mako_layout.specs.Beside.{IsWriting}
 use Rattle.mako_layout.specs.StepParts.{Seat}
@@ -37,7 +37,7 @@ passes_none n l g none t b is = absurd (let a = none t in let c = ap (drained_by
 module _ (n : Numbers) (s : State) (e : Evacuation n s) (V : Place → ℕ) (only : LeavesLayout n s.words V) (i : ℕ) (f g : GateFacet) (w : Work) (seat : Seat s i f w)
     (p : GateStep n s.words V i f g) where
   -- the view drains no tablet
-  pub act_kept : ((t : ℕ) → drained_by t g.watch ≡ 0) → (i ≢ n.mutators + n.servers) ⊎ (s.choice.debt ≡ settled) → Knows n (layout n s) V g w →
+  pub act_kept : ((t : ℕ) → drained_by t g.watch ≡ 0) → (i ≢ n.mutators + n.servers) ⊎ (debt_of s.choice ≡ settled) → Knows n (layout n s) V g w →
       Evacuation n (record s { words = V; gates = set s.gates i g })
   act_kept none who own = gate_kept n s e i f g w seat.gate seat.work V p only
       (elim who [
@@ -47,5 +47,5 @@ module _ (n : Numbers) (s : State) (e : Evacuation n s) (V : Place → ℕ) (onl
       (passes_none n (layout n s) g none) own
 
   -- while the collector owes nothing
-  pub settled_step : s.choice.debt ≡ settled → ((t b : ℕ) → g.watch ≡ has_drained t b → Passed n (layout n s) t b) → Knows n (layout n s) V g w → Evacuation n (record s { words = V; gates = set s.gates i g })
+  pub settled_step : debt_of s.choice ≡ settled → ((t b : ℕ) → g.watch ≡ has_drained t b → Passed n (layout n s) t b) → Knows n (layout n s) V g w → Evacuation n (record s { words = V; gates = set s.gates i g })
   settled_step d passed own = gate_kept n s e i f g w seat.gate seat.work V p only (inl d) passed own

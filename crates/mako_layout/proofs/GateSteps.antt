@@ -7,7 +7,7 @@ use Rattle.mako_shape.specs.Places.{Place, phase, entry, home}
 use Rattle.mako_shape.specs.Belongings.{tablet_of_entry}
 use Rattle.mako_shape.proofs.BelongingLaws.{belongings_in_range}
 use Rattle.mako_layout.specs.Layouts.{Passed}
-use Rattle.mako_layout.specs.Facets.{Work, settled, Paused}
+use Rattle.mako_layout.specs.Facets.{Work, settled, Paused, debt_of}
 use Rattle.mako_layout.specs.Evacuations.{top_read, Knows, State, layout, Evacuation}
 use Rattle.mako_layout.specs.Beside.{entry_of}
 use Rattle.mako_layout.specs.Frames.{LeavesLayout}
@@ -35,12 +35,12 @@ paused_beside n gs i g d none p = record {
 }
 
 module _ (n : Numbers) (s : State) (e : Evacuation n s) (i : ℕ) (f g : GateFacet) (w : Work) (at_f : slice_get s.gates i ≡ Some f) (at_w : slice_get s.works i ≡ Some w)
-    (V : Place → ℕ) (p : GateStep n s.words V i f g) (only : LeavesLayout n s.words V) (pause : (s.choice.debt ≡ settled) ⊎ Paused n (set s.gates i g)) where
+    (V : Place → ℕ) (p : GateStep n s.words V i f g) (only : LeavesLayout n s.words V) (pause : (debt_of s.choice ≡ settled) ⊎ Paused n (set s.gates i g)) where
   pub gate_kept : ((t b : ℕ) → g.watch ≡ has_drained t b → Passed n (layout n s) t b) → Knows n (layout n s) V g w → Evacuation n (record s { words = V; gates = set s.gates i g })
   gate_kept passed own = stays_kept n s e V (set s.gates i g) s.works (e.seats ∙ sym (length-set s.gates i g)) (gates_kept n s.words V s.gates e.gates i f g at_f p)
       (layout_same n s.words V s.heap s.works s.works s.choice s.made only.table (λ _ _. refl) (λ _ _. refl))
       only.table.entries pause
-      (λ t h. omega (arith, e.even t h, ap (top_read s.choice.debt t) (only.table.tops t h)))
+      (λ t h. omega (arith, e.even t h, ap (top_read (debt_of s.choice) t) (only.table.tops t h)))
       (λ y r a h holds. let q = record_within n (layout n s) e.copy y r a h holds in only.regions r a q.0 q.1)
       (λ j t b c at is. elim (at_set s.gates i j g c at) [
         | inl k ↦ passed t b (ap (λ (q : GateFacet). q.watch) k.1 ∙ is)

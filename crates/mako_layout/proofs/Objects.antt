@@ -18,7 +18,7 @@ use Rattle.mako_shape.proofs.BelongingLaws.{belongings_in_range}
 use Rattle.mako_model.specs.Heaps.{Heap, fields_of}
 use Rattle.mako_layout.specs.Layouts.{Layout, entries_of, regions_of, Holds}
 use Rattle.mako_layout.specs.Changes.{AreSame}
-use Rattle.mako_layout.specs.Facets.{Work, idle, uses, fills, raises, counts}
+use Rattle.mako_layout.specs.Facets.{Work, idle, uses, fills, raises, counts, debt_of}
 use Rattle.mako_layout.specs.Evacuations.{name_of, slot_of, top_read, layout_of, record_words, IsRecordOf, Uses, Fills, Counts, State, layout, Evacuation}
 use Rattle.mako_layout.specs.Beside.{entry_of}
 use Rattle.mako_layout.specs.StepParts.{moved_entry, new_entry}
@@ -242,7 +242,7 @@ module _ (n : Numbers) (s : State) (e : Evacuation n s) (i : ℕ) (g : GateFacet
   -- a field of the record in the home is stored
   pub store_field : Evacuation n (record s { words = V; heap = h })
   store_field = frame_kept n s e V h s.gates s.works e.seats (gates_frame n s.words V s.gates (gates_beside_region n s.words V r (o + (1 + j)) (value_word v) sets) e.gates) same e.pause
-      (λ t m. omega (arith, e.even t m, ap (λ q. top_read s.choice.debt t q) (table.tops t m)))
+      (λ t m. omega (arith, e.even t m, ap (λ q. top_read (debt_of s.choice) t q) (table.tops t m)))
       record_after
       e.passed
       (λ q f u at_f at_u. inr (

@@ -23,7 +23,7 @@ use Rattle.mako_model.specs.Starved.{words_made, words_by}
 use Rattle.mako_model.proofs.Lookups.{fields_same, fields_other}
 use Rattle.mako_layout.specs.Layouts.{Slot, entries_of}
 use Rattle.mako_layout.specs.Changes.{AreSame}
-use Rattle.mako_layout.specs.Facets.{idle, uses, counts}
+use Rattle.mako_layout.specs.Facets.{idle, uses, counts, debt_of}
 use Rattle.mako_layout.specs.Evacuations.{name_of, slot_of, top_read, layout_of, State, layout, Evacuation}
 use Rattle.mako_layout.specs.Beside.{entry_of}
 use Rattle.mako_layout.specs.Frames.{LeavesLayout}
@@ -52,7 +52,7 @@ module _ (n : Numbers) (s : State) (e : Evacuation n s) (V : Place → ℕ) (h :
       let base = layout_same n s.words V s.heap s.works s.works s.choice s.made only.table (λ _ _. refl) (λ _ _. refl) in
       let same : AreSame n (layout n s) (layout_of n V h s.works s.choice s.made) = record { cycle = base.cycle; slots = slot_outside; homes = base.homes; filleds = base.filleds; leavings = base.leavings; givens = base.givens; spares = base.spares; mades = λ _ _. refl } in
       frame_kept n s e V h s.gates s.works e.seats (gates_frame n s.words V s.gates gates e.gates) same e.pause
-      (λ t m. omega (arith, e.even t m, ap (top_read s.choice.debt t) (only.table.tops t m)))
+      (λ t m. omega (arith, e.even t m, ap (top_read (debt_of s.choice) t) (only.table.tops t m)))
       (λ y m taken.
       let es = slot_outside y m in
       let was : ((layout n s).slot y).taken ≡ true = ap (λ (q : Slot). q.taken) (sym es) ∙ taken in

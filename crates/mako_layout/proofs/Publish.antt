@@ -20,7 +20,7 @@ use Rattle.mako_gate.specs.Standings.{GateFacet, writes}
 use Rattle.mako_gate.proofs.Lists.{at_set, sum_at}
 use Rattle.mako_layout.specs.Layouts.{Slot, Layout, entries_of, regions_of, Holds, OneCopy}
 use Rattle.mako_layout.specs.Changes.{Puts, AreSame}
-use Rattle.mako_layout.specs.Facets.{Work}
+use Rattle.mako_layout.specs.Facets.{Work, debt_of}
 use Rattle.mako_layout.specs.Evacuations.{name_of, slot_of_entry, slot_of, home_read, top_read, to_raise, counted_in, layout_of, record_words, Stand, IsRecordOf, Kept, Knows, State, layout, Evacuation}
 use Rattle.mako_layout.specs.Beside.{entry_of, Beside}
 use Rattle.mako_layout.proofs.Puts.{put_kept}
@@ -107,7 +107,7 @@ module _ (n : Numbers) (s : State) (e : Evacuation n s) (i : ℕ) (g : GateFacet
   top_same t k = p.sets.others (top t) k (λ c. cc)
 
   pub home_same : (t : ℕ) → t < tablets_of n → m.home t ≡ l.home t
-  home_same t k = ap (home_read s.choice.debt t) (p.sets.others (home t) k (λ c. cc))
+  home_same t k = ap (home_read (debt_of s.choice) t) (p.sets.others (home t) k (λ c. cc))
 
   leaving_same : (t : ℕ) → t < tablets_of n → m.leaving t ≡ l.leaving t
   leaving_same t k = p.sets.others (leaving t) k (λ c. cc)
@@ -122,10 +122,10 @@ module _ (n : Numbers) (s : State) (e : Evacuation n s) (i : ℕ) (g : GateFacet
   record_word_same y a b k holds = let q = record_within n l e.copy y a b k holds in word_same a b q.0 q.1
 
   filled_after : (t : ℕ) → t < tablets_of n → m.filled t ≡ l.filled t + counted (at == t) z
-  filled_after t k = omega (arith, sum_at (to_raise n t) s.works i w u at_w, sum_at (counted_in n t) s.works i w u at_w, p.owes t, e.even t k, ap (top_read s.choice.debt t) (top_same t k))
+  filled_after t k = omega (arith, sum_at (to_raise n t) s.works i w u at_w, sum_at (counted_in n t) s.works i w u at_w, p.owes t, e.even t k, ap (top_read (debt_of s.choice) t) (top_same t k))
 
-  even_after : (t : ℕ) → t < tablets_of n → sum_by (counted_in n t) (set s.works i u) ≤ top_read s.choice.debt t (V (top t)) + sum_by (to_raise n t) (set s.works i u)
-  even_after t k = omega (arith, sum_at (to_raise n t) s.works i w u at_w, sum_at (counted_in n t) s.works i w u at_w, p.owes t, e.even t k, ap (top_read s.choice.debt t) (top_same t k))
+  even_after : (t : ℕ) → t < tablets_of n → sum_by (counted_in n t) (set s.works i u) ≤ top_read (debt_of s.choice) t (V (top t)) + sum_by (to_raise n t) (set s.works i u)
+  even_after t k = omega (arith, sum_at (to_raise n t) s.works i w u at_w, sum_at (counted_in n t) s.works i w u at_w, p.owes t, e.even t k, ap (top_read (debt_of s.choice) t) (top_same t k))
 
   filled_other : (t : ℕ) → t < tablets_of n → t ≢ at → m.filled t ≡ l.filled t
   filled_other t k ne = omega (arith, filled_after t k, count_off at t z (λ c. ne (sym c)))

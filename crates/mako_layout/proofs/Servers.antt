@@ -1,5 +1,5 @@
 -- A server clears a tablet that it left, frees and marks entries; the collector stores the phases of evacuation.
-use Rattle.std.proofs.Common.{◌≡◌, ◌≢◌, ℕ, ◌+◌, ◌-◌, ◌<◌, ◌≤◌, ◌==◌, inl, inr, ⊎_elim, true, [], length, slice_get, sum_by, Some, sym, ap, ◌∙◌, refl, subst, arith}
+use Rattle.std.proofs.Common.{◌≡◌, ◌≢◌, ℕ, ◌+◌, ◌-◌, ◌<◌, ◌≤◌, ◌==◌, inl, inr, ⊎_elim, true, [], length, slice_get, sum_by, Some, sym, ap, ◌∙◌, refl, subst, arith, List}
 use Rattle.std.specs.Option.{unwrap_or}
 use Rattle.std.proofs.lemmas.Bool.{cases_eq}
 use Rattle.std.proofs.lemmas.Option.{same_Some}
@@ -17,7 +17,7 @@ use Rattle.mako_gate.specs.Changes.{tablets_of, Sets, LeavesGates}
 use Rattle.mako_gate.specs.Standings.{GateFacet, drained_by, writes}
 use Rattle.mako_layout.specs.Layouts.{Slot, Layout, entries_of, regions_of, cycle_words, gifts_at, OneCopy}
 use Rattle.mako_layout.specs.Changes.{Alters, AreSame}
-use Rattle.mako_layout.specs.Facets.{Work, idle, reads, uses, holds_home, moves, asks, tops, finds, fills, carries, raises, makes, counts, Choice}
+use Rattle.mako_layout.specs.Facets.{Work, idle, reads, uses, holds_home, moves, asks, tops, finds, fills, carries, raises, makes, counts, Choice, debt_of, given_of, spare_of, rests_with, has_chosen}
 use Rattle.mako_layout.specs.Evacuations.{slot_of_entry, slot_of, home_read, top_read, to_raise, counted_in, layout_of, IsRecordOf, Knows, State, layout, Evacuation}
 use Rattle.mako_layout.specs.Beside.{entry_of, IsWriting, MindsEntry, IsReading}
 use Rattle.mako_layout.specs.StepParts.{IsMoved, AltersEntry}
@@ -40,7 +40,7 @@ pub record KeepsPlaces (n : Numbers) (s : State) (V : Place → ℕ) (k : Choice
   pub homes : (t : ℕ) → t < tablets_of n → V (home t) ≡ s.words (home t)
   pub tops : (t : ℕ) → t < tablets_of n → V (top t) ≡ s.words (top t)
   pub regions : (r a : ℕ) → r < regions_of n → a < n.words → V (region_word r a) ≡ s.words (region_word r a)
-  pub debt : k.debt ≡ s.choice.debt
+  pub debt : (debt_of k) ≡ debt_of s.choice
 
 module _ (n : Numbers) (s : State) (e : Evacuation n s) (V : Place → ℕ) (k : Choice) (p : KeepsPlaces n s V k) where
   abbrev l : Layout
@@ -67,7 +67,7 @@ module _ (n : Numbers) (s : State) (e : Evacuation n s) (V : Place → ℕ) (k :
     gates = gates_frame n s.words V s.gates p.gates e.gates;
     copy = copy;
     pause = ⊎_elim (λ d. inl (p.debt ∙ d)) (λ q. inr q) e.pause;
-    even = λ t h. omega (arith, e.even t h, (let q : top_read k.debt t (V (top t)) ≡ top_read s.choice.debt t (s.words (top t)) = (λ i. top_read (p.debt i) t (p.tops t h i)) in q));
+    even = λ t h. omega (arith, e.even t h, (let q : top_read (debt_of k) t (V (top t)) ≡ top_read (debt_of s.choice) t (s.words (top t)) = (λ i. top_read (p.debt i) t (p.tops t h i)) in q));
     records = λ x h taken.
         let was : (l.slot x).taken ≡ true = ap (λ (q : Slot). q.taken) (sym (slots_same x h)) ∙ taken in
         record_kept n s.words V s.heap x (p.entries x h) (λ r a holds. let w = record_within n l e.copy x r a h holds in p.regions r a w.0 w.1) was (e.records x h was);
@@ -155,12 +155,12 @@ store_phase n s e V v sets same =
     }))
     (λ j f v at_f at_v is h one. sets.others (leaving (tablet_of_entry n (entry_of v))) (belongings_in_range.entry n (entry_of v) h) (λ c. cc))
 
-pub store_idle : (n : Numbers) (s : State) → Evacuation n s → (V : Place → ℕ) (v : ℕ) (k : Choice) → Sets n s.words V phase v → cycle_of (phase_at v) ≡ (layout n s).cycle →
-    k.debt ≡ s.choice.debt → ((t : ℕ) → t < tablets_of n → s.words (leaving t) ≡ 0) → ((x : ℕ) → x < entries_of n → ((layout n s).slot x).taken ≡ true → ((layout n s).slot x).epoch ≡ (layout n s).cycle) →
-    ((t : ℕ) → t < tablets_of n → sum_by (λ (q : ℕ × ℕ). counted (q.0 == t) (q.1 + 1)) k.given ≡ 0) →
-    ((r : ℕ) → r < regions_of n → sum_by (λ c. counted (c == r) 1) k.spare ≡ (layout n s).spare r + gifts_at n (layout n s) r) →
-    Evacuation n (record s { words = V; choice = k })
-store_idle n s e V v k sets same debt none good empty more =
+pub store_idle : (n : Numbers) (s : State) → Evacuation n s → (V : Place → ℕ) (v : ℕ) (gl : List (ℕ × ℕ)) (sl sl' : List ℕ) → s.choice ≡ has_chosen gl sl → Sets n s.words V phase v → cycle_of (phase_at v) ≡ (layout n s).cycle →
+    ((t : ℕ) → t < tablets_of n → s.words (leaving t) ≡ 0) → ((x : ℕ) → x < entries_of n → ((layout n s).slot x).taken ≡ true → ((layout n s).slot x).epoch ≡ (layout n s).cycle) →
+    ((r : ℕ) → r < regions_of n → sum_by (λ c. counted (c == r) 1) sl' ≡ (layout n s).spare r + gifts_at n (layout n s) r) →
+    Evacuation n (record s { words = V; choice = rests_with sl' })
+store_idle n s e V v gl sl sl' is sets same none good more =
+    let k : Choice = rests_with sl' in
     let l : Layout = layout n s in
     let m : Layout = layout_of n V s.heap s.works k s.made in
     let p : KeepsPlaces n s V k = record {
@@ -170,10 +170,10 @@ store_idle n s e V v k sets same debt none good empty more =
       homes = λ u h. sets.others (home u) h (λ c. cc);
       tops = λ u h. sets.others (top u) h (λ c. cc);
       regions = λ r a h j. sets.others (region_word r a) (h, j) (λ c. cc);
-      debt = debt;
+      debt = sym (ap debt_of is);
     } in
     places_kept n s e V k p
-    (same_kept n (record l { given = m.given; spare = m.spare }) (finish_kept n l e.copy m.given m.spare none good empty more) m
+    (same_kept n (record l { given = m.given; spare = m.spare }) (finish_kept n l e.copy m.given m.spare none good (λ _ _. refl) more) m
     (record {
       cycle = p.cycle;
       slots = slots_same n s e V k p;
@@ -185,6 +185,33 @@ store_idle n s e V v k sets same debt none good empty more =
       mades = λ _ _. refl;
     }))
     (λ j f v at_f at_v is h one. sets.others (leaving (tablet_of_entry n (entry_of v))) (belongings_in_range.entry n (entry_of v) h) (λ c. cc))
+
+-- the collector goes on with its choice, which is read as before
+pub choice_kept : (n : Numbers) (s : State) → Evacuation n s → (k : Choice) → debt_of k ≡ debt_of s.choice → given_of k ≡ given_of s.choice →
+    spare_of k ≡ spare_of s.choice → Evacuation n (record s { choice = k })
+choice_kept n s e k debt given spare =
+    let m : Layout = layout_of n s.words s.heap s.works k s.made in
+    let p : KeepsPlaces n s s.words k = record {
+      gates = record { tablets = λ _ _. refl; owns = λ _ _. refl; turns = λ _ _. refl };
+      cycle = refl;
+      entries = λ _ _. refl;
+      homes = λ _ _. refl;
+      tops = λ _ _. refl;
+      regions = λ _ _ _ _. refl;
+      debt = debt;
+    } in
+    places_kept n s e s.words k p
+    (same_kept n (layout n s) e.copy m (record {
+      cycle = refl;
+      slots = λ _ _. refl;
+      homes = homes_same n s e s.words k p;
+      filleds = filled_same n s e s.words k p;
+      leavings = λ _ _. refl;
+      givens = λ t _. ap (sum_by (λ (q : ℕ × ℕ). counted (q.0 == t) (q.1 + 1))) given;
+      spares = λ r _. ap (sum_by (λ c. counted (c == r) 1)) spare;
+      mades = λ _ _. refl;
+    }))
+    (λ _ _ _ _ _ _ _ _. refl)
 
 -- no view writes a record of a taken entry in a tablet that is not left
 no_writing : (n : Numbers) (l : Layout) → OneCopy n l → (W : Place → ℕ) (f : GateFacet) (v : Work) → Knows n l W f v → MindsEntry v → l.leaving (tablet_of_entry n (entry_of v)) ≡ 0 → (l.slot (entry_of v)).taken ≡ true → ⊥
@@ -260,8 +287,8 @@ module _ (n : Numbers) (s : State) (e : Evacuation n s) (V : Place → ℕ) (E :
   same_after = record {
     cycle = ap (λ q. cycle_of (phase_at q)) (p.sets.others phase tt (λ c. cc));
     slots = λ y h. refl;
-    homes = λ u h. ap (home_read s.choice.debt u) (p.sets.others (home u) h (λ c. cc));
-    filleds = λ u h. (λ q. top_read s.choice.debt u (p.sets.others (top u) h (λ c. cc) q) + sum_by (to_raise n u) s.works - sum_by (counted_in n u) s.works);
+    homes = λ u h. ap (home_read (debt_of s.choice) u) (p.sets.others (home u) h (λ c. cc));
+    filleds = λ u h. (λ q. top_read (debt_of s.choice) u (p.sets.others (top u) h (λ c. cc) q) + sum_by (to_raise n u) s.works - sum_by (counted_in n u) s.works);
     leavings = λ u h. p.sets.others (leaving u) h (λ c. cc);
     givens = λ u h. refl;
     spares = λ q h. refl;
@@ -274,7 +301,7 @@ module _ (n : Numbers) (s : State) (e : Evacuation n s) (V : Place → ℕ) (E :
     gates = gates_frame n s.words V s.gates (record { tablets = λ u h. p.sets.others (tablet_gate u) h (λ c. cc); owns = λ u h. p.sets.others (mutator_gate u) h (λ c. cc); turns = λ u h. p.sets.others (turn u) h (λ c. cc) }) e.gates;
     copy = same_kept n (record l1 { slot = m1.slot }) (alter_kept n l1 e.copy m1.slot x alters) m1 same_after;
     pause = e.pause;
-    even = λ t h. omega (arith, e.even t h, ap (top_read s.choice.debt t) (p.sets.others (top t) h (λ c. cc)));
+    even = λ t h. omega (arith, e.even t h, ap (top_read (debt_of s.choice) t) (p.sets.others (top t) h (λ c. cc)));
     records = λ y h taken. elim (cases_eq y x) [
       | inl same ↦ subst (λ q. (m1.slot q).taken ≡ true → IsRecordOf n V s.heap q (m1.slot q)) (sym same) record_after taken
       | inr d ↦ (let was : (l1.slot y).taken ≡ true = ap (λ (q : Slot). q.taken) (sym (slot_other y h d)) ∙ taken in
@@ -286,7 +313,7 @@ module _ (n : Numbers) (s : State) (e : Evacuation n s) (V : Place → ℕ) (E :
         let t : ℕ = tablet_of_entry n y in
         let t_in = belongings_in_range.entry n y h in
         let cycle : m1.cycle ≡ l1.cycle = ap (λ q. cycle_of (phase_at q)) (p.sets.others phase tt (λ c. cc)) in
-        let home_same : m1.home t ≡ l1.home t = ap (home_read s.choice.debt t) (p.sets.others (home t) t_in (λ c. cc)) in
+        let home_same : m1.home t ≡ l1.home t = ap (home_read (debt_of s.choice) t) (p.sets.others (home t) t_in (λ c. cc)) in
         let read : y ≡ x → IsReading v → E.taken ≡ true = λ same reading. p.read j v at_v reading same in
         record {
           cycle = λ _. cycle;
@@ -304,7 +331,7 @@ module _ (n : Numbers) (s : State) (e : Evacuation n s) (V : Place → ℕ) (E :
             | inr d ↦ ap (λ (q : Slot). q.offset) (slot_other y h d)
           ];
           writer = λ is. record {
-            filled = (λ q. top_read s.choice.debt t (p.sets.others (top t) t_in (λ c. cc) q) + sum_by (to_raise n t) s.works - sum_by (counted_in n t) s.works);
+            filled = (λ q. top_read (debt_of s.choice) t (p.sets.others (top t) t_in (λ c. cc) q) + sum_by (to_raise n t) s.works - sum_by (counted_in n t) s.works);
             leaving = p.sets.others (leaving t) t_in (λ c. cc);
             top = p.sets.others (top t) t_in (λ c. cc);
             ahead = λ a low high. regions_same (l1.home t) a (e.copy.home_in t t_in) high;

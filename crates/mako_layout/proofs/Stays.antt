@@ -8,7 +8,7 @@ use Rattle.mako_shape.specs.Belongings.{tablet_of_entry}
 use Rattle.mako_model.specs.Heaps.{Heap, fields_of}
 use Rattle.mako_layout.specs.Layouts.{Slot, Layout, entries_of, Holds, Passed, OneCopy}
 use Rattle.mako_layout.specs.Changes.{AreSame}
-use Rattle.mako_layout.specs.Facets.{Work, settled, Paused}
+use Rattle.mako_layout.specs.Facets.{Work, settled, Paused, debt_of}
 use Rattle.mako_layout.specs.Evacuations.{name_of, slot_of, top_read, to_raise, counted_in, layout_of, IsRecordOf, Knows, State, layout, Evacuation}
 use Rattle.mako_layout.specs.Beside.{entry_of, Beside}
 use Rattle.mako_layout.proofs.Choices.{same_kept}
@@ -53,8 +53,8 @@ KnownAfter n s V j f v = Knows n (layout n s) V f v
 -- the layout stays, though the heap may change within its records
 pub frame_kept : (n : Numbers) (s : State) → Evacuation n s → (V : Place → ℕ) (h : Heap) (gs : List GateFacet) (ks : List Work) → length ks ≡ length gs → Gates n V gs →
     AreSame n (layout n s) (layout_of n V h ks s.choice s.made) →
-    ((s.choice.debt ≡ settled) ⊎ Paused n gs) →
-    ((t : ℕ) → t < tablets_of n → sum_by (counted_in n t) ks ≤ top_read s.choice.debt t (V (top t)) + sum_by (to_raise n t) ks) →
+    ((debt_of s.choice ≡ settled) ⊎ Paused n gs) →
+    ((t : ℕ) → t < tablets_of n → sum_by (counted_in n t) ks ≤ top_read (debt_of s.choice) t (V (top t)) + sum_by (to_raise n t) ks) →
     ((x : ℕ) → x < entries_of n → ((layout_of n V h ks s.choice s.made).slot x).taken ≡ true → IsRecordOf n V h x ((layout_of n V h ks s.choice s.made).slot x)) →
     ((j t b : ℕ) (f : GateFacet) → slice_get gs j ≡ Some f → f.watch ≡ has_drained t b → Passed n (layout n s) t b) →
     ((j : ℕ) (f : GateFacet) (v : Work) → slice_get gs j ≡ Some f → slice_get ks j ≡ Some v → Knows n (layout n s) V f v
@@ -80,8 +80,8 @@ frame_kept n s e V h gs ks seats gates same pause even records passed known =
 pub stays_kept : (n : Numbers) (s : State) → Evacuation n s → (V : Place → ℕ) (gs : List GateFacet) (ks : List Work) → length ks ≡ length gs → Gates n V gs →
     AreSame n (layout n s) (layout_of n V s.heap ks s.choice s.made) →
     ((x : ℕ) → x < entries_of n → V (entry x) ≡ s.words (entry x)) →
-    ((s.choice.debt ≡ settled) ⊎ Paused n gs) →
-    ((t : ℕ) → t < tablets_of n → sum_by (counted_in n t) ks ≤ top_read s.choice.debt t (V (top t)) + sum_by (to_raise n t) ks) →
+    ((debt_of s.choice ≡ settled) ⊎ Paused n gs) →
+    ((t : ℕ) → t < tablets_of n → sum_by (counted_in n t) ks ≤ top_read (debt_of s.choice) t (V (top t)) + sum_by (to_raise n t) ks) →
     ((x r w : ℕ) → x < entries_of n → Holds ((layout n s).slot x) r w → V (region_word r w) ≡ s.words (region_word r w)) →
     ((j t b : ℕ) (f : GateFacet) → slice_get gs j ≡ Some f → f.watch ≡ has_drained t b → Passed n (layout n s) t b) →
     ((j : ℕ) (f : GateFacet) (v : Work) → slice_get gs j ≡ Some f → slice_get ks j ≡ Some v → KnownAfter n s V j f v) →

@@ -8,7 +8,7 @@ use Rattle.mako_shape.specs.Places.{Place, top, region_word}
 use Rattle.mako_shape.specs.Belongings.{tablet_of_entry}
 use Rattle.mako_shape.proofs.BelongingLaws.{belongings_in_range}
 use Rattle.mako_layout.specs.Layouts.{Layout, entries_of, regions_of, Holds}
-use Rattle.mako_layout.specs.Facets.{Work, fills, carries, makes}
+use Rattle.mako_layout.specs.Facets.{Work, fills, carries, makes, debt_of}
 use Rattle.mako_layout.specs.Evacuations.{top_read, to_raise, counted_in, Carries, Makes, null_words, Knows, State, layout, Evacuation}
 use Rattle.mako_layout.specs.Beside.{entry_of}
 use Rattle.mako_layout.specs.Frames.{SameTable}
@@ -67,7 +67,7 @@ module _ (n : Numbers) (s : State) (e : Evacuation n s) (i : ℕ) (g : GateFacet
       stays_kept n s e V s.gates (set s.works i u) (length-set s.works i u ∙ e.seats) (gates_frame n s.words V s.gates gates e.gates)
       (layout_same n s.words V s.heap s.works (set s.works i u) s.choice s.made table (λ t h. raise_same u debts t) (λ t h. count_same u debts t))
       table.entries e.pause
-      (λ t h. omega (arith, e.even t h, raise_same u debts t, count_same u debts t, ap (top_read s.choice.debt t) (table.tops t h)))
+      (λ t h. omega (arith, e.even t h, raise_same u debts t, count_same u debts t, ap (top_read (debt_of s.choice) t) (table.tops t h)))
       words e.passed (known V u own (λ j f t d at h writing. table.tops t h) ahead)
 
   -- a load

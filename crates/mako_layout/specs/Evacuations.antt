@@ -17,7 +17,7 @@ use Rattle.mako_gate.specs.Changes.{tablets_of}
 use Rattle.mako_gate.specs.Standings.{GateFacet, has_drained, admitted, holds_turn, writes}
 use Rattle.mako_gate.specs.Gates.{Gates}
 use Rattle.mako_layout.specs.Layouts.{Slot, Layout, entries_of, Passed, OneCopy}
-use Rattle.mako_layout.specs.Facets.{stands, Work, idle, reads, uses, holds_home, moves, asks, tops, finds, fills, carries, raises, makes, counts, Debt, settled, owes_home, owes_top, Choice, Paused}
+use Rattle.mako_layout.specs.Facets.{stands, Work, idle, reads, uses, holds_home, moves, asks, tops, finds, fills, carries, raises, makes, counts, Debt, settled, owes_home, owes_top, Choice, Paused, debt_of, given_of, spare_of}
 
 -- the name of a taken entry
 abbrev pub name_of : ℕ → ℕ → Name
@@ -65,11 +65,11 @@ abbrev pub layout_of : Numbers → (Place → ℕ) → Heap → List Work → Ch
 layout_of n W h js k d = record {
   cycle = cycle_of (phase_at (W phase));
   slot = λ x. slot_of n h x (W (entry x));
-  home = λ t. home_read k.debt t (W (home t));
-  filled = λ t. top_read k.debt t (W (top t)) + sum_by (to_raise n t) js - sum_by (counted_in n t) js;
+  home = λ t. home_read (debt_of k) t (W (home t));
+  filled = λ t. top_read (debt_of k) t (W (top t)) + sum_by (to_raise n t) js - sum_by (counted_in n t) js;
   leaving = λ t. W (leaving t);
-  given = λ t. sum_by (λ (p : ℕ × ℕ). counted (p.0 == t) (p.1 + 1)) k.given;
-  spare = λ r. sum_by (λ s. counted (s == r) 1) k.spare;
+  given = λ t. sum_by (λ (p : ℕ × ℕ). counted (p.0 == t) (p.1 + 1)) (given_of k);
+  spare = λ r. sum_by (λ s. counted (s == r) 1) (spare_of k);
   made = d;
 }
 
@@ -216,9 +216,9 @@ pub record Evacuation (n : Numbers) (s : State) : Type 0 where
   pub gates : Gates n s.words s.gates
   pub copy : OneCopy n (layout n s)
   -- the collector owes nothing, or is alone
-  pub pause : (s.choice.debt ≡ settled) ⊎ Paused n s.gates
+  pub pause : (debt_of s.choice ≡ settled) ⊎ Paused n s.gates
   -- what was counted into a top is in it
-  pub even : (t : ℕ) → t < tablets_of n → sum_by (counted_in n t) s.works ≤ top_read s.choice.debt t (s.words (top t)) + sum_by (to_raise n t) s.works
+  pub even : (t : ℕ) → t < tablets_of n → sum_by (counted_in n t) s.works ≤ top_read (debt_of s.choice) t (s.words (top t)) + sum_by (to_raise n t) s.works
   pub records : (x : ℕ) → x < entries_of n → ((layout n s).slot x).taken ≡ true → IsRecordOf n s.words s.heap x ((layout n s).slot x)
   -- a server's copies are as far as it says
   pub passed : (i t b : ℕ) (g : GateFacet) → slice_get s.gates i ≡ Some g → g.watch ≡ has_drained t b → Passed n (layout n s) t b

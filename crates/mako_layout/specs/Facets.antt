@@ -1,5 +1,5 @@
 -- What the definitions read of a view: where it stands at the gates, and what it holds of a record.
-use Rattle.std.specs.Prelude.{ℕ, ◌≡◌, ◌+◌, ◌<◌, ◌≤◌, List, slice_get, Some}
+use Rattle.std.specs.Prelude.{ℕ, ◌≡◌, ◌+◌, ◌<◌, ◌≤◌, List, slice_get, Some, []}
 use Rattle.mako_shape.specs.declared.numbers.Numbers.{Numbers}
 use Rattle.mako_gate.specs.Standings.{GateFacet, admitted, drained_by, drained_own}
 use Rattle.mako_words.specs.declared.name.Name.{Name}
@@ -39,11 +39,27 @@ pub data Debt : Type 0 where
   owes_home : ℕ → ℕ → Debt
   owes_top : ℕ → Debt
 
-pub record Choice : Type 0 where
-  pub debt : Debt
-  -- the tablets that gave up a region in this cycle, with these, and the spare regions
-  pub given : List (ℕ × ℕ)
-  pub spare : List ℕ
+-- How far the collector is with the tablets of a cycle: it has chosen none, it chooses them, or they are evacuated. With
+-- it go what it has still to store, the tablets that gave up a region, each with its region, and the spare regions.
+pub data Choice : Type 0 where
+  rests_with : List ℕ → Choice
+  chooses : Debt → List (ℕ × ℕ) → List ℕ → Choice
+  has_chosen : List (ℕ × ℕ) → List ℕ → Choice
+
+abbrev pub debt_of : Choice → Debt
+debt_of (rests_with spare) = settled
+debt_of (chooses debt given spare) = debt
+debt_of (has_chosen given spare) = settled
+
+abbrev pub given_of : Choice → List (ℕ × ℕ)
+given_of (rests_with spare) = []
+given_of (chooses debt given spare) = given
+given_of (has_chosen given spare) = given
+
+abbrev pub spare_of : Choice → List ℕ
+spare_of (rests_with spare) = spare
+spare_of (chooses debt given spare) = spare
+spare_of (has_chosen given spare) = spare
 
 -- all mutator gates are drained by the collector, and no server has drained a tablet
 pub record Paused (n : Numbers) (gs : List GateFacet) : Type 0 where

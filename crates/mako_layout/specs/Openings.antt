@@ -10,7 +10,7 @@ use Rattle.mako_shape.specs.Places.{Place, root, home, top, entry, region_word, 
 use Rattle.mako_shape.specs.Belongings.{opening_home}
 use Rattle.mako_model.specs.Heaps.{board_name, opening}
 use Rattle.mako_layout.specs.Layouts.{regions_of}
-use Rattle.mako_layout.specs.Facets.{Work, idle, settled}
+use Rattle.mako_layout.specs.Facets.{Work, idle, rests_with}
 use Rattle.mako_layout.specs.Evacuations.{State, Evacuation}
 use Rattle.mako_gate.specs.Standings.{GateFacet, away, mutator_at}
 
@@ -46,7 +46,7 @@ opening_state n board = record {
   heap = opening n.mutators n.roots board n.cycles;
   gates = seats_from 0 (n.mutators + n.servers + 1);
   works = idle_works (n.mutators + n.servers + 1);
-  choice = record { debt = settled; given = []; spare = spares_below n (regions_of n) };
+  choice = rests_with (spares_below n (regions_of n));
   made = λ t. if t == 0 then board + 1 else 0;
 }
 

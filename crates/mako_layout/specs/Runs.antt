@@ -16,7 +16,7 @@ use Rattle.mako_model.specs.Legal.{state_of, Facts}
 use Rattle.mako_model.specs.Starved.{words_made}
 use Rattle.mako_gate.specs.Changes.{tablets_of, Sets}
 use Rattle.mako_gate.specs.Standings.{GateFacet}
-use Rattle.mako_layout.specs.Facets.{idle, uses, counts}
+use Rattle.mako_layout.specs.Facets.{idle, uses, counts, debt_of}
 use Rattle.mako_layout.specs.Evacuations.{name_of, top_read, to_raise, counted_in, State, layout, Evacuation}
 use Rattle.mako_layout.specs.StepParts.{new_entry}
 use Rattle.mako_layout.specs.Steps.{Step}
@@ -34,7 +34,7 @@ AllReachedHold = (n : Numbers) → IsShape n → (board : ℕ) → board + 1 ≤
 -- the words in use, with a raise that is to come, are at most those made, with a record that is counted and not published
 abbrev pub UsedIsMade : Type 0
 UsedIsMade = (n : Numbers) (s : State) → Evacuation n s → (t : ℕ) → t < tablets_of n →
-    top_read s.choice.debt t (s.words (top t)) + sum_by (to_raise n t) s.works ≤ s.made t + sum_by (counted_in n t) s.works
+    top_read (debt_of s.choice) t (s.words (top t)) + sum_by (to_raise n t) s.works ≤ s.made t + sum_by (counted_in n t) s.works
 
 -- New publishes its entry: its point enters the history, and the heap and the words made are those of the longer one
 abbrev pub NewIsPublished : Type 0

@@ -1,5 +1,5 @@
 -- The kinds of step, each as what it does to the words, the facets, the heap and the choice, and what it asks beside the invariant.
-use Rattle.std.specs.Prelude.{ℕ, true, false, ◌≡◌, ◌≢◌, ◌+◌, ◌-◌, ◌*◌, ◌<◌, ◌≤◌, ◌^◌, ◌==◌, List, length, replicate, slice_set, sum_by, Some, ◌⊎◌}
+use Rattle.std.specs.Prelude.{ℕ, true, false, ◌≡◌, ◌≢◌, ◌+◌, ◌-◌, ◌*◌, ◌<◌, ◌≤◌, ◌^◌, ◌==◌, List, length, replicate, slice_set, sum_by, Some, ◌⊎◌, []}
 use Rattle.mako_words.specs.declared.name.Name.{Name}
 use Rattle.mako_words.specs.declared.value.Value.{Value}
 use Rattle.mako_words.specs.declared.value.Value.TheVariants.{Null}
@@ -16,7 +16,7 @@ use Rattle.mako_gate.specs.Sums.{counted}
 use Rattle.mako_gate.specs.Changes.{tablets_of, Sets, LeavesGates}
 use Rattle.mako_gate.specs.Standings.{keeps_shut, has_drained, GateFacet, admitted, holds_turn, writes, mutator_at, shutter_at, Standing, drained_by}
 use Rattle.mako_layout.specs.Layouts.{entries_of, regions_of, gifts_at}
-use Rattle.mako_layout.specs.Facets.{stands, Work, idle, reads, uses, holds_home, moves, asks, tops, finds, fills, carries, raises, makes, counts, settled, owes_home, owes_top, Choice, Paused}
+use Rattle.mako_layout.specs.Facets.{stands, Work, idle, reads, uses, holds_home, moves, asks, tops, finds, fills, carries, raises, makes, counts, settled, owes_home, owes_top, Paused, debt_of, rests_with, chooses, has_chosen}
 use Rattle.mako_layout.specs.Evacuations.{name_of, to_raise, counted_in, null_words, State, layout, Evacuation}
 use Rattle.mako_layout.specs.Beside.{IsWriting}
 use Rattle.mako_layout.specs.Frames.{LeavesLayout}
@@ -38,7 +38,7 @@ at_work s V i w = record s { words = V; works = slice_set s.works i w }
 pub data Step (n : Numbers) (s : State) : ℕ → State → Type 0 where
   -- a view with nothing in hand acts at gates, and drains no tablet; the collector does so only where it owes nothing
   acts : (V : Place → ℕ) (i : ℕ) (f g : GateFacet) → Seat s i f idle → GateAction n s.words V i f g → LeavesLayout n s.words V →
-      ((t : ℕ) → drained_by t g.watch ≡ 0) → (i ≢ n.mutators + n.servers) ⊎ (s.choice.debt ≡ settled) →
+      ((t : ℕ) → drained_by t g.watch ≡ 0) → (i ≢ n.mutators + n.servers) ⊎ (debt_of s.choice ≡ settled) →
       Step n s i (at_gate s V i g)
   -- a mutator that reads at most acts at gates or turns, and stays admitted where it was
   acts_in_use : (V : Place → ℕ) (m : ℕ) (p q : Standing) (w : Work) → Seat s m (mutator_at m p) w → (IsWriting w → ⊥) →
@@ -47,7 +47,7 @@ pub data Step (n : Numbers) (s : State) : ℕ → State → Type 0 where
   -- a server finds nobody at the gate that it keeps shut, while the collector owes nothing
   drains : (V : Place → ℕ) (i t : ℕ) → Seat s i (shutter_at i (keeps_shut t)) idle →
       GateAction n s.words V i (shutter_at i (keeps_shut t)) (shutter_at i (has_drained t (t * n.entries))) →
-      LeavesLayout n s.words V → s.choice.debt ≡ settled →
+      LeavesLayout n s.words V → debt_of s.choice ≡ settled →
       Step n s i (at_gate s V i (shutter_at i (has_drained t (t * n.entries))))
   -- it passes an entry that is not one of the cycle, or is in the home by now
   passes : (i u b x r : ℕ) → Seat s i (shutter_at i (has_drained u b)) (holds_home x r) → tablet_of_entry n x ≡ u →
@@ -109,24 +109,29 @@ pub data Step (n : Numbers) (s : State) : ℕ → State → Type 0 where
   -- any other word, and any other change of the heap
   outside : (i : ℕ) (V : Place → ℕ) (h : Heap) → LeavesLayout n s.words V → LeavesGates n s.words V →
       ((name : Name) → fields_of h name ≡ fields_of s.heap name) → Step n s i (record s { words = V; heap = h })
-  -- the collector, alone: a tablet is to get the spare region r for its home
-  store_leaving : (V : Place → ℕ) (t r : ℕ) (gl : List (ℕ × ℕ)) (sl : List ℕ) → Paused n s.gates → s.choice.debt ≡ settled → t < tablets_of n → r < regions_of n →
+  -- the collector begins to choose, and has chosen
+  begins_choice : (sl : List ℕ) → s.choice ≡ rests_with sl → Step n s (n.mutators + n.servers) (record s { choice = chooses settled [] sl })
+  ends_choice : (gl : List (ℕ × ℕ)) (sl : List ℕ) → s.choice ≡ chooses settled gl sl → Step n s (n.mutators + n.servers) (record s { choice = has_chosen gl sl })
+  -- alone, it gives a tablet the spare region r for its home
+  store_leaving : (V : Place → ℕ) (t r : ℕ) (gl gl' : List (ℕ × ℕ)) (sl sl' : List ℕ) → Paused n s.gates → s.choice ≡ chooses settled gl sl → t < tablets_of n → r < regions_of n →
       server_of_region n r ≡ server_of_tablet n t → (layout n s).given t ≡ 0 → 1 ≤ (layout n s).spare r → Sets n s.words V (leaving t) (s.words (home t) + 1) →
-      ((u : ℕ) → sum_by (λ (q : ℕ × ℕ). counted (q.0 == u) (q.1 + 1)) gl ≡ (layout n s).given u + counted (t == u) (s.words (home t) + 1)) →
-      ((q : ℕ) → sum_by (λ c. counted (c == q) 1) sl + counted (r == q) 1 ≡ (layout n s).spare q) →
-      Step n s (n.mutators + n.servers) (record s { words = V; choice = record { debt = owes_home t r; given = gl; spare = sl } })
-  store_home : (V : Place → ℕ) (t r : ℕ) (gl : List (ℕ × ℕ)) (sl : List ℕ) → t < tablets_of n → s.choice ≡ record { debt = owes_home t r; given = gl; spare = sl } →
-      Sets n s.words V (home t) r → Step n s (n.mutators + n.servers) (record s { words = V; choice = record { debt = owes_top t; given = gl; spare = sl } })
-  zero_top : (V : Place → ℕ) (t : ℕ) (gl : List (ℕ × ℕ)) (sl : List ℕ) → t < tablets_of n → s.choice ≡ record { debt = owes_top t; given = gl; spare = sl } →
-      Sets n s.words V (top t) 0 → Step n s (n.mutators + n.servers) (record s { words = V; choice = record { debt = settled; given = gl; spare = sl } })
+      ((u : ℕ) → sum_by (λ (q : ℕ × ℕ). counted (q.0 == u) (q.1 + 1)) gl' ≡ (layout n s).given u + counted (t == u) (s.words (home t) + 1)) →
+      ((q : ℕ) → sum_by (λ c. counted (c == q) 1) sl' + counted (r == q) 1 ≡ (layout n s).spare q) →
+      Step n s (n.mutators + n.servers) (record s { words = V; choice = chooses (owes_home t r) gl' sl' })
+  store_home : (V : Place → ℕ) (t r : ℕ) (gl : List (ℕ × ℕ)) (sl : List ℕ) → t < tablets_of n → s.choice ≡ chooses (owes_home t r) gl sl →
+      Sets n s.words V (home t) r → Step n s (n.mutators + n.servers) (record s { words = V; choice = chooses (owes_top t) gl sl })
+  zero_top : (V : Place → ℕ) (t : ℕ) (gl : List (ℕ × ℕ)) (sl : List ℕ) → t < tablets_of n → s.choice ≡ chooses (owes_top t) gl sl →
+      Sets n s.words V (top t) 0 → Step n s (n.mutators + n.servers) (record s { words = V; choice = chooses settled gl sl })
   -- the phase: the next cycle begins with no region given up; within the cycle; and the cycle ends
-  store_trace : (V : Place → ℕ) (v : ℕ) → Paused n s.gates → Sets n s.words V phase v → ((t : ℕ) → t < tablets_of n → (layout n s).given t ≡ 0) → Step n s (n.mutators + n.servers) (record s { words = V })
-  store_evac : (V : Place → ℕ) (v : ℕ) → Sets n s.words V phase v → cycle_of (phase_at v) ≡ (layout n s).cycle → Step n s (n.mutators + n.servers) (record s { words = V })
-  store_idle : (V : Place → ℕ) (v : ℕ) (k : Choice) → Sets n s.words V phase v → cycle_of (phase_at v) ≡ (layout n s).cycle → k.debt ≡ s.choice.debt →
-      ((t : ℕ) → t < tablets_of n → s.words (leaving t) ≡ 0) → ((x : ℕ) → x < entries_of n → ((layout n s).slot x).taken ≡ true → ((layout n s).slot x).epoch ≡ (layout n s).cycle) →
-      ((t : ℕ) → t < tablets_of n → sum_by (λ (q : ℕ × ℕ). counted (q.0 == t) (q.1 + 1)) k.given ≡ 0) →
-      ((r : ℕ) → r < regions_of n → sum_by (λ c. counted (c == r) 1) k.spare ≡ (layout n s).spare r + gifts_at n (layout n s) r) →
-      Step n s (n.mutators + n.servers) (record s { words = V; choice = k })
+  store_trace : (V : Place → ℕ) (v : ℕ) (sl : List ℕ) → Paused n s.gates → s.choice ≡ rests_with sl → Sets n s.words V phase v →
+      Step n s (n.mutators + n.servers) (record s { words = V })
+  store_phase : (V : Place → ℕ) (v : ℕ) → Sets n s.words V phase v → cycle_of (phase_at v) ≡ (layout n s).cycle →
+      Step n s (n.mutators + n.servers) (record s { words = V })
+  store_idle : (V : Place → ℕ) (v : ℕ) (gl : List (ℕ × ℕ)) (sl sl' : List ℕ) → s.choice ≡ has_chosen gl sl → Sets n s.words V phase v →
+      cycle_of (phase_at v) ≡ (layout n s).cycle → ((t : ℕ) → t < tablets_of n → s.words (leaving t) ≡ 0) →
+      ((x : ℕ) → x < entries_of n → ((layout n s).slot x).taken ≡ true → ((layout n s).slot x).epoch ≡ (layout n s).cycle) →
+      ((r : ℕ) → r < regions_of n → sum_by (λ c. counted (c == r) 1) sl' ≡ (layout n s).spare r + gifts_at n (layout n s) r) →
+      Step n s (n.mutators + n.servers) (record s { words = V; choice = rests_with sl' })
   -- a server ends the leaving of a tablet, and frees and marks entries
   clear_leaving : (V : Place → ℕ) (i t x r : ℕ) → Seat s i (shutter_at i (has_drained t (t * n.entries + n.entries))) (holds_home x r) → t < tablets_of n → s.words (leaving t) ≢ 0 →
       Sets n s.words V (leaving t) 0 → Step n s i (record s { words = V })
