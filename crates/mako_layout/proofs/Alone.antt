@@ -10,7 +10,7 @@ use Rattle.mako_gate.specs.Changes.{tablets_of, Sets, LeavesGates}
 use Rattle.mako_gate.specs.Standings.{GateFacet, drained_by}
 use Rattle.mako_gate.proofs.Numbers.{holds_le}
 use Rattle.mako_layout.specs.Layouts.{Layout, entries_of, regions_of, OneCopy}
-use Rattle.mako_layout.specs.Facets.{stands, Work, idle, reads, uses, holds_home, moves, asks, tops, finds, fills, carries, raises, makes, counts, settled, owes_home, owes_top, Choice, Paused, Debt, debt_of, given_of, spare_of, rests_with, chooses}
+use Rattle.mako_layout.specs.Facets.{stands, Work, idle, reads, uses, holds_home, moves, asks, tops, finds, fills, carries, raises, makes, counts, settled, owes_home, owes_top, Choice, Paused, Debt, debt_of, given_of, spare_of, rests_with, chooses, Gift, gift_of}
 use Rattle.mako_layout.specs.Evacuations.{slot_of, home_read, top_read, to_raise, counted_in, layout_of, Knows, State, layout, Evacuation}
 use Rattle.mako_layout.proofs.Alterations.{cycle_kept}
 use Rattle.mako_layout.proofs.Choices.{choose_kept, same_kept}
@@ -35,7 +35,7 @@ nothing_known n l m W V f (makes name r o z j) none k = absurd (let a = k.turn i
 nothing_known n l m W V f (counts name r o z) none k = absurd (let a = k.makes.turn in let b = none (tablet_of_entry n name.entry) in let c = holds_le (tablet_of_entry n name.entry) f.standing in omega arith)
 
 -- a collector that owes is alone
-pub paused_by : (n : Numbers) (s : State) → Evacuation n s → (d : Debt) (gl : List (ℕ × ℕ)) (sl : List ℕ) → s.choice ≡ chooses d gl sl → (d ≡ settled → ⊥) → Paused n s.gates
+pub paused_by : (n : Numbers) (s : State) → Evacuation n s → (d : Debt) (gl : List Gift) (sl : List ℕ) → s.choice ≡ chooses d gl sl → (d ≡ settled → ⊥) → Paused n s.gates
 paused_by n s e d gl sl is owes = ⊎_elim (λ c. absurd (owes (sym (ap debt_of is) ∙ c))) (λ q. q) e.pause
 
 module _ (n : Numbers) (s : State) (e : Evacuation n s) (p : Paused n s.gates) where
@@ -63,9 +63,9 @@ module _ (n : Numbers) (s : State) (e : Evacuation n s) (p : Paused n s.gates) w
   }
 
   -- store leaving: the tablet is to get the spare region r for its home
-  pub store_leaving : debt_of s.choice ≡ settled → (V : Place → ℕ) (t r : ℕ) (gl : List (ℕ × ℕ)) (sl : List ℕ) → t < tablets_of n → r < regions_of n →
+  pub store_leaving : debt_of s.choice ≡ settled → (V : Place → ℕ) (t r : ℕ) (gl : List Gift) (sl : List ℕ) → t < tablets_of n → r < regions_of n →
       server_of_region n r ≡ server_of_tablet n t → (layout n s).given t ≡ 0 → 1 ≤ (layout n s).spare r → Sets n s.words V (leaving t) (s.words (home t) + 1) →
-      ((u : ℕ) → sum_by (λ (q : ℕ × ℕ). counted (q.0 == u) (q.1 + 1)) gl ≡ (layout n s).given u + counted (t == u) (s.words (home t) + 1)) →
+      ((u : ℕ) → gift_of gl u ≡ (layout n s).given u + counted (t == u) (s.words (home t) + 1)) →
       ((q : ℕ) → sum_by (λ c. counted (c == q) 1) sl + counted (r == q) 1 ≡ (layout n s).spare q) →
       Evacuation n (record s { words = V; choice = chooses (owes_home t r) gl sl })
   store_leaving d V t r gl sl inside region mine unchosen spare sets gifts spares =
@@ -99,7 +99,7 @@ module _ (n : Numbers) (s : State) (e : Evacuation n s) (p : Paused n s.gates) w
       }))
 
   -- store home
-  pub store_home : (V : Place → ℕ) (t r : ℕ) (gl : List (ℕ × ℕ)) (sl : List ℕ) → t < tablets_of n → s.choice ≡ chooses (owes_home t r) gl sl →
+  pub store_home : (V : Place → ℕ) (t r : ℕ) (gl : List Gift) (sl : List ℕ) → t < tablets_of n → s.choice ≡ chooses (owes_home t r) gl sl →
       Sets n s.words V (home t) r → Evacuation n (record s { words = V; choice = chooses (owes_top t) gl sl })
   store_home V t r gl sl inside is sets =
       let k : Choice = chooses (owes_top t) gl sl in
@@ -118,13 +118,13 @@ module _ (n : Numbers) (s : State) (e : Evacuation n s) (p : Paused n s.gates) w
             let b : cond (t == u) 0 (V (top u)) ≡ cond (t == u) 0 (s.words (top u)) = ap (cond (t == u) 0) (sets.others (top u) h (λ c. cc)) in
             let z = nobody_owes u in omega (arith, z.0, z.1));
         leavings = λ u h. sets.others (leaving u) h (λ c. cc);
-        givens = λ u h. ap (λ (q : Choice). sum_by (λ (b : ℕ × ℕ). counted (b.0 == u) (b.1 + 1)) (given_of q)) (sym is);
+        givens = λ u h. ap (λ (q : Choice). gift_of (given_of q) u) (sym is);
         spares = λ q h. ap (λ (c : Choice). sum_by (λ b. counted (b == q) 1) (spare_of c)) (sym is);
         mades = λ _ _. refl;
       }))
 
   -- zero top
-  pub zero_top : (V : Place → ℕ) (t : ℕ) (gl : List (ℕ × ℕ)) (sl : List ℕ) → t < tablets_of n → s.choice ≡ chooses (owes_top t) gl sl →
+  pub zero_top : (V : Place → ℕ) (t : ℕ) (gl : List Gift) (sl : List ℕ) → t < tablets_of n → s.choice ≡ chooses (owes_top t) gl sl →
       Sets n s.words V (top t) 0 → Evacuation n (record s { words = V; choice = chooses settled gl sl })
   zero_top V t gl sl inside is sets =
       let k : Choice = chooses settled gl sl in
@@ -146,7 +146,7 @@ module _ (n : Numbers) (s : State) (e : Evacuation n s) (p : Paused n s.gates) w
             ] in
             omega (arith, z.0, z.1);
         leavings = λ u h. sets.others (leaving u) h (λ c. cc);
-        givens = λ u h. ap (λ (q : Choice). sum_by (λ (b : ℕ × ℕ). counted (b.0 == u) (b.1 + 1)) (given_of q)) (sym is);
+        givens = λ u h. ap (λ (q : Choice). gift_of (given_of q) u) (sym is);
         spares = λ q h. ap (λ (c : Choice). sum_by (λ b. counted (b == q) 1) (spare_of c)) (sym is);
         mades = λ _ _. refl;
       }))
@@ -172,4 +172,4 @@ module _ (n : Numbers) (s : State) (e : Evacuation n s) (p : Paused n s.gates) w
 
 -- while nothing is chosen, no tablet has given up a region
 pub none_given : (n : Numbers) (s : State) (sl : List ℕ) → s.choice ≡ rests_with sl → (t : ℕ) → (layout n s).given t ≡ 0
-none_given n s sl is t = ap (λ k. sum_by (λ (p : ℕ × ℕ). counted (p.0 == t) (p.1 + 1)) (given_of k)) is
+none_given n s sl is t = ap (λ k. gift_of (given_of k) t) is

@@ -6,8 +6,8 @@ use Rattle.mako_shape.specs.Belongings.{tablet_of_entry}
 use Rattle.mako_shape.proofs.BelongingLaws.{belongings_in_range}
 use Rattle.mako_gate.specs.Sums.{counted}
 use Rattle.mako_gate.specs.Changes.{tablets_of}
-use Rattle.mako_layout.specs.Layouts.{Slot, Layout, entries_of, regions_of, part_in, part_of_cycle, gifts_at, InHome, InGiven, Holds, OneCopy}
-use Rattle.mako_layout.specs.Changes.{Alters, Clears}
+use Rattle.mako_layout.specs.Layouts.{Slot, Layout, entries_of, part_in, part_of_cycle, gifts_at, InHome, InGiven, Holds, OneCopy}
+use Rattle.mako_layout.specs.Changes.{Alters, Clears, Finishes}
 use Rattle.mako_layout.proofs.Sums.{sum_below_none, over_le, over_same, counted_cases, counted_is}
 use Rattle.mako_layout.proofs.Roles.{home_kept}
 use Rattle.mako_gate.proofs.Numbers.{count_off}
@@ -121,31 +121,27 @@ module _ (n : Numbers) (l : Layout) (o : OneCopy n l) (v : ℕ → ℕ) (t : ℕ
   }
 
 -- Store Idle: the regions given up become spare
-module _ (n : Numbers) (l : Layout) (o : OneCopy n l) (g p : ℕ → ℕ)
-    (none : (t : ℕ) → t < tablets_of n → l.leaving t ≡ 0)
-    (good : (x : ℕ) → x < entries_of n → (l.slot x).taken ≡ true → (l.slot x).epoch ≡ l.cycle)
-    (empty : (t : ℕ) → t < tablets_of n → g t ≡ 0)
-    (more : (r : ℕ) → r < regions_of n → p r ≡ l.spare r + gifts_at n l r) where
+module _ (n : Numbers) (l : Layout) (o : OneCopy n l) (g p : ℕ → ℕ) (f : Finishes n l g p) where
   no_gifts : (r : ℕ) → gifts_at n (record l { given = g; spare = p }) r ≡ 0
-  no_gifts r = sum_below_none (tablets_of n) (λ t. counted (g t == r + 1) 1) (λ t k. count_off (g t) (r + 1) 1 (λ e. omega (arith, empty t k)))
+  no_gifts r = sum_below_none (tablets_of n) (λ t. counted (g t == r + 1) 1) (λ t k. count_off (g t) (r + 1) 1 (λ e. omega (arith, f.none t k)))
 
   pub finish_kept : OneCopy n (record l { given = g; spare = p })
   finish_kept = record {
-    role = λ r k. omega (arith, o.role r k, more r k, no_gifts r);
+    role = λ r k. omega (arith, o.role r k, f.spares r k, no_gifts r);
     home_in = o.home_in;
-    given_in = λ t k. omega (arith, empty t k);
+    given_in = λ t k. omega (arith, f.none t k);
     home_own = o.home_own;
-    given_own = λ t r k e. absurd (omega (arith, empty t k));
+    given_own = λ t r k e. absurd (omega (arith, f.none t k));
     whole = λ y m taken. elim (o.whole y m taken) [
       | inl i ↦ inl (record { region = i.region; below = i.below })
-      | inr h ↦ absurd (h.old (none (tablet_of_entry n y) (belongings_in_range.entry n y m)) (good y m taken))
+      | inr h ↦ absurd (h.old (f.left (tablet_of_entry n y) (belongings_in_range.entry n y m)) (f.moved y m taken))
     ];
     one = o.one;
     room = o.room;
     within = o.within;
     made_in = o.made_in;
     made_all = o.made_all;
-    leaves = λ u k left. absurd (left (none u k));
+    leaves = λ u k left. absurd (left (f.left u k));
     exact = o.exact;
     live = o.live;
     fresh = o.fresh;

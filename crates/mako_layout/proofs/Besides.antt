@@ -182,6 +182,6 @@ knows_kept n l m one W V g w b = work_knows_kept n l m one W V g w (λ h k. let 
       taken = λ _. c.taken;
       region = λ _. c.region;
       offset = λ _. c.offset;
-      writer = λ is. let u = c.writer (writing n l W g w k is) in record { filled = u.filled; leaving = u.leaving; top = u.top; ahead = u.ahead; behind = u.behind };
+      writer = λ is. (c.writer (writing n l W g w k is)).quiet;
       slot = λ is. (c.writer (writing n l W g w k (minds_writes w is))).slot;
     })

@@ -13,7 +13,7 @@ use Rattle.mako_layout.specs.Facets.{reads, uses, holds_home, fills}
 use Rattle.mako_layout.specs.Evacuations.{layout}
 use Rattle.mako_layout.specs.Beside.{entry_of}
 use Rattle.mako_layout.proofs.Passing.{passed_all, same_one}
-use Rattle.mako_layout.specs.Conclusions.{ServersCopyAlone, OneWriter, UsedIsPresent, ReadIsPresent, EachHasItsRecord, RecordsAreApart, BegunCopiesFit, ClearedTopsAreExact, part_to_come, WhatIsLeftFits}
+use Rattle.mako_layout.specs.Conclusions.{ServersCopyAlone, OneWriter, UsedIsPresent, ReadIsPresent, EachHasItsRecord, RecordsAreApart, BegunCopiesFit, ClearedTopsAreExact, part_to_come, WhatIsLeftFits, UsedIsMade, AllAreHomeAtRest}
 use Rattle.mako_layout.proofs.Roles.{copy_fits, part_le}
 use Rattle.mako_layout.proofs.Besides.{writing}
 use Rattle.mako_layout.proofs.Frames.{record_within}
@@ -21,6 +21,7 @@ use Rattle.mako_layout.proofs.Debts.{home_is}
 use Rattle.mako_layout.proofs.Servers.{cleared_top}
 use Rattle.mako_gate.proofs.GatesTell.{gates_tell}
 use Rattle.mako_gate.proofs.Numbers.{counted_zero}
+use Rattle.mako_layout.proofs.Alone.{none_given}
 
 pub servers_copy_alone : ServersCopyAlone
 servers_copy_alone n s e t i j f g h at_i at_j drains = (gates_tell n s.words s.gates e.gates).drained.tablets_empty t i j f g h at_i drains at_j
@@ -115,3 +116,12 @@ what_is_left_fits n s e t h left =
       | inr c ↦ omega (arith, c.1, to_come_le ((l.slot y).taken && ((l.slot y).epoch == l.cycle)) ((l.slot y).region == l.home t) (l.slot y).size)
     ]) in
     record { exact = e.copy.exact t h left; room = (let a = e.copy.exact t h left in let b = e.copy.live t h left in omega arith) }
+
+pub used_is_made : UsedIsMade
+used_is_made n s e t h = let a = e.copy.made_in t h in let b = e.even t h in omega arith
+
+pub all_are_home_at_rest : AllAreHomeAtRest
+all_are_home_at_rest n s e spare is x h taken = elim (e.copy.whole x h taken) [
+  | inl i ↦ i
+  | inr g ↦ absurd (let a = none_given n s spare is (tablet_of_entry n x) in let b = g.region in omega arith)
+]

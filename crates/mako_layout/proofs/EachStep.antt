@@ -1,10 +1,10 @@
 -- Each kind of step keeps the invariant.
-use Rattle.std.proofs.Common.{◌≡◌, ℕ, ◌+◌, ◌*◌, ap, ◌∙◌, refl, subst, arith, inl, [], sym}
+use Rattle.std.proofs.Common.{◌≡◌, ℕ, ◌+◌, ◌*◌, ap, ◌∙◌, refl, subst, arith, inl, [], sym, ◌==◌}
 use Rattle.mako_shape.specs.declared.numbers.Numbers.{Numbers}
 use Rattle.mako_shape.specs.Limits.{IsShape}
 use Rattle.mako_gate.specs.Standings.{keeps_shut, has_drained, mutator_at, shutter_at}
-use Rattle.mako_layout.specs.Layouts.{Passed}
-use Rattle.mako_layout.specs.Facets.{idle, holds_home, owes_home, owes_top, chooses, has_chosen, settled, debt_of, given_of, spare_of}
+use Rattle.mako_layout.specs.Layouts.{Passed, gifts_at}
+use Rattle.mako_layout.specs.Facets.{idle, holds_home, owes_home, owes_top, chooses, has_chosen, settled, debt_of, given_of, spare_of, gift_of, times_in}
 use Rattle.mako_layout.specs.Evacuations.{State, layout, Evacuation}
 use Rattle.mako_layout.specs.Steps as step
 use Rattle.mako_layout.specs.Steps.{Step}
@@ -20,6 +20,8 @@ use Rattle.mako_layout.proofs.Objects as object
 use Rattle.mako_layout.proofs.Outside.{outside_kept}
 use Rattle.mako_layout.proofs.Alone as alone
 use Rattle.mako_layout.proofs.Servers as server
+use Rattle.mako_shape.specs.Places.{home}
+use Rattle.mako_gate.specs.Sums.{counted}
 
 pub each_step_keeps : (n : Numbers) → IsShape n → (s : State) (who : ℕ) (z : State) → Evacuation n s → Step n s who z → Evacuation n z
 each_step_keeps n shape s _ _ e (step.acts V i f g seat act only none who) =
@@ -69,12 +71,14 @@ each_step_keeps n shape s _ _ e (step.begins_choice sl is) =
 each_step_keeps n shape s _ _ e (step.ends_choice gl sl is) =
     server.choice_kept n s e (has_chosen gl sl) (sym (ap debt_of is)) (sym (ap given_of is)) (sym (ap spare_of is))
 each_step_keeps n shape s _ _ e (step.store_leaving V t r gl gl' sl sl' paused is inside_ region mine unchosen spare sets gifts spares) =
-    alone.store_leaving n s e paused (ap debt_of is) V t r gl' sl' inside_ region mine unchosen spare sets gifts spares
+    alone.store_leaving n s e paused (ap debt_of is) V t r gl' sl' inside_ region mine unchosen spare sets
+    (λ u. gifts u ∙ ap (λ k. gift_of (given_of k) u + counted (t == u) (s.words (home t) + 1)) (sym is))
+    (λ q. spares q ∙ ap (λ k. times_in (spare_of k) q) (sym is))
 each_step_keeps n shape s _ _ e (step.store_home V t r gl sl inside_ is sets) = alone.store_home n s e (alone.paused_by n s e (owes_home t r) gl sl is (λ c. cc)) V t r gl sl inside_ is sets
 each_step_keeps n shape s _ _ e (step.zero_top V t gl sl inside_ is sets) = alone.zero_top n s e (alone.paused_by n s e (owes_top t) gl sl is (λ c. cc)) V t gl sl inside_ is sets
 each_step_keeps n shape s _ _ e (step.store_trace V v sl paused is sets) = alone.store_trace n s e paused V v sets (λ t _. alone.none_given n s sl is t)
 each_step_keeps n shape s _ _ e (step.store_phase V v sets same) = server.store_phase n s e V v sets same
-each_step_keeps n shape s _ _ e (step.store_idle V v gl sl sl' is sets same none good more) = server.store_idle n s e V v gl sl sl' is sets same none good more
+each_step_keeps n shape s _ _ e (step.store_idle V v gl sl sl' is sets same none good more) = server.store_idle n s e V v gl sl sl' is sets same none good (λ r h. more r h ∙ ap (λ k. times_in (spare_of k) r + gifts_at n (layout n s) r) (sym is))
 each_step_keeps n shape s _ _ e (step.clear_leaving V i t x r seat inside_ left sets) =
     server.clear_leaving n s e i (shutter_at i (has_drained t (t * n.entries + n.entries))) seat.gate (holds_home x r) seat.work (λ c. c) (λ _. (refl, refl)) V t inside_ (let a = same_one t in omega arith) left
     (passed_all n (layout n s) t (e.passed i t (t * n.entries + n.entries) (shutter_at i (has_drained t (t * n.entries + n.entries))) seat.gate refl)) sets

@@ -118,11 +118,13 @@ module _ (n : Numbers) (l m : Layout) (W V : Place → ℕ) (p : AreSame n l m) 
         region = λ t e. ap (λ (s : Slot). s.region) (p.slots x h);
         offset = λ t e. ap (λ (s : Slot). s.offset) (p.slots x h);
         writer = λ writing. record {
-          filled = p.filleds (tablet_of_entry n x) k;
-          leaving = p.leavings (tablet_of_entry n x) k;
+          quiet = record {
+            filled = p.filleds (tablet_of_entry n x) k;
+            leaving = p.leavings (tablet_of_entry n x) k;
+            top = top_same writing;
+            ahead = ahead writing;
+            behind = behind writing;
+          };
           slot = p.slots x h;
-          top = top_same writing;
-          ahead = ahead writing;
-          behind = behind writing;
         };
       }

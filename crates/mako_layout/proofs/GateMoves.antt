@@ -5,9 +5,8 @@ use Rattle.mako_shape.specs.Places.{Place}
 use Rattle.mako_shape.specs.Belongings.{tablet_of_entry}
 use Rattle.mako_layout.specs.Layouts.{Layout, Passed}
 use Rattle.mako_layout.specs.Facets.{Work, idle, reads, uses, holds_home, moves, asks, tops, finds, fills, carries, raises, makes, counts, settled, debt_of}
-use Rattle.mako_layout.specs.Evacuations.{Knows, State, layout, Evacuation}
+use Rattle.mako_layout.specs.Evacuations.{Knows, State, layout, Evacuation, Seat}
 use Rattle.mako_layout.specs.Beside.{IsWriting}
-use Rattle.mako_layout.specs.StepParts.{Seat}
 use Rattle.mako_layout.proofs.GateSteps.{paused_beside, gate_kept}
 use Rattle.mako_gate.specs.Standings.{has_drained, GateFacet, admitted, drained_by}
 use Rattle.mako_gate.specs.GateSteps.{GateStep}

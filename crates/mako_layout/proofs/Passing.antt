@@ -8,8 +8,7 @@ use Rattle.mako_shape.proofs.BelongingLaws.{belongings_in_range}
 use Rattle.mako_gate.specs.Sums.{counted}
 use Rattle.mako_gate.specs.Changes.{tablets_of}
 use Rattle.mako_layout.specs.Layouts.{Slot, Layout, Passed}
-use Rattle.mako_layout.specs.Changes.{Puts, Alters, AreSame}
-use Rattle.mako_layout.specs.StepParts.{IsMoved}
+use Rattle.mako_layout.specs.Changes.{Puts, Alters, AreSame, IsMoved}
 use Rattle.mako_gate.proofs.Numbers.{count_at}
 
 pub same_one : (t : ℕ) → counted (t == t) 1 ≡ 1

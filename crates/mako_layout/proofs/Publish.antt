@@ -215,12 +215,14 @@ module _ (n : Numbers) (s : State) (e : Evacuation n s) (i : ℕ) (g : GateFacet
               let elsewhere : t ≢ at = λ c. (let a = (gates_tell n s.words s.gates e.gates).writers.one at i j g f at_in (λ q. other (sym q)) at_g at_f p.writer in
               let b : 1 ≤ writes at f = subst (λ q. 1 ≤ writes q f) c writing in omega arith) in
               record {
-                filled = filled_other t t_in elsewhere;
-                leaving = leaving_same t t_in;
+                quiet = record {
+                  filled = filled_other t t_in elsewhere;
+                  leaving = leaving_same t t_in;
+                  top = top_same t t_in;
+                  ahead = λ a low high. word_same (l.home t) a (e.copy.home_in t t_in) high;
+                  behind = λ a b holds out. record_word_same y a b k holds;
+                };
                 slot = slot_same y k ne;
-                top = top_same t t_in;
-                ahead = λ a low high. word_same (l.home t) a (e.copy.home_in t t_in) high;
-                behind = λ a b holds out. record_word_same y a b k holds;
               };
         }
       ]

@@ -16,11 +16,11 @@ use Rattle.mako_gate.specs.Sums.{counted}
 use Rattle.mako_gate.specs.Changes.{tablets_of, Sets, LeavesGates}
 use Rattle.mako_gate.specs.Standings.{GateFacet, drained_by, writes}
 use Rattle.mako_layout.specs.Layouts.{Slot, Layout, entries_of, regions_of, cycle_words, gifts_at, OneCopy}
-use Rattle.mako_layout.specs.Changes.{Alters, AreSame}
-use Rattle.mako_layout.specs.Facets.{Work, idle, reads, uses, holds_home, moves, asks, tops, finds, fills, carries, raises, makes, counts, Choice, debt_of, given_of, spare_of, rests_with, has_chosen}
+use Rattle.mako_layout.specs.Changes.{Alters, AreSame, IsMoved}
+use Rattle.mako_layout.specs.Facets.{Work, idle, reads, uses, holds_home, moves, asks, tops, finds, fills, carries, raises, makes, counts, Choice, debt_of, given_of, spare_of, rests_with, has_chosen, Gift, gift_of, times_in}
 use Rattle.mako_layout.specs.Evacuations.{slot_of_entry, slot_of, home_read, top_read, to_raise, counted_in, layout_of, IsRecordOf, Knows, State, layout, Evacuation}
 use Rattle.mako_layout.specs.Beside.{entry_of, IsWriting, MindsEntry, IsReading}
-use Rattle.mako_layout.specs.StepParts.{IsMoved, AltersEntry}
+use Rattle.mako_layout.specs.StepParts.{AltersEntry}
 use Rattle.mako_layout.proofs.Roles.{away, all_moved}
 use Rattle.mako_layout.proofs.Alterations.{alter_kept, clear_kept, finish_kept}
 use Rattle.mako_layout.proofs.Choices.{same_kept}
@@ -155,7 +155,7 @@ store_phase n s e V v sets same =
     }))
     (λ j f v at_f at_v is h one. sets.others (leaving (tablet_of_entry n (entry_of v))) (belongings_in_range.entry n (entry_of v) h) (λ c. cc))
 
-pub store_idle : (n : Numbers) (s : State) → Evacuation n s → (V : Place → ℕ) (v : ℕ) (gl : List (ℕ × ℕ)) (sl sl' : List ℕ) → s.choice ≡ has_chosen gl sl → Sets n s.words V phase v → cycle_of (phase_at v) ≡ (layout n s).cycle →
+pub store_idle : (n : Numbers) (s : State) → Evacuation n s → (V : Place → ℕ) (v : ℕ) (gl : List Gift) (sl sl' : List ℕ) → s.choice ≡ has_chosen gl sl → Sets n s.words V phase v → cycle_of (phase_at v) ≡ (layout n s).cycle →
     ((t : ℕ) → t < tablets_of n → s.words (leaving t) ≡ 0) → ((x : ℕ) → x < entries_of n → ((layout n s).slot x).taken ≡ true → ((layout n s).slot x).epoch ≡ (layout n s).cycle) →
     ((r : ℕ) → r < regions_of n → sum_by (λ c. counted (c == r) 1) sl' ≡ (layout n s).spare r + gifts_at n (layout n s) r) →
     Evacuation n (record s { words = V; choice = rests_with sl' })
@@ -173,7 +173,7 @@ store_idle n s e V v gl sl sl' is sets same none good more =
       debt = sym (ap debt_of is);
     } in
     places_kept n s e V k p
-    (same_kept n (record l { given = m.given; spare = m.spare }) (finish_kept n l e.copy m.given m.spare none good (λ _ _. refl) more) m
+    (same_kept n (record l { given = m.given; spare = m.spare }) (finish_kept n l e.copy m.given m.spare (record { left = none; moved = good; none = λ _ _. refl; spares = more })) m
     (record {
       cycle = p.cycle;
       slots = slots_same n s e V k p;
@@ -207,8 +207,8 @@ choice_kept n s e k debt given spare =
       homes = homes_same n s e s.words k p;
       filleds = filled_same n s e s.words k p;
       leavings = λ _ _. refl;
-      givens = λ t _. ap (sum_by (λ (q : ℕ × ℕ). counted (q.0 == t) (q.1 + 1))) given;
-      spares = λ r _. ap (sum_by (λ c. counted (c == r) 1)) spare;
+      givens = λ t _. ap (λ q. gift_of q t) given;
+      spares = λ r _. ap (λ q. times_in q r) spare;
       mades = λ _ _. refl;
     }))
     (λ _ _ _ _ _ _ _ _. refl)

@@ -7,6 +7,5 @@ abbrev pub sum_below : ℕ → (ℕ → ℕ) → ℕ
 sum_below zero f = 0
 sum_below (suc n) f = sum_below n f + f n
 
--- over the entries of a tablet
 abbrev pub over_tablet : Numbers → ℕ → (ℕ → ℕ) → ℕ
 over_tablet n t f = sum_below n.entries (λ i. f (t * n.entries + i))

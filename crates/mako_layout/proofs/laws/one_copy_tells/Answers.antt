@@ -1,5 +1,5 @@
 use Rattle.mako_layout.proofs.Roles.{copy_fits, all_moved, free_above}
-use Rattle.mako_layout.proofs.layouts.conclusions.Goals as goal
+use Rattle.mako_layout.proofs.laws.one_copy_tells.Goals as goal
 
 pub returns-clause-fits : goal.returns-clause-fits
 returns-clause-fits c = copy_fits

@@ -1,7 +1,7 @@
 use Rattle.mako_layout.proofs.Puts.{put_kept}
 use Rattle.mako_layout.proofs.Alterations.{alter_kept, clear_kept, finish_kept, cycle_kept}
 use Rattle.mako_layout.proofs.Choices.{choose_kept, same_kept}
-use Rattle.mako_layout.proofs.layouts.changes.Goals as goal
+use Rattle.mako_layout.proofs.laws.changes_keep_one_copy.Goals as goal
 
 pub returns-clause-put : goal.returns-clause-put
 returns-clause-put c = put_kept
