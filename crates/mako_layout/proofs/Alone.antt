@@ -2,7 +2,7 @@
 use Rattle.std.proofs.Common.{⊎_elim, ◌≡◌, ℕ, ◌+◌, ◌-◌, ◌<◌, ◌≤◌, ◌==◌, inl, inr, true, cond, List, slice_get, sum_by, Some, eq-eqb, ne_eqb, sym, ap, ◌∙◌, refl, subst, arith}
 use Rattle.std.proofs.lemmas.Bool.{cases_eq}
 use Rattle.mako_shape.specs.declared.numbers.Numbers.{Numbers}
-use Rattle.mako_shape.specs.Places.{Place, phase, mutator_gate, tablet_gate, turn, entry, home, top, leaving, region_word}
+use Rattle.mako_shape.specs.Places.{Place, phase, turn, entry, home, top, leaving, region_word}
 use Rattle.mako_shape.specs.Belongings.{tablet_of_entry, server_of_tablet, server_of_region}
 use Rattle.mako_words.specs.Phases.{phase_at, cycle_of}
 use Rattle.mako_gate.specs.Sums.{counted}
@@ -10,11 +10,11 @@ use Rattle.mako_gate.specs.Changes.{tablets_of, Sets, LeavesGates}
 use Rattle.mako_gate.specs.Standings.{GateFacet, drained_by}
 use Rattle.mako_gate.proofs.Numbers.{holds_le}
 use Rattle.mako_layout.specs.Layouts.{Layout, entries_of, regions_of, OneCopy}
-use Rattle.mako_layout.specs.Facets.{stands, Work, idle, reads, uses, holds_home, moves, asks, tops, finds, fills, carries, raises, makes, counts, settled, owes_home, owes_top, Choice, Paused, Debt, debt_of, given_of, spare_of, rests_with, chooses, Gift, gift_of}
+use Rattle.mako_layout.specs.Facets.{stands, Work, idle, reads, uses, holds_home, moves, asks, tops, finds, fills, carries, raises, makes, counts, settled, owes_home, owes_top, Choice, Paused, Debt, debt_of, given_of, spare_of, rests_with, chooses, Gift, gift_of, times_in}
 use Rattle.mako_layout.specs.Evacuations.{slot_of, home_read, top_read, to_raise, counted_in, layout_of, Knows, State, layout, Evacuation}
 use Rattle.mako_layout.proofs.Alterations.{cycle_kept}
 use Rattle.mako_layout.proofs.Choices.{choose_kept, same_kept}
-use Rattle.mako_layout.proofs.Frames.{gates_frame, record_within}
+use Rattle.mako_layout.proofs.Frames.{gates_frame, record_within, leaves_gates}
 use Rattle.mako_layout.proofs.Stays.{record_kept}
 use Rattle.mako_layout.proofs.Debts.{none_owed, nobody_there}
 
@@ -66,7 +66,7 @@ module _ (n : Numbers) (s : State) (e : Evacuation n s) (p : Paused n s.gates) w
   pub store_leaving : debt_of s.choice ≡ settled → (V : Place → ℕ) (t r : ℕ) (gl : List Gift) (sl : List ℕ) → t < tablets_of n → r < regions_of n →
       server_of_region n r ≡ server_of_tablet n t → (layout n s).given t ≡ 0 → 1 ≤ (layout n s).spare r → Sets n s.words V (leaving t) (s.words (home t) + 1) →
       ((u : ℕ) → gift_of gl u ≡ (layout n s).given u + counted (t == u) (s.words (home t) + 1)) →
-      ((q : ℕ) → sum_by (λ c. counted (c == q) 1) sl + counted (r == q) 1 ≡ (layout n s).spare q) →
+      ((q : ℕ) → times_in sl q + counted (r == q) 1 ≡ (layout n s).spare q) →
       Evacuation n (record s { words = V; choice = chooses (owes_home t r) gl sl })
   store_leaving d V t r gl sl inside region mine unchosen spare sets gifts spares =
       let k : Choice = chooses (owes_home t r) gl sl in
@@ -76,7 +76,7 @@ module _ (n : Numbers) (s : State) (e : Evacuation n s) (p : Paused n s.gates) w
       let home_was : (u : ℕ) → l.home u ≡ s.words (home u) = λ u. ap (λ q. home_read q u (s.words (home u))) d in
       let top_was : (u : ℕ) → top_read (debt_of s.choice) u (s.words (top u)) ≡ s.words (top u) = λ u. ap (λ q. top_read q u (s.words (top u))) d in
       alone_kept V k
-      (record { tablets = λ u h. sets.others (tablet_gate u) h (λ c. cc); owns = λ u h. sets.others (mutator_gate u) h (λ c. cc); turns = λ u h. sets.others (turn u) h (λ c. cc) })
+      (leaves_gates n s.words V _ _ sets tt)
       (λ x h. sets.others (entry x) h (λ c. cc)) (λ a b h j. sets.others (region_word a b) (h, j) (λ c. cc))
       (choose_kept n l e.copy m t r (record {
         inside = inside;
@@ -105,7 +105,7 @@ module _ (n : Numbers) (s : State) (e : Evacuation n s) (p : Paused n s.gates) w
       let k : Choice = chooses (owes_top t) gl sl in
       let m : Layout = layout_of n V s.heap s.works k s.made in
       alone_kept V k
-      (record { tablets = λ u h. sets.others (tablet_gate u) h (λ c. cc); owns = λ u h. sets.others (mutator_gate u) h (λ c. cc); turns = λ u h. sets.others (turn u) h (λ c. cc) })
+      (leaves_gates n s.words V _ _ sets tt)
       (λ x h. sets.others (entry x) h (λ c. cc)) (λ a b h j. sets.others (region_word a b) (h, j) (λ c. cc))
       (same_kept n (layout n s) e.copy m (record {
         cycle = ap (λ q. cycle_of (phase_at q)) (sets.others phase tt (λ c. cc));
@@ -119,7 +119,7 @@ module _ (n : Numbers) (s : State) (e : Evacuation n s) (p : Paused n s.gates) w
             let z = nobody_owes u in omega (arith, z.0, z.1));
         leavings = λ u h. sets.others (leaving u) h (λ c. cc);
         givens = λ u h. ap (λ (q : Choice). gift_of (given_of q) u) (sym is);
-        spares = λ q h. ap (λ (c : Choice). sum_by (λ b. counted (b == q) 1) (spare_of c)) (sym is);
+        spares = λ q h. ap (λ (c : Choice). times_in (spare_of c) q) (sym is);
         mades = λ _ _. refl;
       }))
 
@@ -131,7 +131,7 @@ module _ (n : Numbers) (s : State) (e : Evacuation n s) (p : Paused n s.gates) w
       let m : Layout = layout_of n V s.heap s.works k s.made in
       let debt_is : debt_of s.choice ≡ owes_top t = ap debt_of is in
       alone_kept V k
-      (record { tablets = λ u h. sets.others (tablet_gate u) h (λ c. cc); owns = λ u h. sets.others (mutator_gate u) h (λ c. cc); turns = λ u h. sets.others (turn u) h (λ c. cc) })
+      (leaves_gates n s.words V _ _ sets tt)
       (λ x h. sets.others (entry x) h (λ c. cc)) (λ a b h j. sets.others (region_word a b) (h, j) (λ c. cc))
       (same_kept n (layout n s) e.copy m (record {
         cycle = ap (λ q. cycle_of (phase_at q)) (sets.others phase tt (λ c. cc));
@@ -147,7 +147,7 @@ module _ (n : Numbers) (s : State) (e : Evacuation n s) (p : Paused n s.gates) w
             omega (arith, z.0, z.1);
         leavings = λ u h. sets.others (leaving u) h (λ c. cc);
         givens = λ u h. ap (λ (q : Choice). gift_of (given_of q) u) (sym is);
-        spares = λ q h. ap (λ (c : Choice). sum_by (λ b. counted (b == q) 1) (spare_of c)) (sym is);
+        spares = λ q h. ap (λ (c : Choice). times_in (spare_of c) q) (sym is);
         mades = λ _ _. refl;
       }))
 
@@ -157,7 +157,7 @@ module _ (n : Numbers) (s : State) (e : Evacuation n s) (p : Paused n s.gates) w
       let l : Layout = layout n s in
       let m : Layout = layout_of n V s.heap s.works s.choice s.made in
       alone_kept V s.choice
-      (record { tablets = λ u h. sets.others (tablet_gate u) h (λ c. cc); owns = λ u h. sets.others (mutator_gate u) h (λ c. cc); turns = λ u h. sets.others (turn u) h (λ c. cc) })
+      (leaves_gates n s.words V _ _ sets tt)
       (λ x h. sets.others (entry x) h (λ c. cc)) (λ a b h j. sets.others (region_word a b) (h, j) (λ c. cc))
       (same_kept n (record l { cycle = m.cycle }) (cycle_kept n l e.copy m.cycle none) m (record {
         cycle = refl;

@@ -16,7 +16,7 @@ use Rattle.mako_gate.proofs.Numbers.{holds_le}
 use Rattle.mako_layout.specs.Layouts.{Layout, entries_of, regions_of}
 use Rattle.mako_layout.specs.Facets.{stands, Work, idle, reads, uses, holds_home, moves, asks, tops, finds, fills, carries, raises, makes, counts, settled, Paused, debt_of}
 use Rattle.mako_layout.specs.Evacuations.{slot_of, home_read, top_read, to_raise, counted_in, layout_of, Knows, State, layout, Evacuation}
-use Rattle.mako_layout.proofs.Frames.{gates_beside_top, gates_frame, record_within}
+use Rattle.mako_layout.proofs.Frames.{gates_frame, record_within, leaves_gates}
 use Rattle.mako_layout.proofs.Stays.{stays_kept}
 use Rattle.mako_layout.proofs.Works.{known}
 use Rattle.mako_gate.proofs.GatesTell.{gates_tell}
@@ -134,7 +134,7 @@ module _ (n : Numbers) (s : State) (e : Evacuation n s) (i : ℕ) (g : GateFacet
           | inl same ↦ (let one = subst (λ q. 1 ≤ writes q g) (sym same) writing in omega (arith, top_is t (V (top t)) one, top_is t (s.words (top t)) one))
           | inr d ↦ omega (arith, ap (top_read (debt_of s.choice) t) (other_top t h d), (elsewhere t d).0, (elsewhere t d).1)
         ] in
-        stays_kept n s e V s.gates (set s.works i u) (length-set s.works i u ∙ e.seats) (gates_frame n s.words V s.gates (gates_beside_top n s.words V t0 v sets) e.gates)
+        stays_kept n s e V s.gates (set s.works i u) (length-set s.works i u ∙ e.seats) (gates_frame n s.words V s.gates (leaves_gates n s.words V _ _ sets tt) e.gates)
         (record {
           cycle = ap (λ q. cycle_of (phase_at q)) (sets.others phase tt (λ c. cc));
           slots = λ y h. ap (slot_of n s.heap y) (entries y h);

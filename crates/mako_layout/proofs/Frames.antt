@@ -1,9 +1,8 @@
 -- Frames: what one changed word leaves of the layout, the gates and the records.
-use Rattle.std.proofs.Common.{◌≡◌, ◌≢◌, ℕ, ◌+◌, ◌-◌, ◌<◌, ◌≤◌, inl, inr, List, length, set, sum_by, sym, ap, ◌∙◌, refl, subst, arith}
+use Rattle.std.proofs.Common.{◌≡◌, ◌≢◌, ℕ, ◌+◌, ◌-◌, ◌<◌, ◌≤◌, inl, inr, List, sum_by, sym, ap, ◌∙◌, refl, subst, arith}
 use Rattle.mako_shape.specs.declared.numbers.Numbers.{Numbers}
-use Rattle.mako_shape.specs.Places.{Place, phase, mutator_gate, tablet_gate, turn, entry, home, top, leaving, region_word, Within, index, total, word_at}
+use Rattle.mako_shape.specs.Places.{Place, phase, mutator_gate, tablet_gate, turn, entry, home, top, leaving, region_word}
 use Rattle.mako_shape.specs.Belongings.{tablet_of_entry}
-use Rattle.mako_shape.proofs.PlaceLaws.{word_same, word_other}
 use Rattle.mako_shape.proofs.BelongingLaws.{belongings_in_range}
 use Rattle.mako_model.specs.Heaps.{Heap}
 use Rattle.mako_words.specs.Phases.{phase_at, cycle_of}
@@ -12,15 +11,31 @@ use Rattle.mako_layout.specs.Changes.{AreSame}
 use Rattle.mako_layout.specs.Facets.{Work, Choice, debt_of}
 use Rattle.mako_layout.specs.Evacuations.{slot_of, home_read, top_read, to_raise, counted_in, layout_of}
 use Rattle.mako_layout.specs.Beside.{Beside}
-use Rattle.mako_layout.specs.Frames.{SameTable}
+use Rattle.mako_layout.specs.Frames.{SameTable, LeavesLayout, IsElsewhere, IsNoGate, PlacesAreApart}
 use Rattle.mako_layout.proofs.Roles.{free_above, one_home}
 use Rattle.mako_gate.specs.Changes.{tablets_of, Sets, LeavesGates}
 use Rattle.mako_gate.specs.Standings.{GateFacet, writes}
 use Rattle.mako_gate.specs.Gates.{Gates}
 
--- a write into the list of words sets the word at one place
-pub sets_words : (n : Numbers) (ws : List ℕ) → length ws ≡ total n → (p : Place) (x : ℕ) → Within n p → Sets n (word_at n ws) (word_at n (set ws (index n p) x)) p x
-sets_words n ws size p x h = record { here = word_same n ws p x size h; others = λ q k d. word_other n ws p q x h k d }
+module _ (n : Numbers) (W V : Place → ℕ) (p : Place) (v : ℕ) (s : Sets n W V p v) where
+  pub leaves_layout : IsElsewhere p → LeavesLayout n W V
+  leaves_layout free = record {
+    table = record {
+      phase = s.others phase tt (λ e. subst IsElsewhere (sym e) free);
+      entries = λ x h. s.others (entry x) h (λ e. subst IsElsewhere (sym e) free);
+      homes = λ t h. s.others (home t) h (λ e. subst IsElsewhere (sym e) free);
+      tops = λ t h. s.others (top t) h (λ e. subst IsElsewhere (sym e) free);
+      leavings = λ t h. s.others (leaving t) h (λ e. subst IsElsewhere (sym e) free);
+    };
+    regions = λ r a h k. s.others (region_word r a) (h, k) (λ e. subst IsElsewhere (sym e) free);
+  }
+
+  pub leaves_gates : IsNoGate p → LeavesGates n W V
+  leaves_gates free = record {
+    tablets = λ t h. s.others (tablet_gate t) h (λ e. subst IsNoGate (sym e) free);
+    owns = λ m h. s.others (mutator_gate m) h (λ e. subst IsNoGate (sym e) free);
+    turns = λ t h. s.others (turn t) h (λ e. subst IsNoGate (sym e) free);
+  }
 
 module _ (n : Numbers) (W V : Place → ℕ) where
   pub table_beside_region : (r w v : ℕ) → Sets n W V (region_word r w) v → SameTable n W V
@@ -30,27 +45,6 @@ module _ (n : Numbers) (W V : Place → ℕ) where
     homes = λ t h. s.others (home t) h (λ e. cc);
     tops = λ t h. s.others (top t) h (λ e. cc);
     leavings = λ t h. s.others (leaving t) h (λ e. cc);
-  }
-
-  pub gates_beside_region : (r w v : ℕ) → Sets n W V (region_word r w) v → LeavesGates n W V
-  gates_beside_region r w v s = record {
-    tablets = λ t h. s.others (tablet_gate t) h (λ e. cc);
-    owns = λ m h. s.others (mutator_gate m) h (λ e. cc);
-    turns = λ t h. s.others (turn t) h (λ e. cc);
-  }
-
-  pub gates_beside_entry : (x v : ℕ) → Sets n W V (entry x) v → LeavesGates n W V
-  gates_beside_entry x v s = record {
-    tablets = λ t h. s.others (tablet_gate t) h (λ e. cc);
-    owns = λ m h. s.others (mutator_gate m) h (λ e. cc);
-    turns = λ t h. s.others (turn t) h (λ e. cc);
-  }
-
-  pub gates_beside_top : (t v : ℕ) → Sets n W V (top t) v → LeavesGates n W V
-  gates_beside_top u v s = record {
-    tablets = λ t h. s.others (tablet_gate t) h (λ e. cc);
-    owns = λ m h. s.others (mutator_gate m) h (λ e. cc);
-    turns = λ t h. s.others (turn t) h (λ e. cc);
   }
 
   pub gates_frame : (gs : List GateFacet) → LeavesGates n W V → Gates n W gs → Gates n V gs
@@ -80,6 +74,9 @@ module _ (n : Numbers) (W V : Place → ℕ) where
     spares = λ r m. refl;
     mades = λ _ _. refl;
   }
+
+pub places_are_apart : PlacesAreApart
+places_are_apart = record { layout = leaves_layout; gates = leaves_gates }
 
 module _ (n : Numbers) (l : Layout) (o : OneCopy n l) where
   -- the words of taken records are in range

@@ -24,7 +24,7 @@ use Rattle.mako_layout.specs.Beside.{entry_of}
 use Rattle.mako_layout.specs.StepParts.{moved_entry, new_entry}
 use Rattle.mako_layout.specs.Frames.{SameTable}
 use Rattle.mako_layout.proofs.Roles.{copy_fits, away, record_in_home, one_home}
-use Rattle.mako_layout.proofs.Frames.{table_beside_region, gates_beside_region, gates_frame, layout_same, beside_same, record_within}
+use Rattle.mako_layout.proofs.Frames.{table_beside_region, gates_frame, layout_same, beside_same, record_within, leaves_gates}
 use Rattle.mako_layout.proofs.Stays.{size_is, frame_kept}
 use Rattle.mako_layout.proofs.Debts.{filled_is}
 use Rattle.mako_layout.proofs.Entries.{address_fits, generation_small, epoch_small}
@@ -241,7 +241,7 @@ module _ (n : Numbers) (s : State) (e : Evacuation n s) (i : ℕ) (g : GateFacet
 
   -- a field of the record in the home is stored
   pub store_field : Evacuation n (record s { words = V; heap = h })
-  store_field = frame_kept n s e V h s.gates s.works e.seats (gates_frame n s.words V s.gates (gates_beside_region n s.words V r (o + (1 + j)) (value_word v) sets) e.gates) same e.pause
+  store_field = frame_kept n s e V h s.gates s.works e.seats (gates_frame n s.words V s.gates (leaves_gates n s.words V _ _ sets tt) e.gates) same e.pause
       (λ t m. omega (arith, e.even t m, ap (λ q. top_read (debt_of s.choice) t q) (table.tops t m)))
       record_after
       e.passed

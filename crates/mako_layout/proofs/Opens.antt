@@ -23,7 +23,7 @@ use Rattle.mako_model.proofs.Lookups.{fields_same}
 use Rattle.std.specs.FinMap as finmap
 use Rattle.mako_layout.specs.Sums.{sum_below}
 use Rattle.mako_layout.specs.Layouts.{Slot, Layout, entries_of, regions_of, part_in, home_words, taken_words, InHome, OneCopy}
-use Rattle.mako_layout.specs.Facets.{Work, idle}
+use Rattle.mako_layout.specs.Facets.{Work, idle, times_in}
 use Rattle.mako_layout.specs.Evacuations.{slot_of_entry, to_raise, counted_in, record_words, IsRecordOf, Knows, State, layout, Evacuation}
 use Rattle.mako_gate.specs.Sums.{counted}
 use Rattle.mako_gate.specs.Changes.{tablets_of}
@@ -62,11 +62,11 @@ one_term : (k : ℕ) (f : ℕ → ℕ) (x : ℕ) → x < k → ((y : ℕ) → y 
 one_term k f x h none = omega (arith, sum_below_one k f (λ _. 0) x h none, sum_below_none k (λ _. 0) (λ _ _. refl))
 
 -- the spare regions below a number
-spare_next : (n : Numbers) (r c : ℕ) → sum_by (λ s. counted (s == r) 1) (spares_below n (suc c))
-    ≡ sum_by (λ s. counted (s == r) 1) (spares_below n c) + cond (nat_lt (c % (n.tablets + n.spare)) n.tablets) 0 (counted (c == r) 1)
+spare_next : (n : Numbers) (r c : ℕ) → times_in (spares_below n (suc c)) r
+    ≡ times_in (spares_below n c) r + cond (nat_lt (c % (n.tablets + n.spare)) n.tablets) 0 (counted (c == r) 1)
 spare_next n r c = by (nat_lt (c % (n.tablets + n.spare)) n.tablets)
   where
-    by : (b : Bool) → sum_by (λ s. counted (s == r) 1) (cond b (spares_below n c) (c ∷ spares_below n c)) ≡ sum_by (λ s. counted (s == r) 1) (spares_below n c) + cond b 0 (counted (c == r) 1)
+    by : (b : Bool) → times_in (cond b (spares_below n c) (c ∷ spares_below n c)) r ≡ times_in (spares_below n c) r + cond b 0 (counted (c == r) 1)
     by true = omega arith
     by false = omega (arith, sum_by-cons (λ s. counted (s == r) 1) c (spares_below n c))
 
@@ -80,18 +80,18 @@ cond_zero : (b : Bool) (z : ℕ) → z ≡ 0 → cond b 0 z ≡ 0
 cond_zero true z e = refl
 cond_zero false z e = e
 
-spare_other : (n : Numbers) (r c : ℕ) → c ≤ r → sum_by (λ s. counted (s == r) 1) (spares_below n c) ≡ 0
+spare_other : (n : Numbers) (r c : ℕ) → c ≤ r → times_in (spares_below n c) r ≡ 0
 spare_other n r zero h = refl
 spare_other n r (suc c) h = omega (arith, spare_next n r c, spare_other n r c (omega arith), cond_zero (nat_lt (c % (n.tablets + n.spare)) n.tablets) (counted (c == r) 1) (count_off c r 1 (λ e. omega arith)))
 
-spare_not : (n : Numbers) (r c : ℕ) → r % (n.tablets + n.spare) < n.tablets → sum_by (λ s. counted (s == r) 1) (spares_below n c) ≡ 0
+spare_not : (n : Numbers) (r c : ℕ) → r % (n.tablets + n.spare) < n.tablets → times_in (spares_below n c) r ≡ 0
 spare_not n r zero h = refl
 spare_not n r (suc c) h = elim (cases_eq c r) [
   | inl e ↦ omega (arith, spare_next n r c, spare_not n r c h, ap (λ q. cond q 0 (counted (c == r) 1)) (ap (λ q. nat_lt (q % (n.tablets + n.spare)) n.tablets) e ∙ less_is (r % (n.tablets + n.spare)) n.tablets h))
   | inr d ↦ omega (arith, spare_next n r c, spare_not n r c h, cond_zero (nat_lt (c % (n.tablets + n.spare)) n.tablets) (counted (c == r) 1) (count_off c r 1 d))
 ]
 
-spare_is : (n : Numbers) (r c : ℕ) → r < c → n.tablets ≤ r % (n.tablets + n.spare) → sum_by (λ s. counted (s == r) 1) (spares_below n c) ≡ 1
+spare_is : (n : Numbers) (r c : ℕ) → r < c → n.tablets ≤ r % (n.tablets + n.spare) → times_in (spares_below n c) r ≡ 1
 spare_is n r zero h k = absurd (omega arith)
 spare_is n r (suc c) h k = elim (cases_eq c r) [
   | inl e ↦ omega (arith, spare_next n r c, spare_other n r c (omega arith), count_at c r 1 e, ap (λ q. cond q 0 (counted (c == r) 1)) (ap (λ q. nat_lt (q % (n.tablets + n.spare)) n.tablets) e ∙ less_not (r % (n.tablets + n.spare)) n.tablets k))
@@ -103,7 +103,7 @@ module _ (n : Numbers) (r : ℕ) (inside : r < regions_of n) where
   home_column : (t : ℕ) → t < tablets_of n → opening_home n t % (n.tablets + n.spare) ≡ t % n.tablets
   home_column t h = mod-mul-add (t / n.tablets) (n.tablets + n.spare) (t % n.tablets) (let a = mod-below t n.tablets n.servers h in omega arith)
 
-  pub one_role : sum_below (tablets_of n) (λ t. counted (opening_home n t == r) 1) + sum_by (λ s. counted (s == r) 1) (spares_below n (regions_of n)) ≡ 1
+  pub one_role : sum_below (tablets_of n) (λ t. counted (opening_home n t == r) 1) + times_in (spares_below n (regions_of n)) r ≡ 1
   one_role = elim (cases_lt (r % (n.tablets + n.spare)) n.tablets) [
     | inl low ↦ (
         let t : ℕ = r / (n.tablets + n.spare) * n.tablets + r % (n.tablets + n.spare) in

@@ -26,7 +26,7 @@ use Rattle.mako_layout.specs.Beside.{entry_of, Beside}
 use Rattle.mako_layout.proofs.Puts.{put_kept}
 use Rattle.mako_layout.proofs.Choices.{same_kept}
 use Rattle.mako_layout.proofs.Besides.{knows_kept}
-use Rattle.mako_layout.proofs.Frames.{gates_beside_entry, gates_frame, record_within}
+use Rattle.mako_layout.proofs.Frames.{gates_frame, record_within, leaves_gates}
 use Rattle.mako_layout.proofs.Stays.{size_is}
 use Rattle.mako_layout.proofs.Passing.{passed_same, passed_puts}
 use Rattle.mako_layout.proofs.Debts.{}
@@ -230,7 +230,7 @@ module _ (n : Numbers) (s : State) (e : Evacuation n s) (i : ℕ) (g : GateFacet
   pub publish_kept : Knows n m V g u → Evacuation n (record s { words = V; heap = h; works = set s.works i u; made = d })
   publish_kept own = record {
     seats = length-set s.works i u ∙ e.seats;
-    gates = gates_frame n s.words V s.gates (gates_beside_entry n s.words V x (entry_word E) p.sets) e.gates;
+    gates = gates_frame n s.words V s.gates (leaves_gates n s.words V _ _ p.sets tt) e.gates;
     copy = copy_after;
     pause = e.pause;
     even = even_after;

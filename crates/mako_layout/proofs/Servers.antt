@@ -1,5 +1,5 @@
 -- A server clears a tablet that it left, frees and marks entries; the collector stores the phases of evacuation.
-use Rattle.std.proofs.Common.{◌≡◌, ◌≢◌, ℕ, ◌+◌, ◌-◌, ◌<◌, ◌≤◌, ◌==◌, inl, inr, ⊎_elim, true, [], length, slice_get, sum_by, Some, sym, ap, ◌∙◌, refl, subst, arith, List}
+use Rattle.std.proofs.Common.{◌≡◌, ◌≢◌, ℕ, ◌+◌, ◌-◌, ◌<◌, ◌≤◌, inl, inr, ⊎_elim, true, [], length, slice_get, sum_by, Some, sym, ap, ◌∙◌, refl, subst, arith, List}
 use Rattle.std.specs.Option.{unwrap_or}
 use Rattle.std.proofs.lemmas.Bool.{cases_eq}
 use Rattle.std.proofs.lemmas.Option.{same_Some}
@@ -8,11 +8,10 @@ use Rattle.mako_words.specs.Entries.{entry_at}
 use Rattle.mako_words.specs.Phases.{phase_at, cycle_of}
 use Rattle.mako_words.proofs.EntryWords.{entry_at-entry_word}
 use Rattle.mako_shape.specs.declared.numbers.Numbers.{Numbers}
-use Rattle.mako_shape.specs.Places.{Place, phase, mutator_gate, tablet_gate, turn, entry, home, top, leaving, region_word, index}
+use Rattle.mako_shape.specs.Places.{Place, phase, entry, home, top, leaving, region_word, index}
 use Rattle.mako_shape.specs.Belongings.{tablet_of_entry, region_of_address, word_of_address}
 use Rattle.mako_shape.proofs.BelongingLaws.{belongings_in_range}
 use Rattle.mako_model.specs.Heaps.{fields_of}
-use Rattle.mako_gate.specs.Sums.{counted}
 use Rattle.mako_gate.specs.Changes.{tablets_of, Sets, LeavesGates}
 use Rattle.mako_gate.specs.Standings.{GateFacet, drained_by, writes}
 use Rattle.mako_layout.specs.Layouts.{Slot, Layout, entries_of, regions_of, cycle_words, gifts_at, OneCopy}
@@ -25,7 +24,7 @@ use Rattle.mako_layout.proofs.Roles.{away, all_moved}
 use Rattle.mako_layout.proofs.Alterations.{alter_kept, clear_kept, finish_kept}
 use Rattle.mako_layout.proofs.Choices.{same_kept}
 use Rattle.mako_layout.proofs.Besides.{work_knows_kept, writing}
-use Rattle.mako_layout.proofs.Frames.{gates_frame, record_within}
+use Rattle.mako_layout.proofs.Frames.{gates_frame, record_within, leaves_gates}
 use Rattle.mako_layout.proofs.Stays.{record_kept, size_is}
 use Rattle.mako_layout.proofs.Passing.{passed_same, passed_alters}
 use Rattle.mako_layout.proofs.Debts.{filled_is}
@@ -105,7 +104,7 @@ module _ (n : Numbers) (s : State) (e : Evacuation n s) (i : ℕ) (g : GateFacet
       let m : Layout = layout_of n V s.heap s.works s.choice s.made in
       let others : (u : ℕ) → u < tablets_of n → u ≢ t → V (leaving u) ≡ s.words (leaving u) = λ u h d. sets.others (leaving u) h (λ c. d (let b : u ≡ t = cc in b)) in
       let p : KeepsPlaces n s V s.choice = record {
-        gates = record { tablets = λ u h. sets.others (tablet_gate u) h (λ c. cc); owns = λ u h. sets.others (mutator_gate u) h (λ c. cc); turns = λ u h. sets.others (turn u) h (λ c. cc) };
+        gates = leaves_gates n s.words V _ _ sets tt;
         cycle = ap (λ q. cycle_of (phase_at q)) (sets.others phase tt (λ c. cc));
         entries = λ x h. sets.others (entry x) h (λ c. cc);
         homes = λ u h. sets.others (home u) h (λ c. cc);
@@ -134,7 +133,7 @@ store_phase n s e V v sets same =
     let l : Layout = layout n s in
     let m : Layout = layout_of n V s.heap s.works s.choice s.made in
     let p : KeepsPlaces n s V s.choice = record {
-      gates = record { tablets = λ u h. sets.others (tablet_gate u) h (λ c. cc); owns = λ u h. sets.others (mutator_gate u) h (λ c. cc); turns = λ u h. sets.others (turn u) h (λ c. cc) };
+      gates = leaves_gates n s.words V _ _ sets tt;
       cycle = ap (λ q. cycle_of (phase_at q)) sets.here ∙ same;
       entries = λ x h. sets.others (entry x) h (λ c. cc);
       homes = λ u h. sets.others (home u) h (λ c. cc);
@@ -157,14 +156,14 @@ store_phase n s e V v sets same =
 
 pub store_idle : (n : Numbers) (s : State) → Evacuation n s → (V : Place → ℕ) (v : ℕ) (gl : List Gift) (sl sl' : List ℕ) → s.choice ≡ has_chosen gl sl → Sets n s.words V phase v → cycle_of (phase_at v) ≡ (layout n s).cycle →
     ((t : ℕ) → t < tablets_of n → s.words (leaving t) ≡ 0) → ((x : ℕ) → x < entries_of n → ((layout n s).slot x).taken ≡ true → ((layout n s).slot x).epoch ≡ (layout n s).cycle) →
-    ((r : ℕ) → r < regions_of n → sum_by (λ c. counted (c == r) 1) sl' ≡ (layout n s).spare r + gifts_at n (layout n s) r) →
+    ((r : ℕ) → r < regions_of n → times_in sl' r ≡ (layout n s).spare r + gifts_at n (layout n s) r) →
     Evacuation n (record s { words = V; choice = rests_with sl' })
 store_idle n s e V v gl sl sl' is sets same none good more =
     let k : Choice = rests_with sl' in
     let l : Layout = layout n s in
     let m : Layout = layout_of n V s.heap s.works k s.made in
     let p : KeepsPlaces n s V k = record {
-      gates = record { tablets = λ u h. sets.others (tablet_gate u) h (λ c. cc); owns = λ u h. sets.others (mutator_gate u) h (λ c. cc); turns = λ u h. sets.others (turn u) h (λ c. cc) };
+      gates = leaves_gates n s.words V _ _ sets tt;
       cycle = ap (λ q. cycle_of (phase_at q)) sets.here ∙ same;
       entries = λ x h. sets.others (entry x) h (λ c. cc);
       homes = λ u h. sets.others (home u) h (λ c. cc);
@@ -298,7 +297,7 @@ module _ (n : Numbers) (s : State) (e : Evacuation n s) (V : Place → ℕ) (E :
   pub alter_entry : Evacuation n (record s { words = V })
   alter_entry = record {
     seats = e.seats;
-    gates = gates_frame n s.words V s.gates (record { tablets = λ u h. p.sets.others (tablet_gate u) h (λ c. cc); owns = λ u h. p.sets.others (mutator_gate u) h (λ c. cc); turns = λ u h. p.sets.others (turn u) h (λ c. cc) }) e.gates;
+    gates = gates_frame n s.words V s.gates (leaves_gates n s.words V _ _ p.sets tt) e.gates;
     copy = same_kept n (record l1 { slot = m1.slot }) (alter_kept n l1 e.copy m1.slot x alters) m1 same_after;
     pause = e.pause;
     even = λ t h. omega (arith, e.even t h, ap (top_read (debt_of s.choice) t) (p.sets.others (top t) h (λ c. cc)));

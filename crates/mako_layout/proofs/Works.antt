@@ -16,7 +16,7 @@ use Rattle.mako_gate.specs.Changes.{tablets_of, Sets, LeavesGates}
 use Rattle.mako_gate.specs.Standings.{GateFacet, writes}
 use Rattle.mako_gate.proofs.Lists.{at_set, sum_at}
 use Rattle.mako_layout.proofs.Roles.{copy_fits}
-use Rattle.mako_layout.proofs.Frames.{table_beside_region, gates_beside_region, gates_frame, layout_same, record_stays, ahead_stays}
+use Rattle.mako_layout.proofs.Frames.{table_beside_region, gates_frame, layout_same, record_stays, ahead_stays, leaves_gates}
 use Rattle.mako_layout.proofs.Stays.{KnownAfter, stays_kept}
 use Rattle.mako_gate.proofs.GatesTell.{gates_tell}
 use Rattle.mako_words.specs.declared.name.Name.{Name}
@@ -80,7 +80,7 @@ module _ (n : Numbers) (s : State) (e : Evacuation n s) (i : ℕ) (g : GateFacet
       Evacuation n (record s { words = V; works = set s.works i u })
   store_kept V u t a v inside writing past sets debts own =
       let l : Layout = layout n s in
-      work_kept V u (table_beside_region n s.words V (l.home t) a v sets) (gates_beside_region n s.words V (l.home t) a v sets) debts
+      work_kept V u (table_beside_region n s.words V (l.home t) a v sets) (leaves_gates n s.words V _ _ sets tt) debts
       (record_stays n l e.copy s.words V t a v inside past sets) own
       (λ j f q d at h other b low high. ahead_stays n l e.copy s.words V t a v inside past sets q b h
       (λ same. let z = (gates_tell n s.words s.gates e.gates).writers.one t i j g f inside (λ c. d (sym c)) at_g at writing in

@@ -3,6 +3,7 @@
 ghost use Rattle.mako_layout.specs.Actions.{HomesChangeInPauses, FreeWordsAreTheWriters};
 ghost use Rattle.mako_layout.specs.Claims.{PutKeeps, AlterKeeps, ChooseKeeps, ClearKeeps, FinishKeeps, CycleKeeps, SameKeeps, CopyFits, AllMoved, FreeAbove};
 ghost use Rattle.mako_layout.specs.Conclusions.{ServersCopyAlone, OneWriter, UsedIsPresent, ReadIsPresent, EachHasItsRecord, RecordsAreApart, AllAreHomeAtRest, BegunCopiesFit, WhatIsLeftFits, ClearedTopsAreExact, UsedIsMade};
+ghost use Rattle.mako_layout.specs.Frames.{PlacesAreApart};
 ghost use Rattle.mako_layout.specs.Openings.{OpeningHolds};
 ghost use Rattle.mako_layout.specs.Runs.{AllReachedHold, NewIsPublished, PutIsStored};
 ghost use Rattle.mako_layout.specs.Steps.{EachStepKeeps};
@@ -26,6 +27,11 @@ pub fn one_copy_tells()
     ensures fits { CopyFits }
     ensures moved { AllMoved }
     ensures free { FreeAbove }
+{}
+
+/// Which words a change of one word leaves.
+pub fn words_are_apart()
+    ensures { PlacesAreApart }
 {}
 
 /// Each kind of step keeps the invariant, for any number of mutators, servers, tablets and entries.
