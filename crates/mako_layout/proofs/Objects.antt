@@ -163,7 +163,7 @@ module _ (n : Numbers) (s : State) (e : Evacuation n s) (i : ℕ) (g : GateFacet
         cycle = base.cycle;
         slots = λ y m. ap (λ q. slot_of n h y q) (table.entries y m) ∙ (λ q. record {
           taken = (entry_at (s.words (entry y))).taken;
-    generation = (entry_at (s.words (entry y))).generation;
+          generation = (entry_at (s.words (entry y))).generation;
           epoch = (entry_at (s.words (entry y))).epoch;
           region = region_of_address n (entry_at (s.words (entry y))).address;
           offset = word_of_address n (entry_at (s.words (entry y))).address;

@@ -149,19 +149,19 @@ module _ (n : Numbers) (shape : IsShape n) (board : ℕ) (fits : board + 1 ≤ n
   fits_word = record { address = address_fits n 0 0 regions_some (omega arith) shape; epoch = omega arith; generation = omega arith }
 
   -- the board's slot, and the others
-  slot_zero : l.slot 0 ≡ slot_of_entry n s.heap 0 (board_entry n)
+  pub slot_zero : l.slot 0 ≡ slot_of_entry n s.heap 0 (board_entry n)
   slot_zero = slot_stored n s.heap 0 (entry_word (board_entry n)) (board_entry n) fits_word refl
 
-  region_zero : (l.slot 0).region ≡ 0
+  pub region_zero : (l.slot 0).region ≡ 0
   region_zero = ap (λ (q : Slot). q.region) slot_zero ∙ region_of_place n 0 0 regions_some (omega arith)
 
-  offset_zero : (l.slot 0).offset ≡ 0
+  pub offset_zero : (l.slot 0).offset ≡ 0
   offset_zero = ap (λ (q : Slot). q.offset) slot_zero ∙ word_of_place n 0 0 regions_some (omega arith)
 
   board_fields : fields_of s.heap board_name ≡ Some (replicate board Null)
   board_fields = fields_same (record { objects = finmap.empty; roots = (opening n.mutators n.roots board n.cycles).roots; snaps = 0; cycles = n.cycles }) board_name (replicate board Null)
 
-  size_zero : (l.slot 0).size ≡ board + 1
+  pub size_zero : (l.slot 0).size ≡ board + 1
   size_zero = ap (λ (q : Slot). q.size) slot_zero ∙ (λ q. length (unwrap_or (board_fields q) []) + 1) ∙ ap (λ q. q + 1) (length-replicate board Null)
 
   only_zero : (x : ℕ) → (l.slot x).taken ≡ true → x ≡ 0
