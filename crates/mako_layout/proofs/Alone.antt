@@ -2,7 +2,7 @@
 use Rattle.std.proofs.Common.{⊎_elim, ◌≡◌, ℕ, ◌+◌, ◌-◌, ◌<◌, ◌≤◌, ◌==◌, inl, inr, true, cond, List, slice_get, sum_by, Some, eq-eqb, ne_eqb, sym, ap, ◌∙◌, refl, subst, arith}
 use Rattle.std.proofs.lemmas.Bool.{cases_eq}
 use Rattle.mako_shape.specs.declared.numbers.Numbers.{Numbers}
-use Rattle.mako_shape.specs.Places.{Place, phase, turn, entry, home, top, leaving, region_word}
+use Rattle.mako_shape.specs.Places.{Place, phase, entry, home, top, leaving, region_word}
 use Rattle.mako_shape.specs.Belongings.{tablet_of_entry, server_of_tablet, server_of_region}
 use Rattle.mako_words.specs.Phases.{phase_at, cycle_of}
 use Rattle.mako_gate.specs.Sums.{counted}
@@ -10,13 +10,15 @@ use Rattle.mako_gate.specs.Changes.{tablets_of, Sets, LeavesGates}
 use Rattle.mako_gate.specs.Standings.{GateFacet, drained_by}
 use Rattle.mako_gate.proofs.Numbers.{holds_le}
 use Rattle.mako_layout.specs.Layouts.{Layout, entries_of, regions_of, OneCopy}
-use Rattle.mako_layout.specs.Facets.{stands, Work, idle, reads, uses, holds_home, moves, asks, tops, finds, fills, carries, raises, makes, counts, settled, owes_home, owes_top, Choice, Paused, Debt, debt_of, given_of, spare_of, rests_with, chooses, Gift, gift_of, times_in}
+use Rattle.mako_layout.specs.Facets.{stands, Work, idle, reads, uses, holds_home, tops, settled, owes_home, owes_top, Choice, Paused, Debt, debt_of, given_of, spare_of, rests_with, chooses, Gift, gift_of, times_in}
 use Rattle.mako_layout.specs.Evacuations.{slot_of, home_read, top_read, to_raise, counted_in, layout_of, Knows, State, layout, Evacuation}
 use Rattle.mako_layout.proofs.Alterations.{cycle_kept}
 use Rattle.mako_layout.proofs.Choices.{choose_kept, same_kept}
 use Rattle.mako_layout.proofs.Frames.{gates_frame, record_within, leaves_gates}
 use Rattle.mako_layout.proofs.Stays.{record_kept}
 use Rattle.mako_layout.proofs.Debts.{none_owed, nobody_there}
+use Rattle.mako_layout.proofs.Besides.{writing}
+use Rattle.mako_layout.specs.Beside.{entry_of}
 
 -- a view that stands nowhere knows nothing
 pub nothing_known : (n : Numbers) (l m : Layout) (W V : Place → ℕ) (f : GateFacet) (v : Work) → ((t : ℕ) → stands t f ≡ 0) → Knows n l W f v → Knows n m V f v
@@ -24,15 +26,7 @@ nothing_known n l m W V f idle none k = tt
 nothing_known n l m W V f (reads x r o) none k = absurd (let a = k.enters in let b = none (tablet_of_entry n x) in omega arith)
 nothing_known n l m W V f (uses x r o) none k = absurd (let a = k.enters in let b = none (tablet_of_entry n x) in omega arith)
 nothing_known n l m W V f (holds_home x r) none k = absurd (let a = k.stands_there in let b = none (tablet_of_entry n x) in omega arith)
-nothing_known n l m W V f (moves x r) none k = absurd (let a = k.writer in let b = none (tablet_of_entry n x) in let c = holds_le (tablet_of_entry n x) f.standing in omega arith)
-nothing_known n l m W V f (asks x) none k = absurd (let a = k.turn in let b = none (tablet_of_entry n x) in let c = holds_le (tablet_of_entry n x) f.standing in omega arith)
-nothing_known n l m W V f (tops x o z) none k = absurd (let a = k.asks.turn in let b = none (tablet_of_entry n x) in let c = holds_le (tablet_of_entry n x) f.standing in omega arith)
-nothing_known n l m W V f (finds name o z) none k = absurd (let a = k.tops.asks.turn in let b = none (tablet_of_entry n name.entry) in let c = holds_le (tablet_of_entry n name.entry) f.standing in omega arith)
-nothing_known n l m W V f (fills x r o j) none k = absurd (let a = k.writer in let b = none (tablet_of_entry n x) in let c = holds_le (tablet_of_entry n x) f.standing in omega arith)
-nothing_known n l m W V f (carries x r o j w) none k = absurd (let a = k.fills.writer in let b = none (tablet_of_entry n x) in let c = holds_le (tablet_of_entry n x) f.standing in omega arith)
-nothing_known n l m W V f (raises x r o z) none k = absurd (let a = k.writer in let b = none (tablet_of_entry n x) in let c = holds_le (tablet_of_entry n x) f.standing in omega arith)
-nothing_known n l m W V f (makes name r o z j) none k = absurd (let a = k.turn in let b = none (tablet_of_entry n name.entry) in let c = holds_le (tablet_of_entry n name.entry) f.standing in omega arith)
-nothing_known n l m W V f (counts name r o z) none k = absurd (let a = k.makes.turn in let b = none (tablet_of_entry n name.entry) in let c = holds_le (tablet_of_entry n name.entry) f.standing in omega arith)
+nothing_known n l m W V f w none k = absurd (let a = writing n l W f w k tt in let b = none (tablet_of_entry n (entry_of w)) in let c = holds_le (tablet_of_entry n (entry_of w)) f.standing in omega arith)
 
 -- a collector that owes is alone
 pub paused_by : (n : Numbers) (s : State) → Evacuation n s → (d : Debt) (gl : List Gift) (sl : List ℕ) → s.choice ≡ chooses d gl sl → (d ≡ settled → ⊥) → Paused n s.gates

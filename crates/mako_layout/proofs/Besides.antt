@@ -163,15 +163,7 @@ minds_writes idle is = absurd is
 minds_writes (reads x r o) is = absurd is
 minds_writes (uses x r o) is = absurd is
 minds_writes (holds_home x r) is = absurd is
-minds_writes (moves x r) is = tt
-minds_writes (asks x) is = absurd is
-minds_writes (tops x o z) is = absurd is
-minds_writes (finds x o z) is = tt
-minds_writes (fills x r o j) is = tt
-minds_writes (carries x r o j v) is = tt
-minds_writes (raises x r o z) is = tt
-minds_writes (makes x r o z j) is = tt
-minds_writes (counts x r o z) is = tt
+minds_writes w is = tt
 
 pub knows_kept : (n : Numbers) (l m : Layout) → OneCopy n l → (W V : Place → ℕ) (g : GateFacet) (w : Work) →
     (entry_of w < entries_of n → Knows n l W g w → Beside n l m W V g (entry_of w)) → Knows n l W g w → Knows n m V g w

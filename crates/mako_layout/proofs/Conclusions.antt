@@ -12,7 +12,7 @@ use Rattle.mako_layout.specs.Layouts.{Layout, part_in, part_of_cycle}
 use Rattle.mako_layout.specs.Facets.{reads, uses, holds_home, fills}
 use Rattle.mako_layout.specs.Evacuations.{layout}
 use Rattle.mako_layout.specs.Beside.{entry_of}
-use Rattle.mako_layout.proofs.Passing.{passed_all, same_one}
+use Rattle.mako_layout.proofs.Passing.{passed_all}
 use Rattle.mako_layout.specs.Conclusions.{ServersCopyAlone, OneWriter, UsedIsPresent, ReadIsPresent, EachHasItsRecord, RecordsAreApart, BegunCopiesFit, ClearedTopsAreExact, part_to_come, WhatIsLeftFits, UsedIsMade, AllAreHomeAtRest}
 use Rattle.mako_layout.proofs.Roles.{copy_fits, part_le}
 use Rattle.mako_layout.proofs.Besides.{writing}
@@ -20,7 +20,7 @@ use Rattle.mako_layout.proofs.Frames.{record_within}
 use Rattle.mako_layout.proofs.Debts.{home_is}
 use Rattle.mako_layout.proofs.Servers.{cleared_top}
 use Rattle.mako_gate.proofs.GatesTell.{gates_tell}
-use Rattle.mako_gate.proofs.Numbers.{counted_zero}
+use Rattle.mako_gate.proofs.Numbers.{counted_zero, count_at}
 use Rattle.mako_layout.proofs.Alone.{none_given}
 
 pub servers_copy_alone : ServersCopyAlone
@@ -95,7 +95,7 @@ begun_copies_fit n s e i x r o j g seat =
 
 pub cleared_tops_are_exact : ClearedTopsAreExact
 cleared_tops_are_exact n s e i t x r seat h left =
-    cleared_top n s e i (shutter_at i (has_drained t (t * n.entries + n.entries))) seat.gate (holds_home x r) seat.work (λ c. c) (λ _. (refl, refl)) t h (let a = same_one t in omega arith) left
+    cleared_top n s e i (shutter_at i (has_drained t (t * n.entries + n.entries))) seat.gate (holds_home x r) seat.work (λ c. c) (λ _. (refl, refl)) t h (let a = count_at t t 1 refl in omega arith) left
     (passed_all n (layout n s) t (e.passed i t (t * n.entries + n.entries) (shutter_at i (has_drained t (t * n.entries + n.entries))) seat.gate refl))
 
 -- a part in the home and one that is to come are a part of the cycle

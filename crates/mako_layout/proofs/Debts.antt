@@ -14,7 +14,7 @@ use Rattle.mako_gate.specs.Standings.{GateFacet, writes, admitted}
 use Rattle.mako_gate.proofs.Lists.{sum_at, some_term}
 use Rattle.mako_gate.proofs.Numbers.{holds_le}
 use Rattle.mako_layout.specs.Layouts.{Layout, entries_of, regions_of}
-use Rattle.mako_layout.specs.Facets.{stands, Work, idle, reads, uses, holds_home, moves, asks, tops, finds, fills, carries, raises, makes, counts, settled, Paused, debt_of}
+use Rattle.mako_layout.specs.Facets.{stands, Work, raises, makes, counts, settled, Paused, debt_of}
 use Rattle.mako_layout.specs.Evacuations.{slot_of, home_read, top_read, to_raise, counted_in, layout_of, Knows, State, layout, Evacuation}
 use Rattle.mako_layout.proofs.Frames.{gates_frame, record_within, leaves_gates}
 use Rattle.mako_layout.proofs.Stays.{stays_kept}
@@ -26,34 +26,12 @@ counted_pos a b z h = elim (cases_eq a b) [ inl e ↦ e | inr d ↦ absurd (let 
 
 -- who owes a raise or has counted is a writer
 raiser : (n : Numbers) (l : Layout) (W : Place → ℕ) (f : GateFacet) (t : ℕ) (v : Work) → 0 < to_raise n t v → Knows n l W f v → 1 ≤ writes t f
-raiser n l W f t idle h k = absurd (omega arith)
-raiser n l W f t (reads x r o) h k = absurd (omega arith)
-raiser n l W f t (uses x r o) h k = absurd (omega arith)
-raiser n l W f t (holds_home x r) h k = absurd (omega arith)
-raiser n l W f t (moves x r) h k = absurd (omega arith)
-raiser n l W f t (asks x) h k = absurd (omega arith)
-raiser n l W f t (tops x o z) h k = absurd (omega arith)
-raiser n l W f t (finds name o z) h k = absurd (omega arith)
-raiser n l W f t (fills x r o j) h k = absurd (omega arith)
-raiser n l W f t (carries x r o j v) h k = absurd (omega arith)
 raiser n l W f t (raises x r o z) h k = subst (λ q. 1 ≤ writes q f) (counted_pos (tablet_of_entry n x) t z h) k.writer
-raiser n l W f t (makes name r o z j) h k = absurd (omega arith)
-raiser n l W f t (counts name r o z) h k = absurd (omega arith)
+raiser n l W f t w h k = absurd (omega arith)
 
 counter : (n : Numbers) (l : Layout) (W : Place → ℕ) (f : GateFacet) (t : ℕ) (v : Work) → 0 < counted_in n t v → Knows n l W f v → 1 ≤ writes t f
-counter n l W f t idle h k = absurd (omega arith)
-counter n l W f t (reads x r o) h k = absurd (omega arith)
-counter n l W f t (uses x r o) h k = absurd (omega arith)
-counter n l W f t (holds_home x r) h k = absurd (omega arith)
-counter n l W f t (moves x r) h k = absurd (omega arith)
-counter n l W f t (asks x) h k = absurd (omega arith)
-counter n l W f t (tops x o z) h k = absurd (omega arith)
-counter n l W f t (finds name o z) h k = absurd (omega arith)
-counter n l W f t (fills x r o j) h k = absurd (omega arith)
-counter n l W f t (carries x r o j v) h k = absurd (omega arith)
-counter n l W f t (raises x r o z) h k = absurd (omega arith)
-counter n l W f t (makes name r o z j) h k = absurd (omega arith)
 counter n l W f t (counts name r o z) h k = subst (λ q. 1 ≤ writes q f) (counted_pos (tablet_of_entry n name.entry) t z h) (let c = k.makes.turn in omega arith)
+counter n l W f t w h k = absurd (omega arith)
 
 module _ (n : Numbers) (s : State) (e : Evacuation n s) where
   -- a seat with work has a gate facet

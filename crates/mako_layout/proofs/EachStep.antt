@@ -13,7 +13,7 @@ use Rattle.mako_gate.proofs.GateKinds as kinds
 use Rattle.mako_gate.proofs.ActionSteps.{action_step}
 use Rattle.mako_layout.proofs.GateMoves.{standing_kept, act_kept, settled_step}
 use Rattle.mako_layout.proofs.Debts.{collector_settled}
-use Rattle.mako_layout.proofs.Passing.{same_one, passed_none, passed_next, passed_all}
+use Rattle.mako_layout.proofs.Passing.{passed_none, passed_next, passed_all}
 use Rattle.mako_layout.proofs.Loads as load
 use Rattle.mako_layout.proofs.Works as work
 use Rattle.mako_layout.proofs.Objects as object
@@ -22,6 +22,7 @@ use Rattle.mako_layout.proofs.Alone as alone
 use Rattle.mako_layout.proofs.Servers as server
 use Rattle.mako_shape.specs.Places.{home}
 use Rattle.mako_gate.specs.Sums.{counted}
+use Rattle.mako_gate.proofs.Numbers.{count_at}
 
 pub each_step_keeps : (n : Numbers) → IsShape n → (s : State) (who : ℕ) (z : State) → Evacuation n s → Step n s who z → Evacuation n z
 each_step_keeps n shape s _ _ e (step.acts V i f g seat act only none who) =
@@ -39,7 +40,7 @@ each_step_keeps n shape s _ _ e (step.passes i u b x r seat same passed) =
     let at_home : r ≡ (layout n s).home u = known.region ∙ ap (layout n s).home same in
     settled_step n s e s.words (only_look n s.words) i (shutter_at i (has_drained u b)) (shutter_at i (has_drained u (b + 1))) (holds_home x r) seat
     (kinds.passes n s.words s.words i i u b (record { tablets = λ _ _. refl; owns = λ _ _. refl; turns = λ _ _. refl }))
-    (collector_settled n s e i (shutter_at i (has_drained u b)) seat.gate u (let a = same_one u in omega arith))
+    (collector_settled n s e i (shutter_at i (has_drained u b)) seat.gate u (let a = count_at u u 1 refl in omega arith))
     (λ t c is. let a : u ≡ t = cc in let d : b + 1 ≡ c = cc in
     subst (λ q. Passed n (layout n s) q c) a (subst (λ q. Passed n (layout n s) u q) d
     (passed_next n (layout n s) u b (e.passed i u b (shutter_at i (has_drained u b)) seat.gate refl) (λ taken now. passed taken now ∙ at_home))))
@@ -80,6 +81,6 @@ each_step_keeps n shape s _ _ e (step.store_trace V v sl paused is sets) = alone
 each_step_keeps n shape s _ _ e (step.store_phase V v sets same) = server.store_phase n s e V v sets same
 each_step_keeps n shape s _ _ e (step.store_idle V v gl sl sl' is sets same none good more) = server.store_idle n s e V v gl sl sl' is sets same none good (λ r h. more r h ∙ ap (λ k. times_in (spare_of k) r + gifts_at n (layout n s) r) (sym is))
 each_step_keeps n shape s _ _ e (step.clear_leaving V i t x r seat inside_ left sets) =
-    server.clear_leaving n s e i (shutter_at i (has_drained t (t * n.entries + n.entries))) seat.gate (holds_home x r) seat.work (λ c. c) (λ _. (refl, refl)) V t inside_ (let a = same_one t in omega arith) left
+    server.clear_leaving n s e i (shutter_at i (has_drained t (t * n.entries + n.entries))) seat.gate (holds_home x r) seat.work (λ c. c) (λ _. (refl, refl)) V t inside_ (let a = count_at t t 1 refl in omega arith) left
     (passed_all n (layout n s) t (e.passed i t (t * n.entries + n.entries) (shutter_at i (has_drained t (t * n.entries + n.entries))) seat.gate refl)) sets
 each_step_keeps n shape s _ _ e (step.alter_entry i V x after p) = server.alter_entry n s e V after x p

@@ -1,18 +1,13 @@
 -- A server's copies of a tablet: which records of the cycle are in the home by now.
-use Rattle.std.proofs.Common.{◌≡◌, ◌≢◌, ℕ, ◌+◌, ◌*◌, ◌/◌, ◌<◌, ◌==◌, inl, inr, true, sym, ap, ◌∙◌, refl, subst, arith}
+use Rattle.std.proofs.Common.{◌≡◌, ◌≢◌, ℕ, ◌+◌, ◌*◌, ◌/◌, ◌<◌, inl, inr, true, sym, ap, ◌∙◌, subst, arith}
 use Rattle.std.proofs.lemmas.Bool.{cases_eq}
 use Rattle.mako_shape.specs.declared.numbers.Numbers.{Numbers}
 use Rattle.mako_shape.specs.Belongings.{tablet_of_entry}
 use Rattle.mako_shape.proofs.Rows.{mod-below, row-and-column}
 use Rattle.mako_shape.proofs.BelongingLaws.{belongings_in_range}
-use Rattle.mako_gate.specs.Sums.{counted}
 use Rattle.mako_gate.specs.Changes.{tablets_of}
 use Rattle.mako_layout.specs.Layouts.{Slot, Layout, Passed}
 use Rattle.mako_layout.specs.Changes.{Puts, Alters, AreSame, IsMoved}
-use Rattle.mako_gate.proofs.Numbers.{count_at}
-
-pub same_one : (t : ℕ) → counted (t == t) 1 ≡ 1
-same_one t = count_at t t 1 refl
 
 pub passed_same : (n : Numbers) (l m : Layout) (t b : ℕ) → AreSame n l m → Passed n l t b → Passed n m t b
 passed_same n l m t b p before y low h c taken now =

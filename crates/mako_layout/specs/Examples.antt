@@ -11,21 +11,11 @@ use Rattle.mako_layout.specs.Facets.{Work, idle, uses, rests_with}
 use Rattle.mako_layout.specs.Evacuations.{State, slot_at, Seat}
 use Rattle.mako_layout.specs.Openings.{opening_words}
 use Rattle.mako_layout.specs.Runs.{Reaches}
+use Rattle.mako_gate.specs.Examples.{one}
 
--- one of everything, but two entries, and a spare region
+-- one of everything, but two entries
 abbrev pub small : Numbers
-small = record {
-  mutators = 1;
-  servers = 1;
-  tablets = 1;
-  entries = 2;
-  words = 16;
-  spare = 1;
-  ring = 1;
-  roots = 1;
-  cycles = 1;
-  generations = 1;
-}
+small = record one { entries = 2 }
 
 -- ---- a mutator uses the board's record
 
