@@ -42,7 +42,8 @@ same n s who = stays (record { homes = λ _ _. refl; regions = λ _ _ _ _. refl 
 left : (n : Numbers) (s : State) (who : ℕ) (V : Place → ℕ) → LeavesLayout n s.words V → Effect n s who V
 left n s who V only = stays (record { homes = only.table.homes; regions = only.regions })
 
-aside : (n : Numbers) (s : State) (who : ℕ) (V : Place → ℕ) (p : Place) (v : ℕ) → Sets n s.words V p v → IsAside p → Effect n s who V
+aside : (n : Numbers) (s : State) (who : ℕ) (V : Place → ℕ) (p : Place) (v : ℕ) → Sets n s.words V p v → IsAside p →
+    Effect n s who V
 aside n s who V p v sets free = stays (record {
   homes = λ t h. sets.others (home t) h (λ e. subst IsAside (sym e) free);
   regions = λ r a h k. sets.others (region_word r a) (h, k) (λ e. subst IsAside (sym e) free);
@@ -69,7 +70,8 @@ effect n s who _ e (step.load_word _ _ _ _ _ _ _ _) = same n s who
 effect n s _ _ e (step.store_word V i x r o j v g seat sets) =
     let k = (e.knows i g (carries x r o j v) seat.gate seat.work).fills in
     in_home (tablet_of_entry n x) (o + j) _ (belongings_in_range.entry n x k.inside)
-    (subst (λ q. Sets n s.words V (region_word q (o + j)) v) k.kept.region sets) (inl (record { view = g; here = seat.gate; may = k.writer }))
+    (subst (λ q. Sets n s.words V (region_word q (o + j)) v) k.kept.region sets)
+    (inl (record { view = g; here = seat.gate; may = k.writer }))
 effect n s who _ e (step.store_moved V _ _ _ _ _ _ sets) = aside n s who V _ _ sets tt
 effect n s who _ e (step.raise_and_use V _ _ _ _ _ _ _ _ sets) = aside n s who V _ _ sets tt
 effect n s who _ e (step.raise_and_go_on V _ _ _ _ _ _ _ sets) = aside n s who V _ _ sets tt
@@ -107,25 +109,29 @@ home_effect n s who V (in_home u a v inside sets by) t h changed = absurd (chang
 pub homes_change_in_pauses : HomesChangeInPauses
 homes_change_in_pauses n s who z e k t h changed = home_effect n s who z.words (effect n s who z e k) t h changed
 
-region_effect : (n : Numbers) (s : State) → Evacuation n s → (who : ℕ) (V : Place → ℕ) → Effect n s who V → (t a : ℕ) → t < tablets_of n →
+region_effect : (n : Numbers) (s : State) → Evacuation n s → (who : ℕ) (V : Place → ℕ) → Effect n s who V →
+    (t a : ℕ) → t < tablets_of n →
     (layout n s).filled t ≤ a → a < n.words →
     V (region_word ((layout n s).home t) a) ≢ s.words (region_word ((layout n s).home t) a) → IsWriter s t who
-region_effect n s e who V (stays k) t a h past below changed = absurd (changed (k.regions ((layout n s).home t) a (e.copy.home_in t h) below))
+region_effect n s e who V (stays k) t a h past below changed = absurd
+    (changed (k.regions ((layout n s).home t) a (e.copy.home_in t h) below))
 region_effect n s e who V (at_home u v paused sets) t a h past below changed =
     absurd (changed (sets.others (region_word ((layout n s).home t) a) (e.copy.home_in t h, below) (λ c. cc)))
-region_effect n s e who V (in_home u b v inside sets by) t a h past below changed = elim (cases_eq ((layout n s).home t) ((layout n s).home u)) [
-  | inr other ↦ absurd (changed (sets.others (region_word ((layout n s).home t) a) (e.copy.home_in t h, below)
-      (λ c. other (let q : (layout n s).home t ≡ (layout n s).home u = cc in q))))
-  | inl here ↦ (let one : u ≡ t = sym (one_home n (layout n s) e.copy t u h inside here) in
-      elim (cases_eq a b) [
-        | inr other ↦ absurd (changed (sets.others (region_word ((layout n s).home t) a) (e.copy.home_in t h, below)
-            (λ c. other (let q : a ≡ b = cc in q))))
-        | inl word ↦ elim by [
-          | inl writer ↦ subst (λ q. IsWriter s q who) one writer
-          | inr used ↦ absurd (let low = subst (λ q. b < (layout n s).filled q) one used in omega arith)
-        ]
-      ])
-]
+region_effect n s e who V (in_home u b v inside sets by) t a h past below
+    changed = elim (cases_eq ((layout n s).home t) ((layout n s).home u)) [
+      | inr other ↦ absurd (changed (sets.others (region_word ((layout n s).home t) a) (e.copy.home_in t h, below)
+          (λ c. other (let q : (layout n s).home t ≡ (layout n s).home u = cc in q))))
+      | inl here ↦ (let one : u ≡ t = sym (one_home n (layout n s) e.copy t u h inside here) in
+          elim (cases_eq a b) [
+            | inr other ↦ absurd (changed (sets.others (region_word ((layout n s).home t) a) (e.copy.home_in t h, below)
+                (λ c. other (let q : a ≡ b = cc in q))))
+            | inl word ↦ elim by [
+              | inl writer ↦ subst (λ q. IsWriter s q who) one writer
+              | inr used ↦ absurd (let low = subst (λ q. b < (layout n s).filled q) one used in omega arith)
+            ]
+          ])
+    ]
 
 pub free_words_are_the_writers : FreeWordsAreTheWriters
-free_words_are_the_writers n s who z e k t a h past below changed = region_effect n s e who z.words (effect n s who z e k) t a h past below changed
+free_words_are_the_writers n s who z e k t a h past below changed = region_effect n s e who z.words
+    (effect n s who z e k) t a h past below changed

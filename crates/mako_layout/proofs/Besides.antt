@@ -31,18 +31,24 @@ module _ (n : Numbers) (l m : Layout) (one : OneCopy n l) (W V : Place → ℕ) 
     home = k.home ∙ sym b.home;
   }
 
-  kept_kept : (x r o : ℕ) → m.home (tablet_of_entry n x) ≡ l.home (tablet_of_entry n x) → m.filled (tablet_of_entry n x) ≡ l.filled (tablet_of_entry n x) → Kept n l x r o → Kept n m x r o
+  kept_kept : (x r o : ℕ) → m.home (tablet_of_entry n x) ≡ l.home (tablet_of_entry n x) →
+      m.filled (tablet_of_entry n x) ≡ l.filled (tablet_of_entry n x) → Kept n l x r o → Kept n m x r o
   kept_kept x r o h f k = record { region = k.region ∙ sym h; offset = k.offset ∙ sym f }
 
   -- a word that the view stored stays, and one that it copies from
-  stored_stays : (x r o i : ℕ) → Kept n l x r o → Quiet n l m W V x (tablet_of_entry n x) → o + i < n.words → V (region_word r (o + i)) ≡ W (region_word r (o + i))
-  stored_stays x r o i k u h = subst (λ a. V (region_word a (o + i)) ≡ W (region_word a (o + i))) (sym k.region) (u.ahead (o + i) (omega (arith, k.offset)) h)
+  stored_stays : (x r o i : ℕ) → Kept n l x r o → Quiet n l m W V x (tablet_of_entry n x) → o + i < n.words →
+      V (region_word r (o + i)) ≡ W (region_word r (o + i))
+  stored_stays x r o i k u h = subst (λ a. V (region_word a (o + i)) ≡ W (region_word a (o + i))) (sym k.region)
+      (u.ahead (o + i) (omega (arith, k.offset)) h)
 
-  source_stays : (x i : ℕ) → (l.slot x).taken ≡ true → (l.slot x).region ≢ l.home (tablet_of_entry n x) → i < (l.slot x).size → Quiet n l m W V x (tablet_of_entry n x) → m.slot x ≡ l.slot x →
-      V (region_word (m.slot x).region ((m.slot x).offset + i)) ≡ W (region_word (l.slot x).region ((l.slot x).offset + i))
+  source_stays : (x i : ℕ) → (l.slot x).taken ≡ true → (l.slot x).region ≢ l.home (tablet_of_entry n x) →
+      i < (l.slot x).size → Quiet n l m W V x (tablet_of_entry n x) → m.slot x ≡ l.slot x →
+      V (region_word (m.slot x).region ((m.slot x).offset + i)) ≡ W
+      (region_word (l.slot x).region ((l.slot x).offset + i))
   source_stays x i taken out less u same =
       (λ q. V (region_word (same q).region ((same q).offset + i)))
-      ∙ u.behind (l.slot x).region ((l.slot x).offset + i) (record { taken = taken; region = refl; low = omega arith; high = omega arith }) out
+      ∙ u.behind (l.slot x).region ((l.slot x).offset + i)
+      (record { taken = taken; region = refl; low = omega arith; high = omega arith }) out
 
   fills_kept : (x r o j : ℕ) → BesideWork n l m W V (fills x r o j) x → Fills n l W g x r o j → Fills n m V g x r o j
   fills_kept x r o j b k =
@@ -63,16 +69,29 @@ module _ (n : Numbers) (l m : Layout) (one : OneCopy n l) (W V : Place → ℕ) 
             ∙ sym (source_stays x i k.taken out (omega (arith, k.most)) u (b.slot tt));
       }
 
-  carries_kept : (x r o j v : ℕ) → BesideWork n l m W V (carries x r o j v) x → Carries n l W g x r o j v → Carries n m V g x r o j v
+  carries_kept : (x r o j v : ℕ) → BesideWork n l m W V (carries x r o j v) x → Carries n l W g x r o j v →
+      Carries n m V g x r o j v
   carries_kept x r o j v b k =
       let u = b.writer tt in
       record {
-        fills = fills_kept x r o j (record { cycle = b.cycle; home = b.home; taken = b.taken; region = b.region; offset = b.offset; writer = b.writer; slot = b.slot }) k.fills;
+        fills = fills_kept x r o j
+            (record {
+              cycle = b.cycle;
+              home = b.home;
+              taken = b.taken;
+              region = b.region;
+              offset = b.offset;
+              writer = b.writer;
+              slot = b.slot;
+            }) k.fills;
         more = omega (arith, k.more, ap (λ (s : Slot). s.size) (b.slot tt));
-        word = k.word ∙ sym (source_stays x j k.fills.taken (λ e. k.fills.out (e ∙ sym k.fills.kept.region)) k.more u (b.slot tt));
+        word = k.word
+            ∙ sym (source_stays x j k.fills.taken (λ e. k.fills.out (e ∙ sym k.fills.kept.region)) k.more u
+            (b.slot tt));
       }
 
-  raises_kept : (x r o z : ℕ) → BesideWork n l m W V (raises x r o z) x → Raises n l W g x r o z → Raises n m V g x r o z
+  raises_kept : (x r o z : ℕ) → BesideWork n l m W V (raises x r o z) x → Raises n l W g x r o z →
+      Raises n m V g x r o z
   raises_kept x r o z b k =
       let u = b.writer tt in
       record {
@@ -86,7 +105,8 @@ module _ (n : Numbers) (l m : Layout) (one : OneCopy n l) (W V : Place → ℕ) 
         left = λ z. k.left (sym u.leaving ∙ z);
       }
 
-  makes_kept : (name : Name) (r o z j : ℕ) → BesideWork n l m W V (makes name r o z j) name.entry → Makes n l W g name r o z j → Makes n m V g name r o z j
+  makes_kept : (name : Name) (r o z j : ℕ) → BesideWork n l m W V (makes name r o z j) name.entry →
+      Makes n l W g name r o z j → Makes n m V g name r o z j
   makes_kept name r o z j b k =
       let u = b.writer tt in
       record {
@@ -118,13 +138,24 @@ module _ (n : Numbers) (l m : Layout) (one : OneCopy n l) (W V : Place → ℕ) 
   asks_kept x u k = record { inside = k.inside; turn = k.turn; stays = u.leaving ∙ k.stays }
 
   tops_kept : (x o z : ℕ) → Quiet n l m W V x (tablet_of_entry n x) → Tops n l g x o z → Tops n m g x o z
-  tops_kept x o z u k = record { asks = asks_kept x u k.asks; offset = k.offset ∙ sym u.filled; some = k.some; fits = k.fits }
+  tops_kept x o z u k = record {
+    asks = asks_kept x u k.asks;
+    offset = k.offset ∙ sym u.filled;
+    some = k.some;
+    fits = k.fits;
+  }
 
-  pub work_knows_kept : (w : Work) → (entry_of w < entries_of n → Knows n l W g w → BesideWork n l m W V w (entry_of w)) → Knows n l W g w → Knows n m V g w
+  pub work_knows_kept : (w : Work) →
+      (entry_of w < entries_of n → Knows n l W g w → BesideWork n l m W V w (entry_of w)) → Knows n l W g w →
+      Knows n m V g w
   work_knows_kept idle b k = tt
   work_knows_kept (reads x r o) b k = reads_kept x r o (b k.inside k) k
   work_knows_kept (uses x r o) b k = uses_kept x r o (b k.inside k) k
-  work_knows_kept (holds_home x r) b k = record { inside = k.inside; stands_there = k.stands_there; region = k.region ∙ sym (b k.inside k).home }
+  work_knows_kept (holds_home x r) b k = record {
+    inside = k.inside;
+    stands_there = k.stands_there;
+    region = k.region ∙ sym (b k.inside k).home;
+  }
   work_knows_kept (moves x r) b k = moves_kept x r (b k.inside k) k
   work_knows_kept (asks x) b k = asks_kept x ((b k.inside k).writer tt) k
   work_knows_kept (tops x o z) b k = tops_kept x o z ((b k.asks.inside k).writer tt) k
@@ -139,11 +170,20 @@ module _ (n : Numbers) (l m : Layout) (one : OneCopy n l) (W V : Place → ℕ) 
   work_knows_kept (makes name r o z j) b k = makes_kept name r o z j (b k.inside k) k
   work_knows_kept (counts name r o z) b k = record {
     makes = makes_kept name r o z z (let c = b k.makes.inside k in
-        record { cycle = c.cycle; home = c.home; taken = c.taken; region = c.region; offset = c.offset; writer = c.writer; slot = c.slot }) k.makes;
+        record {
+          cycle = c.cycle;
+          home = c.home;
+          taken = c.taken;
+          region = c.region;
+          offset = c.offset;
+          writer = c.writer;
+          slot = c.slot;
+        }) k.makes;
   }
 
 -- who writes is a writer of its entry's tablet
-pub writing : (n : Numbers) (l : Layout) (W : Place → ℕ) (g : GateFacet) (w : Work) → Knows n l W g w → IsWriting w → 1 ≤ writes (tablet_of_entry n (entry_of w)) g
+pub writing : (n : Numbers) (l : Layout) (W : Place → ℕ) (g : GateFacet) (w : Work) → Knows n l W g w → IsWriting w →
+    1 ≤ writes (tablet_of_entry n (entry_of w)) g
 writing n l W g idle k is = absurd is
 writing n l W g (reads x r o) k is = absurd is
 writing n l W g (uses x r o) k is = absurd is

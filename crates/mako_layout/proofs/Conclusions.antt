@@ -24,7 +24,8 @@ use Rattle.mako_gate.proofs.Numbers.{counted_zero, count_at}
 use Rattle.mako_layout.proofs.Alone.{none_given}
 
 pub servers_copy_alone : ServersCopyAlone
-servers_copy_alone n s e t i j f g h at_i at_j drains = (gates_tell n s.words s.gates e.gates).drained.tablets_empty t i j f g h at_i drains at_j
+servers_copy_alone n s e t i j f g h at_i at_j drains = (gates_tell n s.words s.gates e.gates).drained.tablets_empty t
+    i j f g h at_i drains at_j
 
 pub writers_are_one : OneWriter
 writers_are_one n s e i j f g v w a b is_v is_w h same = elim (cases_eq i j) [
@@ -32,8 +33,10 @@ writers_are_one n s e i j f g v w a b is_v is_w h same = elim (cases_eq i j) [
   | inr d ↦ absurd (
       let t : ℕ = tablet_of_entry n (entry_of v) in
       let one : 1 ≤ writes t f = writing n (layout n s) s.words f v (e.knows i f v a.gate a.work) is_v in
-      let two : 1 ≤ writes t g = subst (λ q. 1 ≤ writes q g) (sym same) (writing n (layout n s) s.words g w (e.knows j g w b.gate b.work) is_w) in
-      let z = (gates_tell n s.words s.gates e.gates).writers.one t i j f g (belongings_in_range.entry n (entry_of v) h) d a.gate b.gate one in omega arith)
+      let two : 1 ≤ writes t g = subst (λ q. 1 ≤ writes q g) (sym same)
+      (writing n (layout n s) s.words g w (e.knows j g w b.gate b.work) is_w) in
+      let z = (gates_tell n s.words s.gates e.gates).writers.one t i j f g
+      (belongings_in_range.entry n (entry_of v) h) d a.gate b.gate one in omega arith)
 ]
 
 pub used_is_present : UsedIsPresent
@@ -48,7 +51,8 @@ used_is_present n s e i x r o g seat =
 pub read_is_present : ReadIsPresent
 read_is_present n s e i x r o g seat here =
     let k = e.knows i g (reads x r o) seat.gate seat.work in
-    let p = k.present (here ∙ sym (home_is n s e i g seat.gate (tablet_of_entry n x) (let a = k.enters in omega arith))) in
+    let p = k.present
+    (here ∙ sym (home_is n s e i g seat.gate (tablet_of_entry n x) (let a = k.enters in omega arith))) in
     let c = e.records x k.inside k.taken in
     record { address = (λ q. index n (region_word (sym p.0 q) (sym p.1 q))) ∙ c.address; home = here }
 
@@ -66,8 +70,10 @@ records_are_apart n s e x y hx hy ne tx ty =
     let b = (e.records y hy ty).address in
     let ia = region_word-index n (l.slot x).region (l.slot x).offset in
     let ib = region_word-index n (l.slot y).region (l.slot y).offset in
-    let last_x = record_within n l e.copy x (l.slot x).region ((l.slot x).offset + ((l.slot x).size - 1)) hx (record { taken = tx; region = refl; low = omega arith; high = omega arith }) in
-    let last_y = record_within n l e.copy y (l.slot y).region ((l.slot y).offset + ((l.slot y).size - 1)) hy (record { taken = ty; region = refl; low = omega arith; high = omega arith }) in
+    let last_x = record_within n l e.copy x (l.slot x).region ((l.slot x).offset + ((l.slot x).size - 1)) hx
+    (record { taken = tx; region = refl; low = omega arith; high = omega arith }) in
+    let last_y = record_within n l e.copy y (l.slot y).region ((l.slot y).offset + ((l.slot y).size - 1)) hy
+    (record { taken = ty; region = refl; low = omega arith; high = omega arith }) in
     elim (cases_lt (l.slot x).region (l.slot y).region) [
       | inl before ↦ inl (let q = row (l.slot x).region (l.slot y).region n.words before in omega (arith, last_x.1))
       | inr not_before ↦ elim (cases_lt (l.slot y).region (l.slot x).region) [
@@ -79,8 +85,12 @@ records_are_apart n s e x y hx hy ne tx ty =
               | inl over ↦ elim (cases_lt (l.slot x).offset ((l.slot y).offset + (l.slot y).size)) [
                 | inr below ↦ inr (omega arith)
                 | inl under ↦ absurd (ne (elim (cases_lt (l.slot x).offset (l.slot y).offset) [
-                  | inl less ↦ e.copy.one x y (l.slot y).region (l.slot y).offset hx hy (record { taken = tx; region = same; low = omega arith; high = over }) (record { taken = ty; region = refl; low = omega arith; high = omega arith })
-                  | inr more ↦ e.copy.one x y (l.slot y).region (l.slot x).offset hx hy (record { taken = tx; region = same; low = omega arith; high = omega arith }) (record { taken = ty; region = refl; low = more; high = under })
+                  | inl less ↦ e.copy.one x y (l.slot y).region (l.slot y).offset hx hy
+                      (record { taken = tx; region = same; low = omega arith; high = over })
+                      (record { taken = ty; region = refl; low = omega arith; high = omega arith })
+                  | inr more ↦ e.copy.one x y (l.slot y).region (l.slot x).offset hx hy
+                      (record { taken = tx; region = same; low = omega arith; high = omega arith })
+                      (record { taken = ty; region = refl; low = more; high = under })
                 ]))
               ]
             ])
@@ -95,8 +105,11 @@ begun_copies_fit n s e i x r o j g seat =
 
 pub cleared_tops_are_exact : ClearedTopsAreExact
 cleared_tops_are_exact n s e i t x r seat h left =
-    cleared_top n s e i (shutter_at i (has_drained t (t * n.entries + n.entries))) seat.gate (holds_home x r) seat.work (λ c. c) (λ _. (refl, refl)) t h (let a = count_at t t 1 refl in omega arith) left
-    (passed_all n (layout n s) t (e.passed i t (t * n.entries + n.entries) (shutter_at i (has_drained t (t * n.entries + n.entries))) seat.gate refl))
+    cleared_top n s e i (shutter_at i (has_drained t (t * n.entries + n.entries))) seat.gate (holds_home x r)
+    seat.work (λ c. c) (λ _. (refl, refl)) t h (let a = count_at t t 1 refl in omega arith) left
+    (passed_all n (layout n s) t
+    (e.passed i t (t * n.entries + n.entries) (shutter_at i (has_drained t (t * n.entries + n.entries))) seat.gate
+    refl))
 
 -- a part in the home and one that is to come are a part of the cycle
 to_come_le : (b q : Bool) (z : ℕ) → counted b (cond q 0 z) ≤ counted b z
@@ -107,15 +120,28 @@ to_come_le false q z = omega arith
 pub what_is_left_fits : WhatIsLeftFits
 what_is_left_fits n s e t h left =
     let l : Layout = layout n s in
-    let sum = sum_below_both n.entries (λ i. part_in (l.home t) (l.slot (t * n.entries + i))) (λ i. part_to_come l.cycle (l.home t) (l.slot (t * n.entries + i))) in
-    let all = over_le n t h (λ y. part_in (l.home t) (l.slot y) + part_to_come l.cycle (l.home t) (l.slot y)) (λ y. part_of_cycle l.cycle (l.slot y)) (λ y m same.
+    let sum = sum_below_both n.entries (λ i. part_in (l.home t) (l.slot (t * n.entries + i)))
+    (λ i. part_to_come l.cycle (l.home t) (l.slot (t * n.entries + i))) in
+    let all = over_le n t h (λ y. part_in (l.home t) (l.slot y) + part_to_come l.cycle (l.home t) (l.slot y))
+    (λ y. part_of_cycle l.cycle (l.slot y)) (λ y m same.
     elim (counted_cases (l.slot y).taken (l.slot y).region (l.home t) (l.slot y).size) [
       | inl c ↦ (let none : part_to_come l.cycle (l.home t) (l.slot y) ≡ 0 =
-          ap (λ q. counted ((l.slot y).taken && ((l.slot y).epoch == l.cycle)) (cond q 0 (l.slot y).size)) (eq-eqb (l.slot y).region (l.home t) c.1) ∙ counted_zero ((l.slot y).taken && ((l.slot y).epoch == l.cycle)) in
+          ap (λ q. counted ((l.slot y).taken && ((l.slot y).epoch == l.cycle)) (cond q 0 (l.slot y).size))
+          (eq-eqb (l.slot y).region (l.home t) c.1)
+          ∙ counted_zero ((l.slot y).taken && ((l.slot y).epoch == l.cycle)) in
           omega (arith, part_le n l e.copy t y m same left))
-      | inr c ↦ omega (arith, c.1, to_come_le ((l.slot y).taken && ((l.slot y).epoch == l.cycle)) ((l.slot y).region == l.home t) (l.slot y).size)
+      | inr c ↦
+          omega (
+            arith,
+            c.1,
+            to_come_le ((l.slot y).taken && ((l.slot y).epoch == l.cycle))
+                ((l.slot y).region == l.home t) (l.slot y).size,
+          )
     ]) in
-    record { exact = e.copy.exact t h left; room = (let a = e.copy.exact t h left in let b = e.copy.live t h left in omega arith) }
+    record {
+      exact = e.copy.exact t h left;
+      room = (let a = e.copy.exact t h left in let b = e.copy.live t h left in omega arith);
+    }
 
 pub used_is_made : UsedIsMade
 used_is_made n s e t h = let a = e.copy.made_in t h in let b = e.even t h in omega arith

@@ -84,27 +84,37 @@ module _ (n : Numbers) (l : Layout) (o : OneCopy n l) where
   record_within x r w h k =
       let t = belongings_in_range.entry n x h in
       elim (o.whole x h k.taken) [
-        | inl i ↦ (subst (λ q. q < regions_of n) (sym i.region ∙ k.region) (o.home_in (tablet_of_entry n x) t), omega (arith, k.high, i.below, o.within (tablet_of_entry n x) t))
-        | inr g ↦ (omega (arith, k.region, g.region, o.given_in (tablet_of_entry n x) t), omega (arith, k.high, g.below))
+        | inl i ↦ (
+          subst (λ q. q < regions_of n) (sym i.region ∙ k.region) (o.home_in (tablet_of_entry n x) t),
+          omega
+              (arith, k.high, i.below, o.within (tablet_of_entry n x) t),
+        )
+        | inr g ↦
+            (omega (arith, k.region, g.region, o.given_in (tablet_of_entry n x) t), omega (arith, k.high, g.below))
       ]
 
   -- a store past the words in use leaves the records, and what other writers see
-  module _ (W V : Place → ℕ) (t a v : ℕ) (inside : t < tablets_of n) (past : l.filled t ≤ a) (s : Sets n W V (region_word (l.home t) a) v) where
+  module _ (W V : Place → ℕ) (t a v : ℕ) (inside : t < tablets_of n) (past : l.filled t ≤ a)
+      (s : Sets n W V (region_word (l.home t) a) v) where
     pub record_stays : (x r w : ℕ) → x < entries_of n → Holds (l.slot x) r w → V (region_word r w) ≡ W (region_word r w)
     record_stays x r w h k = s.others (region_word r w) (record_within x r w h k) (λ e.
         let same_r : r ≡ l.home t = cc in
         let same_w : w ≡ a = cc in
         let below = free_above n l o x t r w h inside k same_r in omega arith)
 
-    pub ahead_stays : (u w : ℕ) → u < tablets_of n → u ≢ t → w < n.words → V (region_word (l.home u) w) ≡ W (region_word (l.home u) w)
+    pub ahead_stays : (u w : ℕ) → u < tablets_of n → u ≢ t → w < n.words →
+        V (region_word (l.home u) w) ≡ W (region_word (l.home u) w)
     ahead_stays u w h d k = s.others (region_word (l.home u) w) (o.home_in u h, k) (λ e.
         let same : l.home u ≡ l.home t = cc in d (one_home n l o u t h inside same))
 
 module _ (n : Numbers) (l m : Layout) (W V : Place → ℕ) (p : AreSame n l m) where
   -- beside a step that leaves the layout
-  pub beside_same : (f : GateFacet) (x : ℕ) → x < entries_of n → (1 ≤ writes (tablet_of_entry n x) f → V (top (tablet_of_entry n x)) ≡ W (top (tablet_of_entry n x))) →
-      (1 ≤ writes (tablet_of_entry n x) f → (w : ℕ) → l.filled (tablet_of_entry n x) ≤ w → w < n.words → V (region_word (l.home (tablet_of_entry n x)) w) ≡ W (region_word (l.home (tablet_of_entry n x)) w)) →
-      (1 ≤ writes (tablet_of_entry n x) f → (r w : ℕ) → Holds (l.slot x) r w → r ≢ l.home (tablet_of_entry n x) → V (region_word r w) ≡ W (region_word r w)) →
+  pub beside_same : (f : GateFacet) (x : ℕ) → x < entries_of n →
+      (1 ≤ writes (tablet_of_entry n x) f → V (top (tablet_of_entry n x)) ≡ W (top (tablet_of_entry n x))) →
+      (1 ≤ writes (tablet_of_entry n x) f → (w : ℕ) → l.filled (tablet_of_entry n x) ≤ w → w < n.words →
+      V (region_word (l.home (tablet_of_entry n x)) w) ≡ W (region_word (l.home (tablet_of_entry n x)) w)) →
+      (1 ≤ writes (tablet_of_entry n x) f → (r w : ℕ) → Holds (l.slot x) r w → r ≢ l.home (tablet_of_entry n x) →
+      V (region_word r w) ≡ W (region_word r w)) →
       Beside n l m W V f x
   beside_same f x h top_same ahead behind =
       let k = belongings_in_range.entry n x h in

@@ -20,10 +20,21 @@ use Rattle.mako_gate.proofs.GatesKept.{gates_kept}
 
 -- a look
 pub only_look : (n : Numbers) (W : Place → ℕ) → LeavesLayout n W W
-only_look n W = record { table = record { phase = refl; entries = λ _ _. refl; homes = λ _ _. refl; tops = λ _ _. refl; leavings = λ _ _. refl }; regions = λ _ _ _ _. refl }
+only_look n
+    W = record {
+      table = record {
+        phase = refl;
+        entries = λ _ _. refl;
+        homes = λ _ _. refl;
+        tops = λ _ _. refl;
+        leavings = λ _ _. refl;
+      };
+      regions = λ _ _ _ _. refl;
+    }
 
 -- a pause stays beside it
-pub paused_beside : (n : Numbers) (gs : List GateFacet) (i : ℕ) (g : GateFacet) → i ≢ n.mutators + n.servers → ((t : ℕ) → drained_by t g.watch ≡ 0) → Paused n gs → Paused n (set gs i g)
+pub paused_beside : (n : Numbers) (gs : List GateFacet) (i : ℕ) (g : GateFacet) → i ≢ n.mutators + n.servers →
+    ((t : ℕ) → drained_by t g.watch ≡ 0) → Paused n gs → Paused n (set gs i g)
 paused_beside n gs i g d none p = record {
   collector = p.collector;
   here = set_past gs i (n.mutators + n.servers) g p.collector (λ e. d (sym e)) p.here;
@@ -34,10 +45,14 @@ paused_beside n gs i g d none p = record {
   ];
 }
 
-module _ (n : Numbers) (s : State) (e : Evacuation n s) (i : ℕ) (f g : GateFacet) (w : Work) (at_f : slice_get s.gates i ≡ Some f) (at_w : slice_get s.works i ≡ Some w)
-    (V : Place → ℕ) (p : GateStep n s.words V i f g) (only : LeavesLayout n s.words V) (pause : (debt_of s.choice ≡ settled) ⊎ Paused n (set s.gates i g)) where
-  pub gate_kept : ((t b : ℕ) → g.watch ≡ has_drained t b → Passed n (layout n s) t b) → Knows n (layout n s) V g w → Evacuation n (record s { words = V; gates = set s.gates i g })
-  gate_kept passed own = stays_kept n s e V (set s.gates i g) s.works (e.seats ∙ sym (length-set s.gates i g)) (gates_kept n s.words V s.gates e.gates i f g at_f p)
+module _ (n : Numbers) (s : State) (e : Evacuation n s) (i : ℕ) (f g : GateFacet) (w : Work)
+    (at_f : slice_get s.gates i ≡ Some f) (at_w : slice_get s.works i ≡ Some w)
+    (V : Place → ℕ) (p : GateStep n s.words V i f g) (only : LeavesLayout n s.words V)
+    (pause : (debt_of s.choice ≡ settled) ⊎ Paused n (set s.gates i g)) where
+  pub gate_kept : ((t b : ℕ) → g.watch ≡ has_drained t b → Passed n (layout n s) t b) → Knows n (layout n s) V g w →
+      Evacuation n (record s { words = V; gates = set s.gates i g })
+  gate_kept passed own = stays_kept n s e V (set s.gates i g) s.works (e.seats ∙ sym (length-set s.gates i g))
+      (gates_kept n s.words V s.gates e.gates i f g at_f p)
       (layout_same n s.words V s.heap s.works s.works s.choice s.made only.table (λ _ _. refl) (λ _ _. refl))
       only.table.entries pause
       (λ t h. omega (arith, e.even t h, ap (top_read (debt_of s.choice) t) (only.table.tops t h)))
@@ -53,6 +68,7 @@ module _ (n : Numbers) (s : State) (e : Evacuation n s) (i : ℕ) (f g : GateFac
           k.1,
           at_v,
           (λ h _. only.table.tops (tablet_of_entry n (entry_of v)) (belongings_in_range.entry n (entry_of v) h)),
-          (λ h _ a low high. only.regions ((layout n s).home (tablet_of_entry n (entry_of v))) a (e.copy.home_in (tablet_of_entry n (entry_of v)) (belongings_in_range.entry n (entry_of v) h)) high),
+          (λ h _ a low high. only.regions ((layout n s).home (tablet_of_entry n (entry_of v))) a
+              (e.copy.home_in (tablet_of_entry n (entry_of v)) (belongings_in_range.entry n (entry_of v) h)) high),
         )
       ])

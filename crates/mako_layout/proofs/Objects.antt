@@ -32,7 +32,8 @@ use Rattle.mako_layout.proofs.Publish.{Publishes, publish_kept, region_now, offs
 use Rattle.mako_gate.specs.Standings.{GateFacet}
 use Rattle.mako_gate.specs.Changes.{Sets}
 
-module _ (n : Numbers) (shape : IsShape n) (s : State) (e : Evacuation n s) (i : ℕ) (g : GateFacet) (at_g : slice_get s.gates i ≡ Some g) where
+module _ (n : Numbers) (shape : IsShape n) (s : State) (e : Evacuation n s) (i : ℕ) (g : GateFacet)
+    (at_g : slice_get s.gates i ≡ Some g) where
   -- the record is copied whole: its entry gets the new address
   pub store_moved : (x r o : ℕ) (V : Place → ℕ) → slice_get s.works i ≡ Some (fills x r o ((layout n s).slot x).size) →
       Sets n s.words V (entry x) (entry_word (moved_entry (s.words (entry x)) (index n (region_word r o)))) →
@@ -56,7 +57,11 @@ module _ (n : Numbers) (shape : IsShape n) (s : State) (e : Evacuation n s) (i :
         writer = k.writer;
         kept = k.kept;
         sets = sets;
-        fits_word = record { address = address_fits n r o r_in (omega (arith, k.kept.offset)) shape; epoch = epoch_small (s.words (entry x)); generation = generation_small (s.words (entry x)) };
+        fits_word = record {
+          address = address_fits n r o r_in (omega (arith, k.kept.offset)) shape;
+          epoch = epoch_small (s.words (entry x));
+          generation = generation_small (s.words (entry x));
+        };
         taken = k.taken;
         epoch = k.epoch;
         address = refl;
@@ -80,12 +85,15 @@ module _ (n : Numbers) (shape : IsShape n) (s : State) (e : Evacuation n s) (i :
         region = region_now n s e i g w at_g at V s.heap s.made u E x r o z p;
         home = k.kept.region ∙ sym (home_same n s e i g w at_g at V s.heap s.made u E x r o z p t t_in);
         offset = offset_now n s e i g w at_g at V s.heap s.made u E x r o z p;
-        top = sets.others (top t) t_in (λ c. cc) ∙ sym (filled_is n s e i g at_g w at t t_in k.writer refl refl) ∙ sym k.kept.offset;
-        left = λ none. away n l e.copy x k.inside k.taken k.epoch out (sym (sets.others (leaving t) t_in (λ c. cc)) ∙ none);
+        top = sets.others (top t) t_in (λ c. cc) ∙ sym (filled_is n s e i g at_g w at t t_in k.writer refl refl)
+            ∙ sym k.kept.offset;
+        left = λ none. away n l e.copy x k.inside k.taken k.epoch out
+            (sym (sets.others (leaving t) t_in (λ c. cc)) ∙ none);
       })
 
   -- the entry of a new object of nulls is stored, which the heap has from then on
-  pub store_new : (name : Name) (r o z : ℕ) (V : Place → ℕ) (h : Heap) (d : ℕ → ℕ) → slice_get s.works i ≡ Some (counts name r o z) → (layout n s).cycle < 2 ^ 20 →
+  pub store_new : (name : Name) (r o z : ℕ) (V : Place → ℕ) (h : Heap) (d : ℕ → ℕ) →
+      slice_get s.works i ≡ Some (counts name r o z) → (layout n s).cycle < 2 ^ 20 →
       Sets n s.words V (entry name.entry) (entry_word (new_entry name (layout n s).cycle (index n (region_word r o)))) →
       fields_of h name ≡ Some (replicate (z - 1) Null) →
       ((other : Name) → other.entry ≢ name.entry → fields_of h other ≡ fields_of s.heap other) →
@@ -106,7 +114,11 @@ module _ (n : Numbers) (shape : IsShape n) (s : State) (e : Evacuation n s) (i :
         writer = omega (arith, k.turn);
         kept = k.kept;
         sets = sets;
-        fits_word = record { address = address_fits n r o r_in (omega (arith, k.fits, k.some)) shape; epoch = small; generation = subst (λ q. q < 2 ^ 20) k.generation (generation_small (s.words (entry name.entry))) };
+        fits_word = record {
+          address = address_fits n r o r_in (omega (arith, k.fits, k.some)) shape;
+          epoch = small;
+          generation = subst (λ q. q < 2 ^ 20) k.generation (generation_small (s.words (entry name.entry)));
+        };
         taken = refl;
         epoch = refl;
         address = refl;
@@ -130,16 +142,22 @@ field_words : (fields : List Value) (j : ℕ) (v : Value) (b : ℕ) → j < leng
     get_or (record_words (set fields j v)) b 0 ≡ get_or (record_words fields) b 0
 field_words fields j v zero less d = length-set fields j v
 field_words fields j v (suc b) less d =
-    (λ q. get_or (map-set value_word fields j v q) b 0) ∙ get_or-set_other (map value_word fields) j b (value_word v) 0 (λ c. d (let same : b ≡ j = c in omega arith))
+    (λ q. get_or (map-set value_word fields j v q) b 0) ∙ get_or-set_other (map value_word fields) j b (value_word v)
+    0 (λ c. d (let same : b ≡ j = c in omega arith))
 
-field_word : (fields : List Value) (j : ℕ) (v : Value) → j < length fields → get_or (map value_word (set fields j v)) j 0 ≡ value_word v
+field_word : (fields : List Value) (j : ℕ) (v : Value) → j < length fields →
+    get_or (map value_word (set fields j v)) j 0 ≡ value_word v
 field_word fields j v less =
-    (λ q. get_or (map-set value_word fields j v q) j 0) ∙ get_or-set_same (map value_word fields) j (value_word v) 0 (let a = length-map fields value_word in omega arith)
+    (λ q. get_or (map-set value_word fields j v q) j 0) ∙ get_or-set_same (map value_word fields) j (value_word v) 0
+    (let a = length-map fields value_word in omega arith)
 
-module _ (n : Numbers) (s : State) (e : Evacuation n s) (i : ℕ) (g : GateFacet) (at_g : slice_get s.gates i ≡ Some g) (x r o j : ℕ) (v : Value) (V : Place → ℕ) (h : Heap)
-    (at : slice_get s.works i ≡ Some (uses x r o)) (fields : List Value) (were : fields_of s.heap (name_of x (s.words (entry x))) ≡ Some fields) (less : j < length fields)
+module _ (n : Numbers) (s : State) (e : Evacuation n s) (i : ℕ) (g : GateFacet) (at_g : slice_get s.gates i ≡ Some g)
+    (x r o j : ℕ) (v : Value) (V : Place → ℕ) (h : Heap)
+    (at : slice_get s.works i ≡ Some (uses x r o)) (fields : List Value)
+    (were : fields_of s.heap (name_of x (s.words (entry x))) ≡ Some fields) (less : j < length fields)
     (sets : Sets n s.words V (region_word r (o + (1 + j))) (value_word v))
-    (are : fields_of h (name_of x (s.words (entry x))) ≡ Some (set fields j v)) (others : (name : Name) → name.entry ≢ x → fields_of h name ≡ fields_of s.heap name) where
+    (are : fields_of h (name_of x (s.words (entry x))) ≡ Some (set fields j v))
+    (others : (name : Name) → name.entry ≢ x → fields_of h name ≡ fields_of s.heap name) where
   abbrev l : Layout
   l = layout n s
 
@@ -149,7 +167,8 @@ module _ (n : Numbers) (s : State) (e : Evacuation n s) (i : ℕ) (g : GateFacet
   size_same : (y : ℕ) → y < entries_of n → (slot_of n h y (s.words (entry y))).size ≡ (l.slot y).size
   size_same y m = elim (cases_eq y x) [
     | inl c ↦ subst (λ q. (slot_of n h q (s.words (entry q))).size ≡ (l.slot q).size) (sym c)
-        ((λ q. length (unwrap_or (are q) []) + 1) ∙ (let a = length-set fields j v in omega arith) ∙ (λ q. length (unwrap_or (sym were q) []) + 1))
+        ((λ q. length (unwrap_or (are q) []) + 1) ∙ (let a = length-set fields j v in omega arith)
+        ∙ (λ q. length (unwrap_or (sym were q) []) + 1))
     | inr d ↦ (λ q. length (unwrap_or (others (name_of y (s.words (entry y))) d q) []) + 1)
   ]
 
@@ -183,22 +202,35 @@ module _ (n : Numbers) (s : State) (e : Evacuation n s) (i : ℕ) (g : GateFacet
   -- the word is one of the record's, and of no other
   holds_it : Holds (l.slot x) r (o + (1 + j))
   holds_it =
-      record { taken = k.taken; region = k.region; low = omega (arith, k.offset); high = omega (arith, k.offset, size_x) }
+      record {
+        taken = k.taken;
+        region = k.region;
+        low = omega (arith, k.offset);
+        high = omega (arith, k.offset, size_x);
+      }
 
   pub below : o + (1 + j) < l.filled (tablet_of_entry n x)
   below =
-      let b = record_in_home n l e.copy x (tablet_of_entry n x) k.inside (belongings_in_range.entry n x k.inside) k.taken (k.region ∙ k.home) in
+      let b = record_in_home n l e.copy x (tablet_of_entry n x) k.inside (belongings_in_range.entry n x k.inside)
+      k.taken (k.region ∙ k.home) in
       omega (arith, b.1, holds_it.high)
 
-  other_word : (a b : ℕ) → a < regions_of n → b < n.words → (a ≡ r → b ≢ o + (1 + j)) → V (region_word a b) ≡ s.words (region_word a b)
-  other_word a b p q d = sets.others (region_word a b) (p, q) (λ c. let c1 : a ≡ r = cc in let c2 : b ≡ o + (1 + j) = cc in d c1 c2)
+  other_word : (a b : ℕ) → a < regions_of n → b < n.words → (a ≡ r → b ≢ o + (1 + j)) →
+      V (region_word a b) ≡ s.words (region_word a b)
+  other_word a b p q d = sets.others (region_word a b) (p, q) (λ c. let c1 : a ≡ r = cc in
+      let c2 : b ≡ o + (1 + j) = cc in d c1 c2)
 
-  other_record : (y a b : ℕ) → y < entries_of n → y ≢ x → Holds (l.slot y) a b → V (region_word a b) ≡ s.words (region_word a b)
+  other_record : (y a b : ℕ) → y < entries_of n → y ≢ x → Holds (l.slot y) a b →
+      V (region_word a b) ≡ s.words (region_word a b)
   other_record y a b m d holds =
       let w = record_within n l e.copy y a b m holds in
-      other_word a b w.0 w.1 (λ ca cb. d (e.copy.one y x r (o + (1 + j)) m k.inside (subst (λ q. Holds (l.slot y) r q) cb (subst (λ q. Holds (l.slot y) q b) ca holds)) holds_it))
+      other_word a b w.0 w.1
+      (λ ca cb. d
+      (e.copy.one y x r (o + (1 + j)) m k.inside
+      (subst (λ q. Holds (l.slot y) r q) cb (subst (λ q. Holds (l.slot y) q b) ca holds)) holds_it))
 
-  record_after : (y : ℕ) → y < entries_of n → (slot_of n h y (V (entry y))).taken ≡ true → IsRecordOf n V h y (slot_of n h y (V (entry y)))
+  record_after : (y : ℕ) → y < entries_of n → (slot_of n h y (V (entry y))).taken ≡ true →
+      IsRecordOf n V h y (slot_of n h y (V (entry y)))
   record_after y m taken =
       let es = table.entries y m in
       let was : (l.slot y).taken ≡ true = ap (λ q. (entry_at q).taken) (sym es) ∙ taken in
@@ -206,21 +238,34 @@ module _ (n : Numbers) (s : State) (e : Evacuation n s) (i : ℕ) (g : GateFacet
       let long = size_is n s.words s.heap y c in
       elim (cases_eq y x) [
         | inl cx ↦ (
-            let cf : c.fields ≡ fields = same_Some c.fields fields (sym c.are ∙ (λ q. fields_of s.heap (name_of (cx q) (s.words (entry (cx q))))) ∙ were) in
+            let cf : c.fields ≡ fields = same_Some c.fields fields
+            (sym c.are ∙ (λ q. fields_of s.heap (name_of (cx q) (s.words (entry (cx q))))) ∙ were) in
             let at_r : (l.slot y).region ≡ r = ap (λ q. (l.slot q).region) cx ∙ k.region in
             let at_o : (l.slot y).offset ≡ o = ap (λ q. (l.slot q).offset) cx ∙ k.offset in
             record {
               fields = set fields j v;
-              are = ap (λ q. fields_of h (name_of y q)) es ∙ (λ q. fields_of h (name_of (cx q) (s.words (entry (cx q))))) ∙ are;
-              address = (λ q. index n (region_word (slot_of n h y (es q)).region (slot_of n h y (es q)).offset)) ∙ c.address ∙ ap (λ q. (entry_at q).address) (sym es);
+              are = ap (λ q. fields_of h (name_of y q)) es
+                  ∙ (λ q. fields_of h (name_of (cx q) (s.words (entry (cx q))))) ∙ are;
+              address = (λ q. index n (region_word (slot_of n h y (es q)).region (slot_of n h y (es q)).offset))
+                  ∙ c.address ∙ ap (λ q. (entry_at q).address) (sym es);
               words = λ b small.
                   let inside : b < length fields + 1 = (let a = length-set fields j v in omega arith) in
                   let place : region_word (slot_of n h y (V (entry y))).region ((slot_of n h y (V (entry y))).offset + b) ≡ region_word r (o + b) =
-                  (λ q. region_word (slot_of n h y (es q)).region ((slot_of n h y (es q)).offset + b)) ∙ (λ q. region_word (at_r q) (at_o q + b)) in
+                  (λ q. region_word (slot_of n h y (es q)).region ((slot_of n h y (es q)).offset + b))
+                  ∙ (λ q. region_word (at_r q) (at_o q + b)) in
                   ap V place ∙ elim (cases_eq b (1 + j)) [
-                    | inl hit ↦ subst (λ q. V (region_word r (o + q)) ≡ get_or (record_words (set fields j v)) q 0) (sym hit)
-                        (subst (λ q. V (region_word r (o + (1 + j))) ≡ get_or (record_words (set fields j v)) q 0) (let a : suc j ≡ 1 + j = omega arith in a) (sets.here ∙ sym (field_word fields j v less)))
-                    | inr miss ↦ (let w = record_within n l e.copy x r (o + b) k.inside (record { taken = k.taken; region = k.region; low = omega (arith, k.offset); high = omega (arith, k.offset, size_x) }) in
+                    | inl hit ↦ subst (λ q. V (region_word r (o + q)) ≡ get_or (record_words (set fields j v)) q 0)
+                        (sym hit)
+                        (subst (λ q. V (region_word r (o + (1 + j))) ≡ get_or (record_words (set fields j v)) q 0)
+                        (let a : suc j ≡ 1 + j = omega arith in a) (sets.here ∙ sym (field_word fields j v less)))
+                    | inr miss ↦
+                        (let w = record_within n l e.copy x r (o + b) k.inside
+                        (record {
+                          taken = k.taken;
+                          region = k.region;
+                          low = omega (arith, k.offset);
+                          high = omega (arith, k.offset, size_x);
+                        }) in
                         other_word r (o + b) w.0 w.1 (λ _ c2. let m2 : b ≢ 1 + j = miss in omega arith)
                         ∙ (λ q. s.words (region_word (sym at_r q) (sym at_o q + b)))
                         ∙ c.words b (let lc = ap length cf in omega arith)
@@ -231,17 +276,20 @@ module _ (n : Numbers) (s : State) (e : Evacuation n s) (i : ℕ) (g : GateFacet
         | inr d ↦ record {
           fields = c.fields;
           are = ap (λ q. fields_of h (name_of y q)) es ∙ others (name_of y (s.words (entry y))) d ∙ c.are;
-          address = (λ q. index n (region_word (slot_of n h y (es q)).region (slot_of n h y (es q)).offset)) ∙ c.address ∙ ap (λ q. (entry_at q).address) (sym es);
+          address = (λ q. index n (region_word (slot_of n h y (es q)).region (slot_of n h y (es q)).offset))
+              ∙ c.address ∙ ap (λ q. (entry_at q).address) (sym es);
           words = λ b small.
               (λ q. V (region_word (slot_of n h y (es q)).region ((slot_of n h y (es q)).offset + b)))
-              ∙ other_record y (l.slot y).region ((l.slot y).offset + b) m d (record { taken = was; region = refl; low = omega arith; high = omega (arith, long) })
+              ∙ other_record y (l.slot y).region ((l.slot y).offset + b) m d
+              (record { taken = was; region = refl; low = omega arith; high = omega (arith, long) })
               ∙ c.words b small;
         }
       ]
 
   -- a field of the record in the home is stored
   pub store_field : Evacuation n (record s { words = V; heap = h })
-  store_field = frame_kept n s e V h s.gates s.works e.seats (gates_frame n s.words V s.gates (leaves_gates n s.words V _ _ sets tt) e.gates) same e.pause
+  store_field = frame_kept n s e V h s.gates s.works e.seats
+      (gates_frame n s.words V s.gates (leaves_gates n s.words V _ _ sets tt) e.gates) same e.pause
       (λ t m. omega (arith, e.even t m, ap (λ q. top_read (debt_of s.choice) t q) (table.tops t m)))
       record_after
       e.passed
@@ -254,10 +302,13 @@ module _ (n : Numbers) (s : State) (e : Evacuation n s) (i : ℕ) (g : GateFacet
             let t_in = belongings_in_range.entry n y m in
             beside_same n l (layout_of n V h s.works s.choice s.made) s.words V same f y m (λ _. table.tops t t_in)
             (λ _ a low high. other_word (l.home t) a (e.copy.home_in t t_in) high (λ c1 c2.
-            let one : t ≡ tablet_of_entry n x = one_home n l e.copy t (tablet_of_entry n x) t_in (belongings_in_range.entry n x k.inside) (c1 ∙ k.home) in
+            let one : t ≡ tablet_of_entry n x = one_home n l e.copy t (tablet_of_entry n x) t_in
+            (belongings_in_range.entry n x k.inside) (c1 ∙ k.home) in
             let b : o + (1 + j) < l.filled t = subst (λ c. o + (1 + j) < l.filled c) (sym one) below in omega arith))
             (λ _ a b holds out. elim (cases_eq y x) [
-              | inl c ↦ absurd (out (sym holds.region ∙ ap (λ z. (l.slot z).region) c ∙ k.region ∙ k.home ∙ ap (λ z. l.home (tablet_of_entry n z)) (sym c)))
+              | inl c ↦
+                  absurd (out (sym holds.region ∙ ap (λ z. (l.slot z).region) c ∙ k.region ∙ k.home
+                  ∙ ap (λ z. l.home (tablet_of_entry n z)) (sym c)))
               | inr d ↦ other_record y a b m d holds
             ])),
       ))

@@ -35,7 +35,8 @@ use Rattle.mako_gate.proofs.Numbers.{count_at, count_off}
 use Rattle.mako_gate.proofs.GatesTell.{gates_tell}
 
 -- what the store of the entry asks
-pub record Publishes (n : Numbers) (s : State) (V : Place → ℕ) (h : Heap) (d : ℕ → ℕ) (g : GateFacet) (w u : Work) (entry_is : EntryWord) (x r o z : ℕ) : Type 0 where
+pub record Publishes (n : Numbers) (s : State) (V : Place → ℕ) (h : Heap) (d : ℕ → ℕ) (g : GateFacet) (w u : Work)
+    (entry_is : EntryWord) (x r o z : ℕ) : Type 0 where
   pub inside : x < entries_of n
   pub writer : 1 ≤ writes (tablet_of_entry n x) g
   pub kept : Kept n (layout n s) x r o
@@ -48,18 +49,25 @@ pub record Publishes (n : Numbers) (s : State) (V : Place → ℕ) (h : Heap) (d
   pub some : 1 ≤ z
   pub fits : o + z ≤ n.words
   pub out : ((layout n s).slot x).taken ≡ true → ((layout n s).slot x).region ≢ (layout n s).home (tablet_of_entry n x)
-  pub was : (layout n s).leaving (tablet_of_entry n x) ≢ 0 → (((layout n s).slot x).taken ≡ true) × (((layout n s).slot x).epoch ≡ (layout n s).cycle) × (((layout n s).slot x).size ≡ z)
+  pub was : (layout n s).leaving (tablet_of_entry n x) ≢ 0 →
+      (((layout n s).slot x).taken ≡ true) × (((layout n s).slot x).epoch ≡ (layout n s).cycle) ×
+      (((layout n s).slot x).size ≡ z)
   pub origin : ((((layout n s).slot x).taken ≡ false) × (s.made (tablet_of_entry n x) + z ≤ d (tablet_of_entry n x)))
-      ⊎ ((((layout n s).slot x).taken ≡ true) × (((layout n s).slot x).size ≡ z) × ((layout n s).leaving (tablet_of_entry n x) ≢ 0))
+      ⊎ ((((layout n s).slot x).taken ≡ true) × (((layout n s).slot x).size ≡ z) ×
+      ((layout n s).leaving (tablet_of_entry n x) ≢ 0))
   pub made : (q : ℕ) → s.made q ≤ d q
-  pub owes : (q : ℕ) → to_raise n q u + counted_in n q w ≡ to_raise n q w + counted_in n q u + counted (tablet_of_entry n x == q) z
-  pub others : (y : ℕ) → y < entries_of n → y ≢ x → fields_of h (name_of y (s.words (entry y))) ≡ fields_of s.heap (name_of y (s.words (entry y)))
+  pub owes : (q : ℕ) → to_raise n q u + counted_in n q w ≡ to_raise n q w + counted_in n q u + counted
+      (tablet_of_entry n x == q) z
+  pub others : (y : ℕ) → y < entries_of n → y ≢ x → fields_of h (name_of y (s.words (entry y))) ≡ fields_of s.heap
+      (name_of y (s.words (entry y)))
   pub fields : List Value
   pub fields_are : fields_of h (record { entry = x; generation = entry_is.generation }) ≡ Some fields
   pub words : Stand s.words r o (length fields + 1) (λ b. get_or (record_words fields) b 0)
 
-module _ (n : Numbers) (s : State) (e : Evacuation n s) (i : ℕ) (g : GateFacet) (w : Work) (at_g : slice_get s.gates i ≡ Some g) (at_w : slice_get s.works i ≡ Some w)
-    (V : Place → ℕ) (h : Heap) (d : ℕ → ℕ) (u : Work) (E : EntryWord) (x r o z : ℕ) (p : Publishes n s V h d g w u E x r o z) where
+module _ (n : Numbers) (s : State) (e : Evacuation n s) (i : ℕ) (g : GateFacet) (w : Work)
+    (at_g : slice_get s.gates i ≡ Some g) (at_w : slice_get s.works i ≡ Some w)
+    (V : Place → ℕ) (h : Heap) (d : ℕ → ℕ) (u : Work) (E : EntryWord) (x r o z : ℕ)
+    (p : Publishes n s V h d g w u E x r o z) where
   abbrev at : ℕ
   at = tablet_of_entry n x
 
@@ -79,10 +87,12 @@ module _ (n : Numbers) (s : State) (e : Evacuation n s) (i : ℕ) (g : GateFacet
   slot_now = slot_stored n h x (V (entry x)) E p.fits_word p.sets.here
 
   pub region_now : (m.slot x).region ≡ r
-  region_now = ap (λ (q : Slot). q.region) slot_now ∙ ap (region_of_address n) p.address ∙ region_of_place n r o region_in (omega (arith, p.fits, p.some))
+  region_now = ap (λ (q : Slot). q.region) slot_now ∙ ap (region_of_address n) p.address
+      ∙ region_of_place n r o region_in (omega (arith, p.fits, p.some))
 
   pub offset_now : (m.slot x).offset ≡ o
-  offset_now = ap (λ (q : Slot). q.offset) slot_now ∙ ap (word_of_address n) p.address ∙ word_of_place n r o region_in (omega (arith, p.fits, p.some))
+  offset_now = ap (λ (q : Slot). q.offset) slot_now ∙ ap (word_of_address n) p.address ∙ word_of_place n r o region_in
+      (omega (arith, p.fits, p.some))
 
   pub taken_now : (m.slot x).taken ≡ true
   taken_now = ap (λ (q : Slot). q.taken) slot_now ∙ p.taken
@@ -118,14 +128,32 @@ module _ (n : Numbers) (s : State) (e : Evacuation n s) (i : ℕ) (g : GateFacet
   word_same : (a b : ℕ) → a < regions_of n → b < n.words → V (region_word a b) ≡ s.words (region_word a b)
   word_same a b j k = p.sets.others (region_word a b) (j, k) (λ c. cc)
 
-  record_word_same : (y a b : ℕ) → y < entries_of n → Holds (l.slot y) a b → V (region_word a b) ≡ s.words (region_word a b)
+  record_word_same : (y a b : ℕ) → y < entries_of n → Holds (l.slot y) a b →
+      V (region_word a b) ≡ s.words (region_word a b)
   record_word_same y a b k holds = let q = record_within n l e.copy y a b k holds in word_same a b q.0 q.1
 
   filled_after : (t : ℕ) → t < tablets_of n → m.filled t ≡ l.filled t + counted (at == t) z
-  filled_after t k = omega (arith, sum_at (to_raise n t) s.works i w u at_w, sum_at (counted_in n t) s.works i w u at_w, p.owes t, e.even t k, ap (top_read (debt_of s.choice) t) (top_same t k))
+  filled_after t k = omega (
+    arith,
+    sum_at (to_raise n t) s.works i w u at_w,
+    sum_at (counted_in n t) s.works i w u at_w,
+    p.owes t,
+    e.even t
+        k,
+    ap (top_read (debt_of s.choice) t) (top_same t k),
+  )
 
-  even_after : (t : ℕ) → t < tablets_of n → sum_by (counted_in n t) (set s.works i u) ≤ top_read (debt_of s.choice) t (V (top t)) + sum_by (to_raise n t) (set s.works i u)
-  even_after t k = omega (arith, sum_at (to_raise n t) s.works i w u at_w, sum_at (counted_in n t) s.works i w u at_w, p.owes t, e.even t k, ap (top_read (debt_of s.choice) t) (top_same t k))
+  even_after : (t : ℕ) → t < tablets_of n → sum_by (counted_in n t) (set s.works i u) ≤ top_read (debt_of s.choice) t
+      (V (top t)) + sum_by (to_raise n t) (set s.works i u)
+  even_after t k = omega (
+    arith,
+    sum_at (to_raise n t) s.works i w u at_w,
+    sum_at (counted_in n t) s.works i w u at_w,
+    p.owes t,
+    e.even t
+        k,
+    ap (top_read (debt_of s.choice) t) (top_same t k),
+  )
 
   filled_other : (t : ℕ) → t < tablets_of n → t ≢ at → m.filled t ≡ l.filled t
   filled_other t k ne = omega (arith, filled_after t k, count_off at t z (λ c. ne (sym c)))
@@ -140,7 +168,8 @@ module _ (n : Numbers) (s : State) (e : Evacuation n s) (i : ℕ) (g : GateFacet
     fits = omega (arith, p.kept.offset, p.fits, size_now);
     out = p.out;
     was = λ left. let c = p.was left in (c.0, c.1, c.2 ∙ sym size_now);
-    origin = ⊎_elim (λ c. inl (c.0, (let a = c.1 in omega (arith, size_now)))) (λ c. inr (c.0, c.1 ∙ sym size_now, c.2)) p.origin;
+    origin = ⊎_elim (λ c. inl (c.0, (let a = c.1 in omega (arith, size_now))))
+        (λ c. inr (c.0, c.1 ∙ sym size_now, c.2)) p.origin;
     made = λ q _. p.made q;
     others = slot_same;
     raised = omega (arith, filled_after at at_in, count_at at at z (λ _. at), size_now);
@@ -160,7 +189,8 @@ module _ (n : Numbers) (s : State) (e : Evacuation n s) (i : ℕ) (g : GateFacet
   }
 
   copy_after : OneCopy n m
-  copy_after = same_kept n (record l { slot = m.slot; filled = m.filled; made = d }) (put_kept n l e.copy m.slot m.filled d x puts) m same_copy
+  copy_after = same_kept n (record l { slot = m.slot; filled = m.filled; made = d })
+      (put_kept n l e.copy m.slot m.filled d x puts) m same_copy
 
   -- the new record
   record_now : IsRecordOf n V h x (m.slot x)
@@ -169,9 +199,11 @@ module _ (n : Numbers) (s : State) (e : Evacuation n s) (i : ℕ) (g : GateFacet
       record {
         fields = p.fields;
         are = (λ q. fields_of h (record { entry = x; generation = (decoded q).generation })) ∙ p.fields_are;
-        address = (λ q. index n (region_word (region_now q) (offset_now q))) ∙ sym p.address ∙ ap (λ (q : EntryWord). q.address) (sym decoded);
+        address = (λ q. index n (region_word (region_now q) (offset_now q))) ∙ sym p.address
+            ∙ ap (λ (q : EntryWord). q.address) (sym decoded);
         words = λ b less. (λ q. V (region_word (region_now q) (offset_now q + b)))
-            ∙ word_same r (o + b) region_in (let a = ap (λ q. length (unwrap_or q []) + 1) p.fields_are in omega (arith, p.fits, p.size))
+            ∙ word_same r (o + b) region_in (let a = ap (λ q. length (unwrap_or q []) + 1) p.fields_are in
+            omega (arith, p.fits, p.size))
             ∙ p.words b less;
       }
 
@@ -184,14 +216,22 @@ module _ (n : Numbers) (s : State) (e : Evacuation n s) (i : ℕ) (g : GateFacet
       record {
         fields = c.fields;
         are = ap (λ q. fields_of h (name_of y q)) (entry_same y k ne) ∙ p.others y k ne ∙ c.are;
-        address = (λ q. index n (region_word (same q).region (same q).offset)) ∙ c.address ∙ ap (λ q. (entry_at q).address) (sym (entry_same y k ne));
+        address = (λ q. index n (region_word (same q).region (same q).offset)) ∙ c.address
+            ∙ ap (λ q. (entry_at q).address) (sym (entry_same y k ne));
         words = λ b less. (λ q. V (region_word (same q).region ((same q).offset + b)))
-            ∙ record_word_same y (l.slot y).region ((l.slot y).offset + b) k (record { taken = was; region = refl; low = omega arith; high = omega (arith, size_is n s.words s.heap y c) })
+            ∙ record_word_same y (l.slot y).region ((l.slot y).offset + b) k
+            (record {
+              taken = was;
+              region = refl;
+              low = omega arith;
+              high = omega (arith, size_is n s.words s.heap y c);
+            })
             ∙ c.words b less;
       }
 
   -- beside the writer
-  beside_after : (j : ℕ) (f : GateFacet) (y : ℕ) → j ≢ i → slice_get s.gates j ≡ Some f → y < entries_of n → Beside n l m s.words V f y
+  beside_after : (j : ℕ) (f : GateFacet) (y : ℕ) → j ≢ i → slice_get s.gates j ≡ Some f → y < entries_of n →
+      Beside n l m s.words V f y
   beside_after j f y other at_f k =
       let t : ℕ = tablet_of_entry n y in
       let t_in = belongings_in_range.entry n y k in
@@ -200,9 +240,15 @@ module _ (n : Numbers) (s : State) (e : Evacuation n s) (i : ℕ) (g : GateFacet
           cycle = cycle_same;
           home = home_same t t_in;
           taken = λ _. subst (λ q. (m.slot q).taken ≡ true) (sym same) taken_now;
-          region = λ taken here. absurd (subst (λ q. (l.slot q).taken ≡ true → (l.slot q).region ≡ l.home (tablet_of_entry n q) → ⊥) (sym same) p.out taken here);
-          offset = λ taken here. absurd (subst (λ q. (l.slot q).taken ≡ true → (l.slot q).region ≡ l.home (tablet_of_entry n q) → ⊥) (sym same) p.out taken here);
-          writer = λ writing. absurd (let c = (gates_tell n s.words s.gates e.gates).writers.one at i j g f at_in (λ q. other (sym q)) at_g at_f p.writer in
+          region = λ taken here. absurd
+              (subst (λ q. (l.slot q).taken ≡ true → (l.slot q).region ≡ l.home (tablet_of_entry n q) → ⊥)
+              (sym same) p.out taken here);
+          offset = λ taken here. absurd
+              (subst (λ q. (l.slot q).taken ≡ true → (l.slot q).region ≡ l.home (tablet_of_entry n q) → ⊥)
+              (sym same) p.out taken here);
+          writer = λ writing. absurd
+              (let c = (gates_tell n s.words s.gates e.gates).writers.one at i j g f at_in (λ q. other (sym q)) at_g
+              at_f p.writer in
               let b : 1 ≤ writes at f = subst (λ q. 1 ≤ writes (tablet_of_entry n q) f) same writing in omega arith);
         }
         | inr ne ↦ record {
@@ -212,7 +258,9 @@ module _ (n : Numbers) (s : State) (e : Evacuation n s) (i : ℕ) (g : GateFacet
           region = λ _ _. ap (λ (q : Slot). q.region) (slot_same y k ne);
           offset = λ _ _. ap (λ (q : Slot). q.offset) (slot_same y k ne);
           writer = λ writing.
-              let elsewhere : t ≢ at = λ c. (let a = (gates_tell n s.words s.gates e.gates).writers.one at i j g f at_in (λ q. other (sym q)) at_g at_f p.writer in
+              let elsewhere : t ≢ at = λ c.
+              (let a = (gates_tell n s.words s.gates e.gates).writers.one at i j g f at_in (λ q. other (sym q))
+              at_g at_f p.writer in
               let b : 1 ≤ writes at f = subst (λ q. 1 ≤ writes q f) c writing in omega arith) in
               record {
                 quiet = record {
@@ -227,7 +275,8 @@ module _ (n : Numbers) (s : State) (e : Evacuation n s) (i : ℕ) (g : GateFacet
         }
       ]
 
-  pub publish_kept : Knows n m V g u → Evacuation n (record s { words = V; heap = h; works = set s.works i u; made = d })
+  pub publish_kept : Knows n m V g u →
+      Evacuation n (record s { words = V; heap = h; works = set s.works i u; made = d })
   publish_kept own = record {
     seats = length-set s.works i u ∙ e.seats;
     gates = gates_frame n s.words V s.gates (leaves_gates n s.words V _ _ p.sets tt) e.gates;
@@ -238,10 +287,12 @@ module _ (n : Numbers) (s : State) (e : Evacuation n s) (i : ℕ) (g : GateFacet
       | inl same ↦ subst (λ q. IsRecordOf n V h q (m.slot q)) (sym same) record_now
       | inr ne ↦ record_then y k ne taken
     ];
-    passed = λ j t b f at is. passed_same n (record l { slot = m.slot; filled = m.filled; made = d }) m t b same_copy (passed_puts n l m.slot m.filled d x puts t b (e.passed j t b f at is));
+    passed = λ j t b f at is. passed_same n (record l { slot = m.slot; filled = m.filled; made = d }) m t b same_copy
+        (passed_puts n l m.slot m.filled d x puts t b (e.passed j t b f at is));
     knows = λ j f v at_f at_v. elim (at_set s.works i j u v at_v) [
       | inl c ↦ (let same_g : g ≡ f = same_Some g f (sym at_g ∙ ap (slice_get s.gates) (sym c.0) ∙ at_f) in
           subst (λ q. Knows n m V q v) same_g (subst (λ q. Knows n m V g q) c.1 own))
-      | inr past ↦ knows_kept n l m e.copy s.words V f v (λ k _. beside_after j f (entry_of v) past.0 at_f k) (e.knows j f v at_f past.1)
+      | inr past ↦ knows_kept n l m e.copy s.words V f v (λ k _. beside_after j f (entry_of v) past.0 at_f k)
+          (e.knows j f v at_f past.1)
     ];
   }

@@ -27,15 +27,20 @@ module _ (n : Numbers) (l : Layout) (o : OneCopy n l) (s : ℕ → Slot) (f d : 
   at_in = belongings_in_range.entry n x p.inside
 
   rises : (u : ℕ) → u < tablets_of n → l.filled u ≤ f u
-  rises u k = ⊎_elim (λ e. subst (λ v. l.filled v ≤ f v) (sym e) (omega (arith, p.raised))) (λ (d : u ≡ at → ⊥). omega (arith, p.filled u k d)) (cases_eq u at)
+  rises u k = ⊎_elim (λ e. subst (λ v. l.filled v ≤ f v) (sym e) (omega (arith, p.raised)))
+      (λ (d : u ≡ at → ⊥). omega (arith, p.filled u k d)) (cases_eq u at)
 
   -- the words in the homes, after
   home_after : (u : ℕ) → u < tablets_of n →
-      ((u ≡ at) × (home_words n after u ≡ home_words n l u + (s x).size) × (f u ≡ l.filled u + (s x).size) × (f u ≤ n.words))
+      ((u ≡ at) × (home_words n after u ≡ home_words n l u + (s x).size) × (f u ≡ l.filled u + (s x).size) ×
+      (f u ≤ n.words))
       ⊎ ((u ≢ at) × (home_words n after u ≡ home_words n l u) × (f u ≡ l.filled u))
   home_after u k = elim (cases_eq u at) [
-    | inl e ↦ inl (let P : ℕ → Type 0 = λ v. (v ≡ at) × (home_words n after v ≡ home_words n l v + (s x).size) × (f v ≡ l.filled v + (s x).size) × (f v ≤ n.words) in
-        let one = over_one n at at_in (λ y. part_in (l.home at) (l.slot y)) (λ y. part_in (l.home at) (s y)) x p.inside (λ i. at)
+    | inl e ↦
+        inl (let P : ℕ → Type 0 = λ v. (v ≡ at) × (home_words n after v ≡ home_words n l v + (s x).size) ×
+        (f v ≡ l.filled v + (s x).size) × (f v ≤ n.words) in
+        let one = over_one n at at_in (λ y. part_in (l.home at) (l.slot y)) (λ y. part_in (l.home at) (s y)) x
+        p.inside (λ i. at)
         (λ y m d. ap (part_in (l.home at)) (sym (p.others y m d))) in
         let nothing = counted_not (l.slot x).taken (l.slot x).region (l.home at) (l.slot x).size p.out in
         let all = counted_is (s x).taken (s x).region (l.home at) (s x).size p.taken p.region in
@@ -49,13 +54,14 @@ module _ (n : Numbers) (l : Layout) (o : OneCopy n l) (s : ℕ → Slot) (f d : 
   ]
 
   live_after : (u : ℕ) → u < tablets_of n → l.leaving u ≢ 0 → cycle_words n after u ≡ cycle_words n l u
-  live_after u k left = over_same n u k (λ y. part_of_cycle l.cycle (s y)) (λ y. part_of_cycle l.cycle (l.slot y)) (λ y m e. elim (cases_eq y x) [
-    | inl c ↦ (let was = p.was (subst (λ v. l.leaving v ≢ 0) (sym e ∙ ap (tablet_of_entry n) c) left) in
-        let a = counted_is (s x).taken (s x).epoch l.cycle (s x).size p.taken p.epoch in
-        let b = counted_is (l.slot x).taken (l.slot x).epoch l.cycle (l.slot x).size was.0 was.1 in
-        subst (λ v. part_of_cycle l.cycle (s v) ≡ part_of_cycle l.cycle (l.slot v)) (sym c) (omega (arith, was.2)))
-    | inr d ↦ ap (part_of_cycle l.cycle) (p.others y m d)
-  ])
+  live_after u k left = over_same n u k (λ y. part_of_cycle l.cycle (s y)) (λ y. part_of_cycle l.cycle (l.slot y))
+      (λ y m e. elim (cases_eq y x) [
+        | inl c ↦ (let was = p.was (subst (λ v. l.leaving v ≢ 0) (sym e ∙ ap (tablet_of_entry n) c) left) in
+            let a = counted_is (s x).taken (s x).epoch l.cycle (s x).size p.taken p.epoch in
+            let b = counted_is (l.slot x).taken (l.slot x).epoch l.cycle (l.slot x).size was.0 was.1 in
+            subst (λ v. part_of_cycle l.cycle (s v) ≡ part_of_cycle l.cycle (l.slot v)) (sym c) (omega (arith, was.2)))
+        | inr d ↦ ap (part_of_cycle l.cycle) (p.others y m d)
+      ])
 
   -- a word of the new record, and of an old one
   new_word : (r w : ℕ) → Holds (s x) r w → (r ≡ l.home at) × (l.filled at ≤ w)
@@ -74,26 +80,35 @@ module _ (n : Numbers) (l : Layout) (o : OneCopy n l) (s : ℕ → Slot) (f d : 
   part_le_taken : (r : ℕ) (q : Slot) → part_in r q ≤ counted q.taken q.size
   part_le_taken r q = part_below q.taken (q.region == r) q.size
 
-  taken_after : (u : ℕ) → u < tablets_of n → ((u ≡ at) × (taken_words n after u + counted (l.slot x).taken (l.slot x).size ≡ taken_words n l u + (s x).size)) ⊎ ((u ≢ at) × (taken_words n after u ≡ taken_words n l u))
+  taken_after : (u : ℕ) → u < tablets_of n →
+      ((u ≡ at) ×
+      (taken_words n after u + counted (l.slot x).taken (l.slot x).size ≡ taken_words n l u + (s x).size)) ⊎
+      ((u ≢ at) × (taken_words n after u ≡ taken_words n l u))
   taken_after u k = elim (cases_eq u at) [
     | inl e ↦ inl (
       e,
-      subst (λ v. taken_words n after v + counted (l.slot x).taken (l.slot x).size ≡ taken_words n l v + (s x).size) (sym e)
-          (over_one n at at_in (λ y. counted (s y).taken (s y).size) (λ y. counted (l.slot y).taken (l.slot y).size) x p.inside (λ i. at) (λ y m ne. ap (λ (q : Slot). counted q.taken q.size) (p.others y m ne))
+      subst (λ v. taken_words n after v + counted (l.slot x).taken (l.slot x).size ≡ taken_words n l v + (s x).size)
+          (sym e)
+          (over_one n at at_in (λ y. counted (s y).taken (s y).size) (λ y. counted (l.slot y).taken (l.slot y).size) x
+          p.inside (λ i. at) (λ y m ne. ap (λ (q : Slot). counted q.taken q.size) (p.others y m ne))
           ∙ (λ i. taken_words n l at + counted (p.taken i) (s x).size)),
     )
     | inr ne ↦ inr (
       ne,
       over_same n u k (λ y. counted (s y).taken (s y).size) (λ y. counted (l.slot y).taken (l.slot y).size)
-          (λ y m e. ap (λ (q : Slot). counted q.taken q.size) (p.others y m (λ c. ne (sym e ∙ ap (tablet_of_entry n) c)))),
+          (λ y m e. ap (λ (q : Slot). counted q.taken q.size)
+          (p.others y m (λ c. ne (sym e ∙ ap (tablet_of_entry n) c)))),
     )
   ]
 
   made_all_after : (u : ℕ) → u < tablets_of n → taken_words n after u ≤ d u
   made_all_after u k = elim (taken_after u k) [
     | inl c ↦ elim p.origin [
-      | inl new ↦ (let m = subst (λ v. l.made v + (s x).size ≤ d v) (sym c.0) new.1 in omega (arith, c.1, o.made_all u k))
-      | inr old ↦ (let a : counted (l.slot x).taken (l.slot x).size ≡ (l.slot x).size = ap (λ b. counted b (l.slot x).size) old.0 in omega (arith, c.1, old.1, o.made_all u k, p.made u k))
+      | inl new ↦ (let m = subst (λ v. l.made v + (s x).size ≤ d v) (sym c.0) new.1 in
+          omega (arith, c.1, o.made_all u k))
+      | inr old ↦
+          (let a : counted (l.slot x).taken (l.slot x).size ≡ (l.slot x).size = ap (λ b. counted b (l.slot x).size)
+          old.0 in omega (arith, c.1, old.1, o.made_all u k, p.made u k))
     ]
     | inr c ↦ omega (arith, c.1, o.made_all u k, p.made u k)
   ]
@@ -101,9 +116,11 @@ module _ (n : Numbers) (l : Layout) (o : OneCopy n l) (s : ℕ → Slot) (f d : 
   made_in_after : (u : ℕ) → u < tablets_of n → f u ≤ d u
   made_in_after u k = elim (home_after u k) [
     | inl c ↦ elim p.origin [
-      | inl new ↦ (let m = subst (λ v. l.made v + (s x).size ≤ d v) (sym c.0) new.1 in omega (arith, c.2, o.made_in u k))
+      | inl new ↦ (let m = subst (λ v. l.made v + (s x).size ≤ d v) (sym c.0) new.1 in
+          omega (arith, c.2, o.made_in u k))
       | inr old ↦ (let left : l.leaving u ≢ 0 = subst (λ v. l.leaving v ≢ 0) (sym c.0) old.2 in
-          let parts : home_words n after u ≤ taken_words n after u = over_le n u k (λ y. part_in (l.home u) (s y)) (λ y. counted (s y).taken (s y).size) (λ y _ _. part_le_taken (l.home u) (s y)) in
+          let parts : home_words n after u ≤ taken_words n after u = over_le n u k (λ y. part_in (l.home u) (s y))
+          (λ y. counted (s y).taken (s y).size) (λ y _ _. part_le_taken (l.home u) (s y)) in
           omega (arith, c.1, c.2, o.exact u k left, made_all_after u k))
     ]
     | inr c ↦ omega (arith, c.2, o.made_in u k, p.made u k)
@@ -117,11 +134,19 @@ module _ (n : Numbers) (l : Layout) (o : OneCopy n l) (s : ℕ → Slot) (f d : 
     home_own = o.home_own;
     given_own = o.given_own;
     whole = λ y m. elim (cases_eq y x) [
-      | inl e ↦ (let P : ℕ → Type 0 = λ v. (s v).taken ≡ true → InHome after (tablet_of_entry n v) (s v) ⊎ InGiven n after (tablet_of_entry n v) (s v) in
+      | inl e ↦
+          (let P : ℕ → Type 0 = λ v. (s v).taken ≡ true → InHome after (tablet_of_entry n v) (s v) ⊎ InGiven n after
+          (tablet_of_entry n v) (s v) in
           subst P (sym e) (λ _. inl (record { region = p.region; below = omega (arith, p.offset, p.raised) })))
-      | inr d ↦ (let P : Slot → Type 0 = λ q. q.taken ≡ true → InHome after (tablet_of_entry n y) q ⊎ InGiven n after (tablet_of_entry n y) q in
+      | inr d ↦
+          (let P : Slot → Type 0 = λ q. q.taken ≡ true →
+          InHome after (tablet_of_entry n y) q ⊎ InGiven n after (tablet_of_entry n y) q in
           subst P (sym (p.others y m d)) (λ taken. elim (o.whole y m taken) [
-            | inl i ↦ inl (record { region = i.region; below = omega (arith, i.below, rises (tablet_of_entry n y) (belongings_in_range.entry n y m)) })
+            | inl i ↦
+                inl (record {
+                  region = i.region;
+                  below = omega (arith, i.below, rises (tablet_of_entry n y) (belongings_in_range.entry n y m));
+                })
             | inr g ↦ inr (record { region = g.region; below = g.below; old = g.old })
           ]))
     ];
@@ -135,17 +160,21 @@ module _ (n : Numbers) (l : Layout) (o : OneCopy n l) (s : ℕ → Slot) (f d : 
         | inr c ↦ o.one a b r w ha hb (old_word a r w ha d ka) (old_word b r w hb c kb)
       ]
     ];
-    room = λ u k. elim (home_after u k) [ inl c ↦ omega (arith, c.1, c.2, o.room u k) | inr c ↦ omega (arith, c.1, c.2, o.room u k) ];
+    room = λ u k. elim (home_after u k)
+        [ inl c ↦ omega (arith, c.1, c.2, o.room u k) | inr c ↦ omega (arith, c.1, c.2, o.room u k) ];
     within = λ u k. elim (home_after u k) [ inl c ↦ c.3 | inr c ↦ omega (arith, c.2, o.within u k) ];
     made_in = made_in_after;
     made_all = made_all_after;
     leaves = o.leaves;
-    exact = λ u k left. elim (home_after u k) [ inl c ↦ omega (arith, c.1, c.2, o.exact u k left) | inr c ↦ omega (arith, c.1, c.2, o.exact u k left) ];
+    exact = λ u k left. elim (home_after u k)
+        [ inl c ↦ omega (arith, c.1, c.2, o.exact u k left) | inr c ↦ omega (arith, c.1, c.2, o.exact u k left) ];
     live = λ u k left. omega (arith, live_after u k left, o.live u k left);
     fresh = λ y m. elim (cases_eq y x) [
-      | inl e ↦ (let P : ℕ → Type 0 = λ v. (s v).taken ≡ true → l.leaving (tablet_of_entry n v) ≢ 0 → (s v).region ≡ l.home (tablet_of_entry n v) → (s v).epoch ≡ l.cycle in
+      | inl e ↦ (let P : ℕ → Type 0 = λ v. (s v).taken ≡ true → l.leaving (tablet_of_entry n v) ≢ 0 →
+          (s v).region ≡ l.home (tablet_of_entry n v) → (s v).epoch ≡ l.cycle in
           subst P (sym e) (λ _ _ _. p.epoch))
-      | inr d ↦ (let P : Slot → Type 0 = λ q. q.taken ≡ true → l.leaving (tablet_of_entry n y) ≢ 0 → q.region ≡ l.home (tablet_of_entry n y) → q.epoch ≡ l.cycle in
+      | inr d ↦ (let P : Slot → Type 0 = λ q. q.taken ≡ true → l.leaving (tablet_of_entry n y) ≢ 0 →
+          q.region ≡ l.home (tablet_of_entry n y) → q.epoch ≡ l.cycle in
           subst P (sym (p.others y m d)) (o.fresh y m))
     ];
   }

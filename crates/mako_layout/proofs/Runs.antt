@@ -8,9 +8,11 @@ use Rattle.mako_layout.proofs.EachStep.{each_step_keeps}
 use Rattle.mako_layout.proofs.Opens.{opening_kept}
 use Rattle.mako_layout.proofs.Outside.{new_published, put_stored}
 
-pub all_reached_hold : (n : Numbers) → IsShape n → (board : ℕ) → board + 1 ≤ n.words → (s : State) → Reaches n board s → Evacuation n s
+pub all_reached_hold : (n : Numbers) → IsShape n → (board : ℕ) → board + 1 ≤ n.words → (s : State) →
+    Reaches n board s → Evacuation n s
 all_reached_hold n shape board fits s opens = opening_kept n shape board fits
-all_reached_hold n shape board fits s (goes_on b who _ before step) = each_step_keeps n shape b who s (all_reached_hold n shape board fits b before) step
+all_reached_hold n shape board fits s (goes_on b who _ before step) = each_step_keeps n shape b who s
+    (all_reached_hold n shape board fits b before) step
 
 -- a new object's point enters the history
 pub new_is_published : NewIsPublished

@@ -20,45 +20,60 @@ use Rattle.mako_gate.specs.Standings.{GateFacet, has_drained, writes}
 use Rattle.mako_gate.specs.Gates.{Gates}
 
 -- a record's size is that of its fields
-pub size_is : (n : Numbers) (W : Place → ℕ) (h : Heap) (x : ℕ) (r : IsRecordOf n W h x (slot_of n h x (W (entry x)))) → (slot_of n h x (W (entry x))).size ≡ length r.fields + 1
+pub size_is : (n : Numbers) (W : Place → ℕ) (h : Heap) (x : ℕ)
+    (r : IsRecordOf n W h x (slot_of n h x (W (entry x)))) → (slot_of n h x (W (entry x))).size ≡ length r.fields + 1
 size_is n W h x r = ap (λ o. length (unwrap_or o []) + 1) r.are
 
 -- a record whose entry and words stay
 pub record_kept : (n : Numbers) (W V : Place → ℕ) (h : Heap) (x : ℕ) → V (entry x) ≡ W (entry x) →
-    ((r w : ℕ) → Holds (slot_of n h x (W (entry x))) r w → V (region_word r w) ≡ W (region_word r w)) → (slot_of n h x (W (entry x))).taken ≡ true →
+    ((r w : ℕ) → Holds (slot_of n h x (W (entry x))) r w → V (region_word r w) ≡ W (region_word r w)) →
+    (slot_of n h x (W (entry x))).taken ≡ true →
     IsRecordOf n W h x (slot_of n h x (W (entry x))) → IsRecordOf n V h x (slot_of n h x (V (entry x)))
 record_kept n W V h x e stays taken r =
     let s : Slot = slot_of n h x (W (entry x)) in
     record {
       fields = r.fields;
       are = ap (λ v. fields_of h (name_of x v)) e ∙ r.are;
-      address = (λ q. index n (region_word (slot_of n h x (e q)).region (slot_of n h x (e q)).offset)) ∙ r.address ∙ ap (λ v. (entry_at v).address) (sym e);
+      address = (λ q. index n (region_word (slot_of n h x (e q)).region (slot_of n h x (e q)).offset)) ∙ r.address
+          ∙ ap (λ v. (entry_at v).address) (sym e);
       words = λ i k. (λ q. V (region_word (slot_of n h x (e q)).region ((slot_of n h x (e q)).offset + i)))
-          ∙ stays s.region (s.offset + i) (record { taken = taken; region = refl; low = omega arith; high = omega (arith, size_is n W h x r) })
+          ∙ stays s.region (s.offset + i)
+          (record { taken = taken; region = refl; low = omega arith; high = omega (arith, size_is n W h x r) })
           ∙ r.words i k;
     }
 
 -- what a view knows does not turn on how the layout is computed
-pub knows_same : (n : Numbers) (l m : Layout) → OneCopy n l → AreSame n l m → (V : Place → ℕ) (g : GateFacet) (u : Work) → Knows n l V g u → Knows n m V g u
-knows_same n l m o p V g u = knows_kept n l m o V V g u (λ h k. beside_same n l m V V p g (entry_of u) h (λ _. refl) (λ _ w a b. refl) (λ _ r w a b. refl))
+pub knows_same : (n : Numbers) (l m : Layout) → OneCopy n l → AreSame n l m →
+    (V : Place → ℕ) (g : GateFacet) (u : Work) → Knows n l V g u → Knows n m V g u
+knows_same n l m o p V g u = knows_kept n l m o V V g u
+    (λ h k. beside_same n l m V V p g (entry_of u) h (λ _. refl) (λ _ w a b. refl) (λ _ r w a b. refl))
 
--- What is known of each seat after the step: it is proved anew, or it is that of a seat beside the step, of which the writer finds its words as they were
+-- What is known of each seat after the step: it is proved anew, or it is that of a seat beside the step, of which
+-- the writer finds its words as they were
 abbrev pub KnownAfter : Numbers → State → (Place → ℕ) → ℕ → GateFacet → Work → Type 0
 KnownAfter n s V j f v = Knows n (layout n s) V f v
     ⊎ ((slice_get s.gates j ≡ Some f) × (slice_get s.works j ≡ Some v)
-    × (entry_of v < entries_of n → 1 ≤ writes (tablet_of_entry n (entry_of v)) f → V (top (tablet_of_entry n (entry_of v))) ≡ s.words (top (tablet_of_entry n (entry_of v))))
-    × (entry_of v < entries_of n → 1 ≤ writes (tablet_of_entry n (entry_of v)) f → (w : ℕ) → (layout n s).filled (tablet_of_entry n (entry_of v)) ≤ w → w < n.words →
-    V (region_word ((layout n s).home (tablet_of_entry n (entry_of v))) w) ≡ s.words (region_word ((layout n s).home (tablet_of_entry n (entry_of v))) w)))
+    × (entry_of v < entries_of n → 1 ≤ writes (tablet_of_entry n (entry_of v)) f →
+    V (top (tablet_of_entry n (entry_of v))) ≡ s.words (top (tablet_of_entry n (entry_of v))))
+    × (entry_of v < entries_of n → 1 ≤ writes (tablet_of_entry n (entry_of v)) f → (w : ℕ) →
+    (layout n s).filled (tablet_of_entry n (entry_of v)) ≤ w → w < n.words →
+    V (region_word ((layout n s).home (tablet_of_entry n (entry_of v))) w) ≡ s.words
+    (region_word ((layout n s).home (tablet_of_entry n (entry_of v))) w)))
 
 -- the layout stays, though the heap may change within its records
-pub frame_kept : (n : Numbers) (s : State) → Evacuation n s → (V : Place → ℕ) (h : Heap) (gs : List GateFacet) (ks : List Work) → length ks ≡ length gs → Gates n V gs →
+pub frame_kept : (n : Numbers) (s : State) → Evacuation n s →
+    (V : Place → ℕ) (h : Heap) (gs : List GateFacet) (ks : List Work) → length ks ≡ length gs → Gates n V gs →
     AreSame n (layout n s) (layout_of n V h ks s.choice s.made) →
     ((debt_of s.choice ≡ settled) ⊎ Paused n gs) →
-    ((t : ℕ) → t < tablets_of n → sum_by (counted_in n t) ks ≤ top_read (debt_of s.choice) t (V (top t)) + sum_by (to_raise n t) ks) →
-    ((x : ℕ) → x < entries_of n → ((layout_of n V h ks s.choice s.made).slot x).taken ≡ true → IsRecordOf n V h x ((layout_of n V h ks s.choice s.made).slot x)) →
+    ((t : ℕ) → t < tablets_of n → sum_by (counted_in n t) ks ≤ top_read (debt_of s.choice) t (V (top t)) + sum_by
+    (to_raise n t) ks) →
+    ((x : ℕ) → x < entries_of n → ((layout_of n V h ks s.choice s.made).slot x).taken ≡ true →
+    IsRecordOf n V h x ((layout_of n V h ks s.choice s.made).slot x)) →
     ((j t b : ℕ) (f : GateFacet) → slice_get gs j ≡ Some f → f.watch ≡ has_drained t b → Passed n (layout n s) t b) →
     ((j : ℕ) (f : GateFacet) (v : Work) → slice_get gs j ≡ Some f → slice_get ks j ≡ Some v → Knows n (layout n s) V f v
-    ⊎ ((slice_get s.gates j ≡ Some f) × (slice_get s.works j ≡ Some v) × (entry_of v < entries_of n → Knows n (layout n s) s.words f v → Beside n (layout n s) (layout_of n V h ks s.choice s.made) s.words V f (entry_of v)))) →
+    ⊎ ((slice_get s.gates j ≡ Some f) × (slice_get s.works j ≡ Some v) ×
+    (entry_of v < entries_of n → Knows n (layout n s) s.words f v →
+    Beside n (layout n s) (layout_of n V h ks s.choice s.made) s.words V f (entry_of v)))) →
     Evacuation n (record s { words = V; heap = h; gates = gs; works = ks })
 frame_kept n s e V h gs ks seats gates same pause even records passed known =
     let l : Layout = layout n s in
@@ -77,12 +92,15 @@ frame_kept n s e V h gs ks seats gates same pause even records passed known =
       ];
     }
 
-pub stays_kept : (n : Numbers) (s : State) → Evacuation n s → (V : Place → ℕ) (gs : List GateFacet) (ks : List Work) → length ks ≡ length gs → Gates n V gs →
+pub stays_kept : (n : Numbers) (s : State) → Evacuation n s → (V : Place → ℕ) (gs : List GateFacet) (ks : List Work) →
+    length ks ≡ length gs → Gates n V gs →
     AreSame n (layout n s) (layout_of n V s.heap ks s.choice s.made) →
     ((x : ℕ) → x < entries_of n → V (entry x) ≡ s.words (entry x)) →
     ((debt_of s.choice ≡ settled) ⊎ Paused n gs) →
-    ((t : ℕ) → t < tablets_of n → sum_by (counted_in n t) ks ≤ top_read (debt_of s.choice) t (V (top t)) + sum_by (to_raise n t) ks) →
-    ((x r w : ℕ) → x < entries_of n → Holds ((layout n s).slot x) r w → V (region_word r w) ≡ s.words (region_word r w)) →
+    ((t : ℕ) → t < tablets_of n → sum_by (counted_in n t) ks ≤ top_read (debt_of s.choice) t (V (top t)) + sum_by
+    (to_raise n t) ks) →
+    ((x r w : ℕ) → x < entries_of n → Holds ((layout n s).slot x) r w →
+    V (region_word r w) ≡ s.words (region_word r w)) →
     ((j t b : ℕ) (f : GateFacet) → slice_get gs j ≡ Some f → f.watch ≡ has_drained t b → Passed n (layout n s) t b) →
     ((j : ℕ) (f : GateFacet) (v : Work) → slice_get gs j ≡ Some f → slice_get ks j ≡ Some v → KnownAfter n s V j f v) →
     Evacuation n (record s { words = V; gates = gs; works = ks })
@@ -96,5 +114,11 @@ stays_kept n s e V gs ks seats gates same entries pause even words passed known 
     passed
     (λ j f v at_f at_v. elim (known j f v at_f at_v) [
       | inl k ↦ inl k
-      | inr b ↦ inr (b.0, b.1, (λ h k. beside_same n l m s.words V same f (entry_of v) h (b.2 h) (b.3 h) (λ _ r w holds out. words (entry_of v) r w h holds)))
+      | inr b ↦
+          inr (
+            b.0,
+            b.1,
+            (λ h k. beside_same n l m s.words V same f (entry_of v) h (b.2 h) (b.3 h)
+                (λ _ r w holds out. words (entry_of v) r w h holds)),
+          )
     ])

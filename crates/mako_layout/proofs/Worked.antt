@@ -33,7 +33,14 @@ board_slot =
     let region : _ = sym (ap (λ (q : Slot). q.region) stored) ∙ opens_at.region_zero small is_shape 1 (omega arith) in
     let offset : _ = sym (ap (λ (q : Slot). q.offset) stored) ∙ opens_at.offset_zero small is_shape 1 (omega arith) in
     let size : _ = sym (ap (λ (q : Slot). q.size) stored) ∙ opens_at.size_zero small is_shape 1 (omega arith) in
-    stored ∙ (λ i. record { taken = true; generation = 0; epoch = 0; region = region i; offset = offset i; size = size i })
+    stored ∙ (λ i. record {
+      taken = true;
+      generation = 0;
+      epoch = 0;
+      region = region i;
+      offset = offset i;
+      size = size i;
+    })
 
 only_own : (q : Place) → Within small q → q ≢ mutator_gate 0 → with_gates 1 0 q ≡ opening_words small 1 q
 only_own (mutator_gate m) h d = absurd (d (ap mutator_gate (let e : m ≡ 0 = omega arith in e)))
@@ -45,34 +52,48 @@ only_tablet q h d = refl
 
 entered_own : Reaches small 1 (with_mutator 1 0 inside idle)
 entered_own =
-    let sets : Sets small (opening_words small 1) (with_gates 1 0) (mutator_gate 0) 1 = record { here = refl; others = only_own } in
+    let sets : Sets small (opening_words small 1) (with_gates 1 0) (mutator_gate 0) 1 = record {
+      here = refl;
+      others = only_own;
+    } in
     goes_on (opening_state small 1) 0 (with_mutator 1 0 inside idle) opens
     (step.acts (with_gates 1 0) 0 (mutator_at 0 away) (mutator_at 0 inside) (record { gate = refl; work = refl })
-    (arrives 0 (omega arith) refl sets) (leaves_layout small (opening_words small 1) (with_gates 1 0) (mutator_gate 0) 1 sets tt) (λ t. refl) (inl (λ e. omega arith)))
+    (arrives 0 (omega arith) refl sets)
+    (leaves_layout small (opening_words small 1) (with_gates 1 0) (mutator_gate 0) 1 sets tt) (λ t. refl)
+    (inl (λ e. omega arith)))
 
 entered_tablet : Reaches small 1 (with_mutator 1 1 (at_tablet 0) idle)
 entered_tablet =
-    let sets : Sets small (with_gates 1 0) (with_gates 1 1) (tablet_gate 0) 1 = record { here = refl; others = only_tablet } in
+    let sets : Sets small (with_gates 1 0) (with_gates 1 1) (tablet_gate 0) 1 = record {
+      here = refl;
+      others = only_tablet;
+    } in
     goes_on (with_mutator 1 0 inside idle) 0 (with_mutator 1 1 (at_tablet 0) idle) entered_own
-    (step.acts (with_gates 1 1) 0 (mutator_at 0 inside) (mutator_at 0 (at_tablet 0)) (record { gate = refl; work = refl })
-    (enters 0 0 (omega arith) (omega arith) refl sets) (leaves_layout small (with_gates 1 0) (with_gates 1 1) (tablet_gate 0) 1 sets tt) (λ t. refl) (inl (λ e. omega arith)))
+    (step.acts (with_gates 1 1) 0 (mutator_at 0 inside)
+    (mutator_at 0 (at_tablet 0)) (record { gate = refl; work = refl })
+    (enters 0 0 (omega arith) (omega arith) refl sets)
+    (leaves_layout small (with_gates 1 0) (with_gates 1 1) (tablet_gate 0) 1 sets tt) (λ t. refl)
+    (inl (λ e. omega arith)))
 
 -- it loads the entry, and then the home word
 found_entry : Reaches small 1 (with_mutator 1 1 (at_tablet 0) (reads 0 0 0))
-found_entry = subst (λ (q : Slot). Reaches small 1 (with_mutator 1 1 (at_tablet 0) (reads 0 q.region q.offset))) board_slot
+found_entry = subst (λ (q : Slot). Reaches small 1
+    (with_mutator 1 1 (at_tablet 0) (reads 0 q.region q.offset))) board_slot
     (goes_on (with_mutator 1 1 (at_tablet 0) idle) 0 _ entered_tablet
     (step.load_entry 0 0 (mutator_at 0 (at_tablet 0)) (record { gate = refl; work = refl }) (omega arith) (omega arith)
     (ap (λ (q : Slot). q.taken) board_slot)))
 
 used : Reaches small 1 (with_mutator 1 1 (at_tablet 0) (uses 0 0 0))
-used = goes_on (with_mutator 1 1 (at_tablet 0) (reads 0 0 0)) 0 (with_mutator 1 1 (at_tablet 0) (uses 0 0 0)) found_entry
+used = goes_on
+    (with_mutator 1 1 (at_tablet 0) (reads 0 0 0)) 0 (with_mutator 1 1 (at_tablet 0) (uses 0 0 0)) found_entry
     (step.load_home 0 0 0 0 (mutator_at 0 (at_tablet 0)) (record { gate = refl; work = refl }) refl)
 
 never : (s : State) (b : ℕ) (v w : Work) → Reaches small 1 s → Seat s 0 (mutator_at 0 (at_tablet 0)) v →
     Seat s 1 (shutter_at 1 (has_drained 0 b)) w → ⊥
 never s b v w run mutator server =
     let e = all_reached_hold small is_shape 1 (omega arith) s run in
-    let none = (gates_tell small s.words s.gates e.gates).drained.tablets_empty 0 1 0 (shutter_at 1 (has_drained 0 b)) (mutator_at 0 (at_tablet 0))
+    let none = (gates_tell small s.words s.gates e.gates).drained.tablets_empty 0 1 0 (shutter_at 1 (has_drained 0 b))
+    (mutator_at 0 (at_tablet 0))
     (omega arith) server.gate (omega arith) mutator.gate in
     omega arith
 
@@ -86,7 +107,8 @@ only_board : (board : Slot) (x : ℕ) → (slots_with board x).taken ≡ true �
 only_board board zero taken = refl
 only_board board (suc x) taken = absurd (cc)
 
-roles : (r : ℕ) → r < regions_of small → homes_at small before_copy r + gifts_at small before_copy r + before_copy.spare r ≡ 1
+roles : (r : ℕ) → r < regions_of small →
+    homes_at small before_copy r + gifts_at small before_copy r + before_copy.spare r ≡ 1
 roles zero h = refl
 roles (suc zero) h = refl
 roles (suc (suc r)) h = absurd (omega arith)
@@ -100,7 +122,8 @@ given_own zero zero h e = refl
 given_own zero (suc r) h e = absurd (omega arith)
 given_own (suc t) r h e = absurd (omega arith)
 
-whole : (x : ℕ) → (slots_with (board_in 1 0) x).taken ≡ true → InGiven small before_copy (tablet_of_entry small x) (slots_with (board_in 1 0) x)
+whole : (x : ℕ) → (slots_with (board_in 1 0) x).taken ≡ true →
+    InGiven small before_copy (tablet_of_entry small x) (slots_with (board_in 1 0) x)
 whole zero taken = record { region = refl; below = omega arith; old = λ e. absurd (omega arith) }
 whole (suc x) taken = absurd (cc)
 
@@ -108,7 +131,8 @@ none_home : (t : ℕ) → t < tablets_of small → home_words small before_copy 
 none_home zero h = refl
 none_home (suc t) h = absurd (omega arith)
 
-two_taken : (t : ℕ) → t < tablets_of small → (taken_words small before_copy t ≡ 2) × (cycle_words small before_copy t ≡ 2)
+two_taken : (t : ℕ) → t < tablets_of small →
+    (taken_words small before_copy t ≡ 2) × (cycle_words small before_copy t ≡ 2)
 two_taken zero h = (refl, refl)
 two_taken (suc t) h = absurd (omega arith)
 
@@ -189,7 +213,8 @@ differ : (a b : ℕ) → a < b → a ≡ b → ⊥
 differ a b less same = omega arith
 
 cleared_too_soon : OneCopy small (record before_copy { leaving = λ t. 0 }) → ⊥
-cleared_too_soon o = elim (o.whole 0 (omega arith) refl) [ inl i ↦ differ 0 1 (omega arith) i.region | inr g ↦ g.old refl refl ]
+cleared_too_soon o = elim (o.whole 0 (omega arith) refl)
+    [ inl i ↦ differ 0 1 (omega arith) i.region | inr g ↦ g.old refl refl ]
 
 not_counted : OneCopy small (record after_copy { filled = λ t. 0 }) → ⊥
 not_counted o = differ 0 2 (omega arith) (sym (o.exact 0 (omega arith) (λ e. omega arith)))
@@ -202,7 +227,12 @@ not_moved p = differ 0 1 (omega arith) p.region
 
 shared : OneCopy small (record after_copy { slot = λ x. board_in 1 1 }) → ⊥
 shared o =
-    let here : Holds (board_in 1 1) 1 0 = record { taken = refl; region = refl; low = omega arith; high = omega arith } in
+    let here : Holds (board_in 1 1) 1 0 = record {
+      taken = refl;
+      region = refl;
+      low = omega arith;
+      high = omega arith;
+    } in
     differ 0 1 (omega arith) (o.one 0 1 1 0 (omega arith) (omega arith) here here)
 
 pub wrong_layouts : WrongLayouts
