@@ -15,7 +15,7 @@ use Rattle.mako_gate.specs.Standings.{GateFacet, writes, admitted}
 use Rattle.mako_gate.proofs.Lists.{sum_at, some_term}
 use Rattle.mako_gate.proofs.Numbers.{holds_le}
 use Rattle.mako_layout.specs.Layouts.{Layout, entries_of, regions_of}
-use Rattle.mako_layout.specs.Facets.{stands, Work, raises, makes, counts, settled, Paused, debt_of}
+use Rattle.mako_layout.specs.Facets.{stands, Work, raises, counts, settled, Paused, debt_of}
 use Rattle.mako_layout.specs.Evacuations.{slot_of, home_read, top_read, to_raise, counted_in, layout_of, Knows, State, layout, Evacuation}
 use Rattle.mako_layout.proofs.Frames.{gates_frame, record_within, leaves_gates}
 use Rattle.mako_layout.proofs.Stays.{stays_kept}
@@ -42,8 +42,8 @@ module _ (n : Numbers) (s : State) (e : Evacuation n s) where
   -- a seat with work has a gate facet
   gate_at : (d : GateFacet) (j : ℕ) (v : Work) → slice_get s.works j ≡ Some v →
       (f : GateFacet) × (slice_get s.gates j ≡ Some f)
-  gate_at d j v
-      at = (get_or s.gates j d, slice_get-get_or s.gates j d (omega (arith, slice_get_within s.works j v at, e.seats)))
+  gate_at d j v at =
+      (get_or s.gates j d, slice_get-get_or s.gates j d (omega (arith, slice_get_within s.works j v at, e.seats)))
 
   -- with no writer, nothing is owed or counted
   pub none_owed : (t : ℕ) → (d : GateFacet) →

@@ -3,7 +3,7 @@ use Rattle.std.proofs.Common.{◌≡◌, ◌≢◌, ℕ, ◌+◌, ◌⊎◌, inl
 use Rattle.std.proofs.lemmas.List.{length-set}
 use Rattle.std.proofs.lemmas.Option.{same_Some}
 use Rattle.mako_shape.specs.declared.numbers.Numbers.{Numbers}
-use Rattle.mako_shape.specs.Places.{Place, phase, entry, home}
+use Rattle.mako_shape.specs.Places.{Place}
 use Rattle.mako_shape.specs.Belongings.{tablet_of_entry}
 use Rattle.mako_shape.proofs.BelongingLaws.{belongings_in_range}
 use Rattle.mako_layout.specs.Layouts.{Passed}
