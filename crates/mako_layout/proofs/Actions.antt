@@ -98,7 +98,7 @@ effect n s who _ e (step.store_phase V _ sets _) = aside n s who V _ _ sets tt
 effect n s who _ e (step.store_idle V _ _ _ _ _ sets _ _ _ _) = aside n s who V _ _ sets tt
 effect n s who _ e (step.clear_leaving V _ _ _ _ _ _ _ sets) = aside n s who V _ _ sets tt
 effect n s who _ e (step.alter_entry _ V _ _ p) = aside n s who V _ _ p.sets tt
-effect n s who _ e (step.outside _ V _ only _ _) = left n s who V only
+effect n s who _ e (step.outside _ V _ _ only _ _ _) = left n s who V only
 
 home_effect : (n : Numbers) (s : State) (who : ℕ) (V : Place → ℕ) → Effect n s who V → (t : ℕ) → t < tablets_of n →
     V (home t) ≢ s.words (home t) → Paused n s.gates

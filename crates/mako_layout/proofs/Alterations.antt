@@ -108,9 +108,9 @@ module _ (n : Numbers) (l : Layout) (o : OneCopy n l) (s : ℕ → Slot) (x : �
     leaves = o.leaves;
     exact = λ u k left. over_same n u k (λ y. part_in (l.home u) (s y)) (λ y. part_in (l.home u) (l.slot y))
         (λ y m e. ap (part_in (l.home u)) (others_of u y left e m)) ∙ o.exact u k left;
-    live = λ u k left. omega (
+    cycle_fits = λ u k left. omega (
       arith,
-      o.live u k left,
+      o.cycle_fits u k left,
       over_same n u k (λ y. part_of_cycle l.cycle (s y))
           (λ y. part_of_cycle l.cycle (l.slot y)) (λ y m e. ap (part_of_cycle l.cycle) (others_of u y left e m)),
     );
@@ -157,7 +157,7 @@ module _ (n : Numbers) (l : Layout) (o : OneCopy n l) (v : ℕ → ℕ) (t : ℕ
     made_all = o.made_all;
     leaves = λ u k left. still u k left ∙ o.leaves u k (was_left u k left);
     exact = λ u k left. o.exact u k (was_left u k left);
-    live = λ u k left. o.live u k (was_left u k left);
+    cycle_fits = λ u k left. o.cycle_fits u k (was_left u k left);
     fresh = λ y m taken left. o.fresh y m taken (was_left (tablet_of_entry n y) (belongings_in_range.entry n y m) left);
   }
 
@@ -185,7 +185,7 @@ module _ (n : Numbers) (l : Layout) (o : OneCopy n l) (g p : ℕ → ℕ) (f : F
     made_all = o.made_all;
     leaves = λ u k left. absurd (left (f.left u k));
     exact = o.exact;
-    live = o.live;
+    cycle_fits = o.cycle_fits;
     fresh = o.fresh;
   }
 
@@ -212,6 +212,6 @@ cycle_kept n l o c none =
       made_all = o.made_all;
       leaves = o.leaves;
       exact = o.exact;
-      live = λ u k left. absurd (stays u k left);
+      cycle_fits = λ u k left. absurd (stays u k left);
       fresh = λ y m taken left. absurd (stays (tablet_of_entry n y) (belongings_in_range.entry n y m) left);
     }

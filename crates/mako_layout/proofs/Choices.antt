@@ -164,9 +164,9 @@ module _ (n : Numbers) (l : Layout) (o : OneCopy n l) (m : Layout) (t r : ℕ) (
       | inl e ↦ subst (λ v. home_words n m v ≡ m.filled v) (sym e) (none_home ∙ sym p.filled)
       | inr d ↦ same_home u k d ∙ o.exact u k (λ z. left (p.leavings u k d ∙ z)) ∙ sym (p.filleds u k d)
     ];
-    live = λ u k left. elim (cases_eq u t) [
+    cycle_fits = λ u k left. elim (cases_eq u t) [
       | inl e ↦ omega (arith, same_live u k, subst (λ v. cycle_words n l v ≤ n.words) (sym e) live_fits)
-      | inr d ↦ omega (arith, same_live u k, o.live u k (λ z. left (p.leavings u k d ∙ z)))
+      | inr d ↦ omega (arith, same_live u k, o.cycle_fits u k (λ z. left (p.leavings u k d ∙ z)))
     ];
     fresh = λ y h. subst (λ (q : Slot). q.taken ≡ true → m.leaving (tablet_of_entry n y) ≢ 0 →
         q.region ≡ m.home (tablet_of_entry n y) → q.epoch ≡ m.cycle) (sym (p.slots y h)) (λ taken left here.
@@ -235,7 +235,7 @@ module _ (n : Numbers) (l : Layout) (o : OneCopy n l) (m : Layout) (p : AreSame 
     );
     leaves = λ u k left. p.leavings u k ∙ o.leaves u k (still_left u k left) ∙ sym (p.givens u k);
     exact = λ u k left. homes_same u k ∙ o.exact u k (still_left u k left) ∙ sym (p.filleds u k);
-    live = λ u k left. omega (arith, lives_same u k, o.live u k (still_left u k left));
+    cycle_fits = λ u k left. omega (arith, lives_same u k, o.cycle_fits u k (still_left u k left));
     fresh = λ y h. subst (λ (q : Slot). q.taken ≡ true → m.leaving (tablet_of_entry n y) ≢ 0 →
         q.region ≡ m.home (tablet_of_entry n y) → q.epoch ≡ m.cycle) (sym (p.slots y h)) (λ taken left here.
         let k = belongings_in_range.entry n y h in

@@ -140,7 +140,7 @@ what_is_left_fits n s e t h left =
     ]) in
     record {
       exact = e.copy.exact t h left;
-      room = (let a = e.copy.exact t h left in let b = e.copy.live t h left in omega arith);
+      room = (let a = e.copy.exact t h left in let b = e.copy.cycle_fits t h left in omega arith);
     }
 
 pub used_is_made : UsedIsMade

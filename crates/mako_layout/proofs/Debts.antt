@@ -141,7 +141,12 @@ module _ (n : Numbers) (s : State) (e : Evacuation n s) (i : ℕ) (g : GateFacet
             | inl same ↦ (let one = subst (λ q. 1 ≤ writes q g) (sym same) writing in
                 omega (arith, top_is t (V (top t)) one, top_is t (s.words (top t)) one))
             | inr d ↦
-                omega (arith, ap (top_read (debt_of s.choice) t) (other_top t h d), (elsewhere t d).0, (elsewhere t d).1)
+                omega (
+                  arith,
+                  ap (top_read (debt_of s.choice) t) (other_top t h d),
+                  (elsewhere t d).0,
+                  (elsewhere t d).1,
+                )
           ] in
           stays_kept n s e V s.gates (set s.works i u) (length-set s.works i u ∙ e.seats)
           (gates_frame n s.words V s.gates (leaves_gates n s.words V _ _ sets tt) e.gates)
@@ -165,7 +170,12 @@ module _ (n : Numbers) (s : State) (e : Evacuation n s) (i : ℕ) (g : GateFacet
             | inl same ↦ (let one = subst (λ q. 1 ≤ writes q g) (sym same) writing in
                 omega (arith, top_is t (V (top t)) one, top_is t (s.words (top t)) one))
             | inr d ↦
-                omega (arith, ap (top_read (debt_of s.choice) t) (other_top t h d), (elsewhere t d).0, (elsewhere t d).1)
+                omega (
+                  arith,
+                  ap (top_read (debt_of s.choice) t) (other_top t h d),
+                  (elsewhere t d).0,
+                  (elsewhere t d).1,
+                )
           ])
           (λ y r a h holds. let q = record_within n (layout n s) e.copy y r a h holds in regions r a q.0 q.1)
           e.passed

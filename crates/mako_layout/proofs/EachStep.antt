@@ -17,7 +17,7 @@ use Rattle.mako_layout.proofs.Passing.{passed_none, passed_next, passed_all}
 use Rattle.mako_layout.proofs.Loads as load
 use Rattle.mako_layout.proofs.Works as work
 use Rattle.mako_layout.proofs.Objects as object
-use Rattle.mako_layout.proofs.Outside.{outside_kept}
+use Rattle.mako_layout.proofs.Outside.{outside_kept, made_kept}
 use Rattle.mako_layout.proofs.Alone as alone
 use Rattle.mako_layout.proofs.Servers as server
 use Rattle.mako_shape.specs.Places.{home}
@@ -97,7 +97,8 @@ each_step_keeps n shape s _ _ e
 each_step_keeps n shape s _ _ e
     (step.store_field V h i x r o j v g fields seat were less sets are others) = object.store_field n s e i g
     seat.gate x r o j v V h seat.work fields were less sets are others
-each_step_keeps n shape s _ _ e (step.outside i V h only gates objects) = outside_kept n s e V h only gates objects
+each_step_keeps n shape s _ _ e (step.outside i V h d only gates objects made) =
+    made_kept n (record s { words = V; heap = h }) (outside_kept n s e V h only gates objects) d made
 each_step_keeps n shape s _ _ e (step.begins_choice sl is) =
     server.choice_kept n s e (chooses settled [] sl) (sym (ap debt_of is)) (sym (ap given_of is)) (sym (ap spare_of is))
 each_step_keeps n shape s _ _ e (step.ends_choice gl sl is) =

@@ -58,7 +58,8 @@ module _ (n : Numbers) (s : State) (e : Evacuation n s) (i : ℕ) (g : GateFacet
           region = sym (home_is n s e i g at_g (tablet_of_entry n x) there);
         })
 
-    -- an entry of the tablet is loaded under the kept home: it is in it, or a writer is to move it, or it is passed over
+    -- an entry of the tablet is loaded under the kept home: it is in it, or a writer is to move it, or it is passed
+    -- over
     pub finds_home : (x y r : ℕ) → slice_get s.works i ≡ Some (holds_home x r) → y < entries_of n →
         tablet_of_entry n y ≡ tablet_of_entry n x → 1 ≤ admitted (tablet_of_entry n y) g.standing →
         ((layout n s).slot y).taken ≡ true → ((layout n s).slot y).region ≡ r →

@@ -102,7 +102,8 @@ spare_not n r (suc c) h = elim (cases_eq c r) [
         spare_next n r c,
         spare_not n r c h,
         ap (λ q. cond q 0 (counted (c == r) 1))
-            (ap (λ q. nat_lt (q % (n.tablets + n.spare)) n.tablets) e ∙ less_is (r % (n.tablets + n.spare)) n.tablets h),
+            (ap (λ q. nat_lt (q % (n.tablets + n.spare)) n.tablets) e ∙ less_is (r % (n.tablets + n.spare)) n.tablets
+            h),
       )
   | inr d ↦
       omega (
@@ -124,7 +125,8 @@ spare_is n r (suc c) h k = elim (cases_eq c r) [
         spare_other n r c (omega arith),
         count_at c r 1 e,
         ap (λ q. cond q 0 (counted (c == r) 1))
-            (ap (λ q. nat_lt (q % (n.tablets + n.spare)) n.tablets) e ∙ less_not (r % (n.tablets + n.spare)) n.tablets k),
+            (ap (λ q. nat_lt (q % (n.tablets + n.spare)) n.tablets) e ∙ less_not (r % (n.tablets + n.spare)) n.tablets
+            k),
       )
   | inr d ↦
       (let ne : c ≢ r = d in
@@ -316,7 +318,7 @@ module _ (n : Numbers) (shape : IsShape n) (board : ℕ) (fits : board + 1 ≤ n
     made_all = taken_sum;
     leaves = λ t h left. absurd (left refl);
     exact = λ t h left. absurd (left refl);
-    live = λ t h left. absurd (left refl);
+    cycle_fits = λ t h left. absurd (left refl);
     fresh = λ x h taken left. absurd (left refl);
   }
 

@@ -100,13 +100,18 @@ module _ (n : Numbers) (s : State) (e : Evacuation n s) (V : Place → ℕ) (h :
             only.regions r a w.0 w.1)),
       ))
 
+-- the words made are the same numbers
+pub made_kept : (n : Numbers) (s : State) → Evacuation n s → (d : ℕ → ℕ) → ((t : ℕ) → d t ≡ s.made t) →
+    Evacuation n (record s { made = d })
+made_kept n s e d same = subst (λ (q : ℕ → ℕ). Evacuation n (record s { made = q })) (λ i t. sym (same t) i) e
+
 -- the heap that a history leaves with one point more
 pub one_more : (w : Facts) (history : List Point) (point : Point) →
     state_of w (history ++ point ∷ []) ≡ heap_after (state_of w history) point
 one_more w history point = fold_push heap_after (opening_of w) history point
 
 -- and the words that it has made
-made_more : (w : Facts) (history : List Point) (point : Point) (t : ℕ) →
+pub made_more : (w : Facts) (history : List Point) (point : Point) (t : ℕ) →
     words_made w t (history ++ point ∷ []) ≡ words_made w t history + words_by w t point
 made_more w history point t = omega (arith, sum_by_push (words_by w t) history point)
 

@@ -168,7 +168,7 @@ module _ (n : Numbers) (l : Layout) (o : OneCopy n l) (s : ℕ → Slot) (f d : 
     leaves = o.leaves;
     exact = λ u k left. elim (home_after u k)
         [ inl c ↦ omega (arith, c.1, c.2, o.exact u k left) | inr c ↦ omega (arith, c.1, c.2, o.exact u k left) ];
-    live = λ u k left. omega (arith, live_after u k left, o.live u k left);
+    cycle_fits = λ u k left. omega (arith, live_after u k left, o.cycle_fits u k left);
     fresh = λ y m. elim (cases_eq y x) [
       | inl e ↦ (let P : ℕ → Type 0 = λ v. (s v).taken ≡ true → l.leaving (tablet_of_entry n v) ≢ 0 →
           (s v).region ≡ l.home (tablet_of_entry n v) → (s v).epoch ≡ l.cycle in

@@ -97,7 +97,7 @@ module _ (n : Numbers) (l : Layout) (o : OneCopy n l) where
       over_le_at n t k (λ y. part_in (l.home t) (l.slot y)) (λ y. part_of_cycle l.cycle (l.slot y)) x (l.slot x).size
       h (λ i. t)
       (λ y m e. part_le t y m e left) (omega arith) in
-      omega (arith, o.exact t k left, o.live t k left)
+      omega (arith, o.exact t k left, o.cycle_fits t k left)
 
   -- all records of the cycle are in the home: the words in use are theirs
   pub all_moved : (t : ℕ) → t < tablets_of n → l.leaving t ≢ 0 →

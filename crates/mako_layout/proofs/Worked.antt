@@ -156,7 +156,7 @@ before = record {
   leaves = λ t h left. refl;
   exact = λ t h left. none_home t h;
   fresh = λ x h taken left here. absurd (none_fresh x taken here);
-  live = λ t h left. omega (arith, (two_taken t h).1);
+  cycle_fits = λ t h left. omega (arith, (two_taken t h).1);
 }
 
 -- the other entries stay

@@ -114,4 +114,4 @@ pub record OneCopy (n : Numbers) (l : Layout) : Type 0 where
   pub exact : (t : ℕ) → t < tablets_of n → l.leaving t ≢ 0 → home_words n l t ≡ l.filled t
   pub fresh : (x : ℕ) → x < entries_of n → (l.slot x).taken ≡ true → l.leaving (tablet_of_entry n x) ≢ 0 →
       (l.slot x).region ≡ l.home (tablet_of_entry n x) → (l.slot x).epoch ≡ l.cycle
-  pub live : (t : ℕ) → t < tablets_of n → l.leaving t ≢ 0 → cycle_words n l t ≤ n.words
+  pub cycle_fits : (t : ℕ) → t < tablets_of n → l.leaving t ≢ 0 → cycle_words n l t ≤ n.words

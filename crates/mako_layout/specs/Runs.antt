@@ -14,7 +14,7 @@ use Rattle.mako_model.specs.declared.point.Point.{Point}
 use Rattle.mako_model.specs.declared.point.Point.TheVariants.{Did}
 use Rattle.mako_model.specs.Heaps.{fields_of, root_of}
 use Rattle.mako_model.specs.Legal.{Facts, state_of}
-use Rattle.mako_model.specs.Starved.{words_made}
+use Rattle.mako_model.specs.Starved.{words_made, words_by}
 use Rattle.mako_gate.specs.Changes.{Sets}
 use Rattle.mako_gate.specs.Standings.{GateFacet}
 use Rattle.mako_layout.specs.Facets.{idle, uses, counts}
@@ -22,6 +22,7 @@ use Rattle.mako_layout.specs.Evacuations.{name_of, State, layout, Seat, Evacuati
 use Rattle.mako_layout.specs.StepParts.{new_entry}
 use Rattle.mako_layout.specs.Steps.{Step}
 use Rattle.mako_layout.specs.Openings.{opening_state}
+use Rattle.mako_model.specs.Lawful.{heap_after}
 
 -- the states after any steps of any seats
 pub data Reaches (n : Numbers) (board : ℕ) : State → Type 0 where
@@ -54,11 +55,20 @@ NewIsPublished = (n : Numbers) → IsShape n → (s : State) → Evacuation n s 
 
 -- a field is stored, and the point that put it there enters the history
 abbrev pub PutIsStored : Type 0
-PutIsStored = (n : Numbers) (s : State) → Evacuation n s → (w : Facts) (history : List Point) →
-    s.heap ≡ state_of w history → (i : ℕ) (g : GateFacet) (x r o m to field from : ℕ) (v : Value) (V : Place → ℕ) →
-    Seat s i g (uses x r o) →
+PutIsStored = (n : Numbers) (s : State) → Evacuation n s → (w : Facts) (history : List Point) → IsOfHistory w history s →
+    (i : ℕ) (g : GateFacet) (x r o m to field from : ℕ) (v : Value) (V : Place → ℕ) → Seat s i g (uses x r o) →
     let name : Name = name_of x (s.words (entry x)) in
+    let after : List Point = history ++ Did m (Put to field from) Done ∷ [] in
     (fields : List Value) → fields_of (state_of w history) name ≡ Some fields → field < length fields →
     root_of (state_of w history) m to ≡ Some (Ref name) → root_of (state_of w history) m from ≡ Some v →
     Sets n s.words V (region_word r (o + (1 + field))) (value_word v) →
-    Evacuation n (record s { words = V; heap = state_of w (history ++ Did m (Put to field from) Done ∷ []) })
+    Evacuation n (record s { words = V; heap = state_of w after; made = λ t. words_made w t after })
+
+-- a point that changes no object's fields and makes no object enters the history
+abbrev pub OthersEnter : Type 0
+OthersEnter = (n : Numbers) (s : State) → Evacuation n s → (w : Facts) (history : List Point) → IsOfHistory w history s →
+    (point : Point) →
+    ((name : Name) → fields_of (heap_after (state_of w history) point) name ≡ fields_of (state_of w history) name) →
+    ((t : ℕ) → words_by w t point ≡ 0) →
+    let after : List Point = history ++ point ∷ [] in
+    Evacuation n (record s { heap = state_of w after; made = λ t. words_made w t after })

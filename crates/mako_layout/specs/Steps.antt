@@ -156,8 +156,9 @@ pub data Step (n : Numbers) (s : State) : ℕ → State → Type 0 where
   alter_entry : (i : ℕ) (V : Place → ℕ) (x : ℕ) (after : EntryWord) → AltersEntry n s V after x →
       Step n s i (record s { words = V })
   -- ---- any other word, and any other change of the heap
-  outside : (i : ℕ) (V : Place → ℕ) (h : Heap) → LeavesLayout n s.words V → LeavesGates n s.words V →
-      ((name : Name) → fields_of h name ≡ fields_of s.heap name) → Step n s i (record s { words = V; heap = h })
+  outside : (i : ℕ) (V : Place → ℕ) (h : Heap) (d : ℕ → ℕ) → LeavesLayout n s.words V → LeavesGates n s.words V →
+      ((name : Name) → fields_of h name ≡ fields_of s.heap name) → ((t : ℕ) → d t ≡ s.made t) →
+      Step n s i (record s { words = V; heap = h; made = d })
 
 -- each kind of step keeps the invariant
 abbrev pub EachStepKeeps : Type 0

@@ -5,7 +5,7 @@ ghost use Rattle.mako_layout.specs.Claims.{PutKeeps, AlterKeeps, ChooseKeeps, Cl
 ghost use Rattle.mako_layout.specs.Conclusions.{ServersCopyAlone, OneWriter, UsedIsPresent, ReadIsPresent, EachHasItsRecord, RecordsAreApart, AllAreHomeAtRest, BegunCopiesFit, WhatIsLeftFits, ClearedTopsAreExact, UsedIsMade};
 ghost use Rattle.mako_layout.specs.Frames.{PlacesAreApart};
 ghost use Rattle.mako_layout.specs.Openings.{OpeningHolds};
-ghost use Rattle.mako_layout.specs.Runs.{AllReachedHold, NewIsPublished, PutIsStored};
+ghost use Rattle.mako_layout.specs.Runs.{AllReachedHold, NewIsPublished, PutIsStored, OthersEnter};
 ghost use Rattle.mako_layout.specs.Steps.{EachStepKeeps};
 
 /// Each kind of change of a layout keeps one copy: a record that comes to stand in a home, an entry that is freed or
@@ -49,10 +49,12 @@ pub fn reached_hold()
     ensures { AllReachedHold }
 {}
 
-/// Where a new object's entry, and where a field is stored, the invariant holds with the point in the history.
+/// Where a new object's entry, and where a field is stored, the invariant holds with the point in the history; and
+/// so it does with any other point, which changes no object.
 pub fn points_enter()
     ensures new { NewIsPublished }
     ensures put { PutIsStored }
+    ensures others { OthersEnter }
 {}
 
 /// A server that copies a tablet's records is alone there, and one view at most writes records of a tablet.
