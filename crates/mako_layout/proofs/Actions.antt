@@ -63,6 +63,7 @@ effect n s _ _ e (step.store_field V h i x r o j v g fields seat were less sets 
     (inr (object.below n s e i g seat.gate x r o j v V h seat.work fields were less sets are others))
 effect n s who _ e (step.forget _ _ _ _ _) = same n s who
 effect n s who _ e (step.keep_home _ _ _ _ _ _ _ _) = same n s who
+effect n s who _ e (step.turns_to _ _ _ _ _ _ _ _) = same n s who
 effect n s who _ e (step.finds_home _ _ _ _ _ _ _ _ _ _ _) = same n s who
 effect n s who _ e (step.finds_away _ _ _ _ _ _ _ _ _ _ _ _) = same n s who
 effect n s who _ e (step.load_top _ _ _ _ _) = same n s who

@@ -5,7 +5,7 @@ use Rattle.mako_layout.proofs.Sums.{sum_below_both, over_le, counted_cases}
 use Rattle.std.proofs.Common.{◌≡◌, ℕ, ◌+◌, ◌-◌, ◌*◌, ◌<◌, ◌≤◌, inl, inr, sym, ap, ◌∙◌, refl, subst, arith, Bool, true, false, cond, ◌&&◌, ◌==◌, eq-eqb}
 use Rattle.std.proofs.lemmas.Nat.{mul-le}
 use Rattle.std.proofs.lemmas.Bool.{cases_eq, cases_lt}
-use Rattle.mako_shape.specs.Places.{region_word, index}
+use Rattle.mako_shape.specs.Places.{region_word, index, leaving}
 use Rattle.mako_shape.specs.Belongings.{tablet_of_entry}
 use Rattle.mako_shape.proofs.BelongingLaws.{belongings_in_range, region_word-index}
 use Rattle.mako_layout.specs.Layouts.{Layout, part_in, part_of_cycle}
@@ -13,7 +13,7 @@ use Rattle.mako_layout.specs.Facets.{reads, uses, holds_home, fills}
 use Rattle.mako_layout.specs.Evacuations.{layout}
 use Rattle.mako_layout.specs.Beside.{entry_of}
 use Rattle.mako_layout.proofs.Passing.{passed_all}
-use Rattle.mako_layout.specs.Conclusions.{ServersCopyAlone, OneWriter, UsedIsPresent, ReadIsPresent, EachHasItsRecord, RecordsAreApart, BegunCopiesFit, ClearedTopsAreExact, part_to_come, WhatIsLeftFits, UsedIsMade, AllAreHomeAtRest}
+use Rattle.mako_layout.specs.Conclusions.{ServersCopyAlone, OneWriter, UsedIsPresent, ReadIsPresent, EachHasItsRecord, RecordsAreApart, BegunCopiesFit, ClearedTopsAreExact, part_to_come, WhatIsLeftFits, UsedIsMade, AllAreHomeAtRest, WritersMayWrite}
 use Rattle.mako_layout.proofs.Roles.{copy_fits, part_le}
 use Rattle.mako_layout.proofs.Besides.{writing}
 use Rattle.mako_layout.proofs.Frames.{record_within}
@@ -147,7 +147,16 @@ pub used_is_made : UsedIsMade
 used_is_made n s e t h = let a = e.copy.made_in t h in let b = e.even t h in omega arith
 
 pub all_are_home_at_rest : AllAreHomeAtRest
-all_are_home_at_rest n s e spare is x h taken = elim (e.copy.whole x h taken) [
-  | inl i ↦ i
-  | inr g ↦ absurd (let a = none_given n s spare is (tablet_of_entry n x) in let b = g.region in omega arith)
-]
+all_are_home_at_rest n s e spare is = record {
+  leavings = λ t h. elim (cases_eq (s.words (leaving t)) 0) [
+    | inl none ↦ none
+    | inr left ↦ e.copy.leaves t h left ∙ none_given n s spare is t
+  ];
+  records = λ x h taken. elim (e.copy.whole x h taken) [
+    | inl i ↦ i
+    | inr g ↦ absurd (let a = none_given n s spare is (tablet_of_entry n x) in let b = g.region in omega arith)
+  ];
+}
+
+pub writers_may_write : WritersMayWrite
+writers_may_write n s e i g w seat is = writing n (layout n s) s.words g w (e.knows i g w seat.gate seat.work) is

@@ -62,6 +62,8 @@ each_step_keeps n shape s _ _ e (step.load_home i x r o g seat found) = load.loa
 each_step_keeps n shape s _ _ e (step.forget i g w seat owes) = load.forget n s e i g seat.gate w seat.work owes
 each_step_keeps n shape s _ _ e (step.keep_home i x g w seat owes inside_ there) = load.keep_home n s e i g seat.gate
     w x seat.work owes inside_ there
+each_step_keeps n shape s _ _ e (step.turns_to i x y r g seat inside_ same) =
+    load.turns_to n s e i g seat.gate x y r seat.work inside_ same
 each_step_keeps n shape s _ _ e (step.finds_home i x y r g seat inside_ same enters taken here) = load.finds_home n s
     e i g seat.gate x y r seat.work inside_ same enters taken here
 each_step_keeps n shape s _ _ e (step.finds_away i x y r g seat inside_ same writer taken epoch out) = load.finds_away

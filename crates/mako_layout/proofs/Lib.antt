@@ -23,4 +23,4 @@ pub mod Conclusions
 pub mod Opens
 pub mod Runs
 pub mod Actions
-mod Worked
+pub mod Worked

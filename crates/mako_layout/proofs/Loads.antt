@@ -58,6 +58,18 @@ module _ (n : Numbers) (s : State) (e : Evacuation n s) (i : ℕ) (g : GateFacet
           region = sym (home_is n s e i g at_g (tablet_of_entry n x) there);
         })
 
+    -- with another entry of the tablet in view
+    pub turns_to : (x y r : ℕ) → slice_get s.works i ≡ Some (holds_home x r) → y < entries_of n →
+        tablet_of_entry n y ≡ tablet_of_entry n x → Evacuation n (record s { works = set s.works i (holds_home y r) })
+    turns_to x y r at inside same =
+        let k = e.knows i g (holds_home x r) at_g at in
+        load_kept n s e i g (holds_home x r) at_g at (holds_home y r) (record { raise = λ t. refl; count = λ t. refl })
+        (record {
+          inside = inside;
+          stands_there = subst (λ q. 1 ≤ stands q g) (sym same) k.stands_there;
+          region = k.region ∙ ap (layout n s).home (sym same);
+        })
+
     -- an entry of the tablet is loaded under the kept home: it is in it, or a writer is to move it, or it is passed
     -- over
     pub finds_home : (x y r : ℕ) → slice_get s.works i ≡ Some (holds_home x r) → y < entries_of n →

@@ -6,7 +6,7 @@ use Rattle.mako_shape.specs.Places.{entry, home, top, leaving, region_word, inde
 use Rattle.mako_shape.specs.Belongings.{tablet_of_entry}
 use Rattle.mako_gate.specs.Changes.{tablets_of}
 use Rattle.mako_gate.specs.Sums.{counted}
-use Rattle.mako_gate.specs.Standings.{has_drained, GateFacet, admitted, drained_by, shutter_at}
+use Rattle.mako_gate.specs.Standings.{has_drained, GateFacet, admitted, drained_by, shutter_at, writes}
 use Rattle.mako_layout.specs.Sums.{over_tablet}
 use Rattle.mako_layout.specs.Layouts.{entries_of, home_words, cycle_words, Slot, Layout, InHome}
 use Rattle.mako_layout.specs.Facets.{Work, reads, uses, holds_home, fills, rests_with}
@@ -24,6 +24,11 @@ address_of s x = (entry_at (s.words (entry x))).address
 abbrev pub ServersCopyAlone : Type 0
 ServersCopyAlone = (n : Numbers) (s : State) → Evacuation n s → (t i j : ℕ) (f g : GateFacet) → t < tablets_of n →
     slice_get s.gates i ≡ Some f → slice_get s.gates j ≡ Some g → 1 ≤ drained_by t f.watch → admitted t g.standing ≡ 0
+
+-- a view that writes records of a tablet holds its turn, or has drained its gate
+abbrev pub WritersMayWrite : Type 0
+WritersMayWrite = (n : Numbers) (s : State) → Evacuation n s → (i : ℕ) (g : GateFacet) (w : Work) → Seat s i g w →
+    IsWriting w → 1 ≤ writes (tablet_of_entry n (entry_of w)) g
 
 -- two views that write records of one tablet are one view
 abbrev pub OneWriter : Type 0
@@ -62,10 +67,16 @@ RecordsAreApart = (n : Numbers) (s : State) → Evacuation n s → (x y : ℕ) �
     (address_of s x + (slot_at n s x).size ≤ address_of s y)
     ⊎ (address_of s y + (slot_at n s y).size ≤ address_of s x)
 
--- while the collector has chosen nothing, each record lies in its tablet's home
+-- no tablet leaves a region, and each record lies in its tablet's home
+pub record AreHome (n : Numbers) (s : State) : Type 0 where
+  pub leavings : (t : ℕ) → t < tablets_of n → s.words (leaving t) ≡ 0
+  pub records : (x : ℕ) → x < entries_of n → IsTaken n s x →
+      InHome (layout n s) (tablet_of_entry n x) (slot_at n s x)
+
+-- so it is while the collector has chosen nothing
 abbrev pub AllAreHomeAtRest : Type 0
 AllAreHomeAtRest = (n : Numbers) (s : State) → Evacuation n s → (spare : List ℕ) → s.choice ≡ rests_with spare →
-    (x : ℕ) → x < entries_of n → IsTaken n s x → InHome (layout n s) (tablet_of_entry n x) (slot_at n s x)
+    AreHome n s
 
 -- ---- room
 

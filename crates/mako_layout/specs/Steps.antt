@@ -60,10 +60,12 @@ pub data Step (n : Numbers) (s : State) : ℕ → State → Type 0 where
   -- a view lets go of what it has in hand
   forget : (i : ℕ) (g : GateFacet) (w : Work) → Seat s i g w → OwesNothing n w → Step n s i (at_work s s.words i idle)
   -- ---- a copy, by a mutator that holds the turn or by a server
-  -- the home word is loaded; then an entry of the tablet, with its record in that home, or of the cycle outside of it
+  -- the home word is loaded; entries of the tablet follow, with a record in that home, or of the cycle outside of it
   keep_home : (i x : ℕ) (g : GateFacet) (w : Work) → Seat s i g w → OwesNothing n w → x < entries_of n →
       1 ≤ stands (tablet_of_entry n x) g →
       Step n s i (at_work s s.words i (holds_home x (s.words (home (tablet_of_entry n x)))))
+  turns_to : (i x y r : ℕ) (g : GateFacet) → Seat s i g (holds_home x r) → y < entries_of n →
+      tablet_of_entry n y ≡ tablet_of_entry n x → Step n s i (at_work s s.words i (holds_home y r))
   finds_home : (i x y r : ℕ) (g : GateFacet) → Seat s i g (holds_home x r) → y < entries_of n →
       tablet_of_entry n y ≡ tablet_of_entry n x → 1 ≤ admitted (tablet_of_entry n y) g.standing →
       IsTaken n s y → (slot_at n s y).region ≡ r → Step n s i (at_work s s.words i (uses y r (slot_at n s y).offset))

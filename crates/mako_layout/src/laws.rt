@@ -2,7 +2,7 @@
 
 ghost use Rattle.mako_layout.specs.Actions.{HomesChangeInPauses, FreeWordsAreTheWriters};
 ghost use Rattle.mako_layout.specs.Claims.{PutKeeps, AlterKeeps, ChooseKeeps, ClearKeeps, FinishKeeps, CycleKeeps, SameKeeps, CopyFits, AllMoved, FreeAbove};
-ghost use Rattle.mako_layout.specs.Conclusions.{ServersCopyAlone, OneWriter, UsedIsPresent, ReadIsPresent, EachHasItsRecord, RecordsAreApart, AllAreHomeAtRest, BegunCopiesFit, WhatIsLeftFits, ClearedTopsAreExact, UsedIsMade};
+ghost use Rattle.mako_layout.specs.Conclusions.{ServersCopyAlone, WritersMayWrite, OneWriter, UsedIsPresent, ReadIsPresent, EachHasItsRecord, RecordsAreApart, AllAreHomeAtRest, BegunCopiesFit, WhatIsLeftFits, ClearedTopsAreExact, UsedIsMade};
 ghost use Rattle.mako_layout.specs.Frames.{PlacesAreApart};
 ghost use Rattle.mako_layout.specs.Openings.{OpeningHolds};
 ghost use Rattle.mako_layout.specs.Runs.{AllReachedHold, NewIsPublished, PutIsStored, OthersEnter};
@@ -57,9 +57,11 @@ pub fn points_enter()
     ensures others { OthersEnter }
 {}
 
-/// A server that copies a tablet's records is alone there, and one view at most writes records of a tablet.
+/// A server that copies a tablet's records is alone there; who writes records of a tablet holds its turn or has
+/// drained its gate; and it is one view at most.
 pub fn writers_tell()
     ensures alone { ServersCopyAlone }
+    ensures may { WritersMayWrite }
     ensures one { OneWriter }
 {}
 
