@@ -66,14 +66,14 @@ effect n s who _ e (step.keep_home _ _ _ _ _ _ _ _) = same n s who
 effect n s who _ e (step.turns_to _ _ _ _ _ _ _ _) = same n s who
 effect n s who _ e (step.finds_home _ _ _ _ _ _ _ _ _ _ _) = same n s who
 effect n s who _ e (step.finds_away _ _ _ _ _ _ _ _ _ _ _ _) = same n s who
-effect n s who _ e (step.load_top _ _ _ _ _) = same n s who
-effect n s who _ e (step.load_word _ _ _ _ _ _ _ _) = same n s who
-effect n s _ _ e (step.store_word V i x r o j v g seat sets) =
-    let k = (e.knows i g (carries x r o j v) seat.gate seat.work).fills in
+effect n s who _ e (step.load_top _ _ _ _ _ _) = same n s who
+effect n s who _ e (step.load_word _ _ _ _ _ _ _ _ _) = same n s who
+effect n s _ _ e (step.store_word V i x found r o j v g seat sets) =
+    let k = (e.knows i g (carries x found r o j v) seat.gate seat.work).fills in
     in_home (tablet_of_entry n x) (o + j) _ (belongings_in_range.entry n x k.inside)
     (subst (λ q. Sets n s.words V (region_word q (o + j)) v) k.kept.region sets)
     (inl (record { view = g; here = seat.gate; may = k.writer }))
-effect n s who _ e (step.store_moved V _ _ _ _ _ _ sets) = aside n s who V _ _ sets tt
+effect n s who _ e (step.store_moved V _ _ _ _ _ _ _ sets) = aside n s who V _ _ sets tt
 effect n s who _ e (step.raise_and_use V _ _ _ _ _ _ _ _ sets) = aside n s who V _ _ sets tt
 effect n s who _ e (step.raise_and_go_on V _ _ _ _ _ _ _ sets) = aside n s who V _ _ sets tt
 effect n s who _ e (step.load_leaving _ _ _ _ _ _ _) = same n s who

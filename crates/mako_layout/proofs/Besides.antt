@@ -5,11 +5,12 @@ use Rattle.mako_shape.specs.Places.{Place, region_word}
 use Rattle.mako_shape.specs.Belongings.{tablet_of_entry}
 use Rattle.mako_layout.specs.Layouts.{Slot, Layout, entries_of, OneCopy}
 use Rattle.mako_layout.specs.Facets.{Work, idle, reads, uses, holds_home, moves, asks, tops, finds, fills, carries, raises, makes, counts}
-use Rattle.mako_layout.specs.Evacuations.{Kept, Reads, Uses, Moves, Asks, Tops, Fills, Carries, Raises, Makes, Knows}
+use Rattle.mako_layout.specs.Evacuations.{Kept, Reads, Uses, Moves, Asks, Tops, Fills, Carries, Raises, Makes, Knows, IsAsFound}
 use Rattle.mako_layout.specs.Beside.{entry_of, IsWriting, MindsEntry, Quiet, BesideWork, Beside}
 use Rattle.mako_layout.proofs.Roles.{copy_fits}
 use Rattle.mako_gate.specs.Standings.{GateFacet, writes}
 use Rattle.mako_words.specs.declared.name.Name.{Name}
+use Rattle.mako_words.specs.declared.entry_word.EntryWord.{EntryWord}
 
 module _ (n : Numbers) (l m : Layout) (one : OneCopy n l) (W V : Place → ℕ) (g : GateFacet) where
   reads_kept : (x r o : ℕ) → BesideWork n l m W V (reads x r o) x → Reads n l g x r o → Reads n m g x r o
@@ -50,8 +51,9 @@ module _ (n : Numbers) (l m : Layout) (one : OneCopy n l) (W V : Place → ℕ) 
       ∙ u.behind (l.slot x).region ((l.slot x).offset + i)
       (record { taken = taken; region = refl; low = omega arith; high = omega arith }) out
 
-  fills_kept : (x r o j : ℕ) → BesideWork n l m W V (fills x r o j) x → Fills n l W g x r o j → Fills n m V g x r o j
-  fills_kept x r o j b k =
+  fills_kept : (x : ℕ) (found : EntryWord) (r o j : ℕ) → BesideWork n l m W V (fills x found r o j) x →
+      Fills n l W g x found r o j → Fills n m V g x found r o j
+  fills_kept x found r o j b k =
       let u = b.writer tt in
       let out : (l.slot x).region ≢ l.home (tablet_of_entry n x) = λ e. k.out (e ∙ sym k.kept.region) in
       let fit = copy_fits n l one x k.inside k.taken k.epoch out in
@@ -62,6 +64,7 @@ module _ (n : Numbers) (l m : Layout) (one : OneCopy n l) (W V : Place → ℕ) 
         taken = ap (λ (s : Slot). s.taken) (b.slot tt) ∙ k.taken;
         epoch = ap (λ (s : Slot). s.epoch) (b.slot tt) ∙ k.epoch ∙ sym (b.cycle tt);
         out = λ e. k.out (ap (λ (s : Slot). s.region) (sym (b.slot tt)) ∙ e);
+        as_found = subst (λ (q : Slot). IsAsFound n q found) (sym (b.slot tt)) k.as_found;
         most = omega (arith, k.most, ap (λ (s : Slot). s.size) (b.slot tt));
         words = λ i h.
             stored_stays x r o i k.kept u (omega (arith, k.most, k.kept.offset))
@@ -69,12 +72,12 @@ module _ (n : Numbers) (l m : Layout) (one : OneCopy n l) (W V : Place → ℕ) 
             ∙ sym (source_stays x i k.taken out (omega (arith, k.most)) u (b.slot tt));
       }
 
-  carries_kept : (x r o j v : ℕ) → BesideWork n l m W V (carries x r o j v) x → Carries n l W g x r o j v →
-      Carries n m V g x r o j v
-  carries_kept x r o j v b k =
+  carries_kept : (x : ℕ) (found : EntryWord) (r o j v : ℕ) → BesideWork n l m W V (carries x found r o j v) x →
+      Carries n l W g x found r o j v → Carries n m V g x found r o j v
+  carries_kept x found r o j v b k =
       let u = b.writer tt in
       record {
-        fills = fills_kept x r o j
+        fills = fills_kept x found r o j
             (record {
               cycle = b.cycle;
               home = b.home;
@@ -122,8 +125,9 @@ module _ (n : Numbers) (l m : Layout) (one : OneCopy n l) (W V : Place → ℕ) 
         words = λ i h. stored_stays name.entry r o i k.kept u (omega (arith, k.most, k.fits)) ∙ k.words i h;
       }
 
-  moves_kept : (x r : ℕ) → BesideWork n l m W V (moves x r) x → Moves n l g x r → Moves n m g x r
-  moves_kept x r b k =
+  moves_kept : (x : ℕ) (found : EntryWord) (r : ℕ) → BesideWork n l m W V (moves x found r) x → Moves n l g x found r →
+      Moves n m g x found r
+  moves_kept x found r b k =
       let u = b.writer tt in
       record {
         inside = k.inside;
@@ -132,6 +136,7 @@ module _ (n : Numbers) (l m : Layout) (one : OneCopy n l) (W V : Place → ℕ) 
         taken = ap (λ (s : Slot). s.taken) (b.slot tt) ∙ k.taken;
         epoch = ap (λ (s : Slot). s.epoch) (b.slot tt) ∙ k.epoch ∙ sym (b.cycle tt);
         out = λ e. k.out (ap (λ (s : Slot). s.region) (sym (b.slot tt)) ∙ e);
+        as_found = subst (λ (q : Slot). IsAsFound n q found) (sym (b.slot tt)) k.as_found;
       }
 
   asks_kept : (x : ℕ) → Quiet n l m W V x (tablet_of_entry n x) → Asks n l g x → Asks n m g x
@@ -156,7 +161,7 @@ module _ (n : Numbers) (l m : Layout) (one : OneCopy n l) (W V : Place → ℕ) 
     stands_there = k.stands_there;
     region = k.region ∙ sym (b k.inside k).home;
   }
-  work_knows_kept (moves x r) b k = moves_kept x r (b k.inside k) k
+  work_knows_kept (moves x found r) b k = moves_kept x found r (b k.inside k) k
   work_knows_kept (asks x) b k = asks_kept x ((b k.inside k).writer tt) k
   work_knows_kept (tops x o z) b k = tops_kept x o z ((b k.asks.inside k).writer tt) k
   work_knows_kept (finds name o z) b k = record {
@@ -164,8 +169,8 @@ module _ (n : Numbers) (l m : Layout) (one : OneCopy n l) (W V : Place → ℕ) 
     free = ap (λ (s : Slot). s.taken) ((b k.tops.asks.inside k).slot tt) ∙ k.free;
     generation = ap (λ (s : Slot). s.generation) ((b k.tops.asks.inside k).slot tt) ∙ k.generation;
   }
-  work_knows_kept (fills x r o j) b k = fills_kept x r o j (b k.inside k) k
-  work_knows_kept (carries x r o j v) b k = carries_kept x r o j v (b k.fills.inside k) k
+  work_knows_kept (fills x found r o j) b k = fills_kept x found r o j (b k.inside k) k
+  work_knows_kept (carries x found r o j v) b k = carries_kept x found r o j v (b k.fills.inside k) k
   work_knows_kept (raises x r o z) b k = raises_kept x r o z (b k.inside k) k
   work_knows_kept (makes name r o z j) b k = makes_kept name r o z j (b k.inside k) k
   work_knows_kept (counts name r o z) b k = record {
@@ -188,12 +193,12 @@ writing n l W g idle k is = absurd is
 writing n l W g (reads x r o) k is = absurd is
 writing n l W g (uses x r o) k is = absurd is
 writing n l W g (holds_home x r) k is = absurd is
-writing n l W g (moves x r) k is = k.writer
+writing n l W g (moves x found r) k is = k.writer
 writing n l W g (asks x) k is = omega (arith, k.turn)
 writing n l W g (tops x o z) k is = omega (arith, k.asks.turn)
 writing n l W g (finds x o z) k is = omega (arith, k.tops.asks.turn)
-writing n l W g (fills x r o j) k is = k.writer
-writing n l W g (carries x r o j v) k is = k.fills.writer
+writing n l W g (fills x found r o j) k is = k.writer
+writing n l W g (carries x found r o j v) k is = k.fills.writer
 writing n l W g (raises x r o z) k is = k.writer
 writing n l W g (makes x r o z j) k is = omega (arith, k.turn)
 writing n l W g (counts x r o z) k is = omega (arith, k.makes.turn)

@@ -13,7 +13,7 @@ use Rattle.mako_layout.specs.Facets.{reads, uses, holds_home, fills}
 use Rattle.mako_layout.specs.Evacuations.{layout}
 use Rattle.mako_layout.specs.Beside.{entry_of}
 use Rattle.mako_layout.proofs.Passing.{passed_all}
-use Rattle.mako_layout.specs.Conclusions.{ServersCopyAlone, OneWriter, UsedIsPresent, ReadIsPresent, EachHasItsRecord, RecordsAreApart, BegunCopiesFit, ClearedTopsAreExact, part_to_come, WhatIsLeftFits, UsedIsMade, AllAreHomeAtRest, WritersMayWrite}
+use Rattle.mako_layout.specs.Conclusions.{ServersCopyAlone, OneWriter, UsedIsPresent, ReadIsPresent, EachHasItsRecord, RecordsAreApart, BegunCopiesFit, ClearedTopsAreExact, part_to_come, WhatIsLeftFits, UsedIsMade, AllAreHomeAtRest, WritersMayWrite, FoundIsPresent}
 use Rattle.mako_layout.proofs.Roles.{copy_fits, part_le}
 use Rattle.mako_layout.proofs.Besides.{writing}
 use Rattle.mako_layout.proofs.Frames.{record_within}
@@ -98,8 +98,8 @@ records_are_apart n s e x y hx hy ne tx ty =
     ]
 
 pub begun_copies_fit : BegunCopiesFit
-begun_copies_fit n s e i x r o j g seat =
-    let k = e.knows i g (fills x r o j) seat.gate seat.work in
+begun_copies_fit n s e i x found r o j g seat =
+    let k = e.knows i g (fills x found r o j) seat.gate seat.work in
     let fit = copy_fits n (layout n s) e.copy x k.inside k.taken k.epoch (λ c. k.out (c ∙ sym k.kept.region)) in
     omega (arith, k.kept.offset)
 
@@ -160,3 +160,14 @@ all_are_home_at_rest n s e spare is = record {
 
 pub writers_may_write : WritersMayWrite
 writers_may_write n s e i g w seat is = writing n (layout n s) s.words g w (e.knows i g w seat.gate seat.work) is
+
+pub found_is_present : FoundIsPresent
+found_is_present n s e i x found r o j g seat =
+    let k = e.knows i g (fills x found r o j) seat.gate seat.work in
+    let address = sym (e.records x k.inside k.taken).address ∙ k.as_found.address in
+    (λ q. record {
+      taken = k.as_found.taken q;
+      generation = k.as_found.generation q;
+      epoch = k.as_found.epoch q;
+      address = address q;
+    })

@@ -68,13 +68,16 @@ each_step_keeps n shape s _ _ e (step.finds_home i x y r g seat inside_ same ent
     e i g seat.gate x y r seat.work inside_ same enters taken here
 each_step_keeps n shape s _ _ e (step.finds_away i x y r g seat inside_ same writer taken epoch out) = load.finds_away
     n s e i g seat.gate x y r seat.work inside_ same writer taken epoch out
-each_step_keeps n shape s _ _ e (step.load_top i x r g seat) = load.load_top n s e i g seat.gate x r seat.work
-each_step_keeps n shape s _ _ e (step.load_word i x r o j g seat more) = work.load_word n s e i g seat.gate x r o j
+each_step_keeps n shape s _ _ e (step.load_top i x found r g seat) = load.load_top n s e i g seat.gate x found r
+    seat.work
+each_step_keeps n shape s _ _ e (step.load_word i x found r o j g seat more) = work.load_word n s e i g seat.gate x
+    found r o j
     seat.work more
-each_step_keeps n shape s _ _ e (step.store_word V i x r o j v g seat sets) = work.store_word n s e i g seat.gate x r
+each_step_keeps n shape s _ _ e (step.store_word V i x found r o j v g seat sets) = work.store_word n s e i g
+    seat.gate x found r
     o j v V seat.work sets
-each_step_keeps n shape s _ _ e (step.store_moved V i x r o g seat sets) = object.store_moved n shape s e i g
-    seat.gate x r o V seat.work sets
+each_step_keeps n shape s _ _ e (step.store_moved V i x found r o g seat sets) = object.store_moved n shape s e i g
+    seat.gate x found r o V seat.work sets
 each_step_keeps n shape s _ _ e (step.raise_and_use V i x r o z g seat enters sets) = load.raise_and_use n s e i g
     seat.gate x r o z V seat.work enters sets
 each_step_keeps n shape s _ _ e (step.raise_and_go_on V i x r o z g seat sets) = load.raise_and_go_on n s e i g

@@ -2,7 +2,7 @@
 use Rattle.std.proofs.Common.{◌≡◌, ◌≢◌, ℕ, ◌+◌, ◌<◌, ◌≤◌, inl, inr, true, false, set, slice_get, Some, sym, ap, ◌∙◌, refl, subst, arith}
 use Rattle.std.proofs.lemmas.Bool.{cases_eq}
 use Rattle.mako_shape.specs.declared.numbers.Numbers.{Numbers}
-use Rattle.mako_shape.specs.Places.{Place, home, top, leaving, region_word}
+use Rattle.mako_shape.specs.Places.{Place, home, top, leaving, region_word, entry}
 use Rattle.mako_shape.specs.Belongings.{tablet_of_entry}
 use Rattle.mako_shape.proofs.BelongingLaws.{belongings_in_range}
 use Rattle.mako_layout.specs.Layouts.{entries_of, regions_of}
@@ -14,6 +14,8 @@ use Rattle.mako_gate.proofs.Numbers.{holds_le, count_at, count_off}
 use Rattle.mako_layout.proofs.Works.{load_kept}
 use Rattle.mako_layout.proofs.Debts.{home_is, filled_is, top_kept}
 use Rattle.mako_words.specs.declared.name.Name.{Name}
+use Rattle.mako_words.specs.declared.entry_word.EntryWord.{EntryWord}
+use Rattle.mako_words.specs.Entries.{entry_at}
 
 module _ (n : Numbers) (s : State) (e : Evacuation n s) (i : ℕ) (g : GateFacet) (at_g : slice_get s.gates i ≡ Some g)
   where
@@ -92,10 +94,12 @@ module _ (n : Numbers) (s : State) (e : Evacuation n s) (i : ℕ) (g : GateFacet
     pub finds_away : (x y r : ℕ) → slice_get s.works i ≡ Some (holds_home x r) → y < entries_of n →
         tablet_of_entry n y ≡ tablet_of_entry n x → 1 ≤ writes (tablet_of_entry n y) g →
         ((layout n s).slot y).taken ≡ true → ((layout n s).slot y).epoch ≡ (layout n s).cycle →
-        ((layout n s).slot y).region ≢ r → Evacuation n (record s { works = set s.works i (moves y r) })
+        ((layout n s).slot y).region ≢ r →
+            Evacuation n (record s { works = set s.works i (moves y (entry_at (s.words (entry y))) r) })
     finds_away x y r at inside same writer taken epoch out =
         let k = e.knows i g (holds_home x r) at_g at in
-        load_kept n s e i g (holds_home x r) at_g at (moves y r) (record { raise = λ t. refl; count = λ t. refl })
+        load_kept n s e i g (holds_home x r) at_g at (moves y (entry_at (s.words (entry y))) r)
+            (record { raise = λ t. refl; count = λ t. refl })
         (record {
           inside = inside;
           writer = writer;
@@ -103,15 +107,17 @@ module _ (n : Numbers) (s : State) (e : Evacuation n s) (i : ℕ) (g : GateFacet
           taken = taken;
           epoch = epoch;
           out = out;
+          as_found = record { taken = refl; generation = refl; epoch = refl;
+              address = (e.records y inside taken).address };
         })
 
     -- the top is loaded, and the copy begins
-    pub load_top : (x r : ℕ) → slice_get s.works i ≡ Some (moves x r) →
-        Evacuation n (record s { works = set s.works i (fills x r (s.words (top (tablet_of_entry n x))) 0) })
-    load_top x r at =
-        let k = e.knows i g (moves x r) at_g at in
+    pub load_top : (x : ℕ) (found : EntryWord) (r : ℕ) → slice_get s.works i ≡ Some (moves x found r) →
+        Evacuation n (record s { works = set s.works i (fills x found r (s.words (top (tablet_of_entry n x))) 0) })
+    load_top x found r at =
+        let k = e.knows i g (moves x found r) at_g at in
         let t : ℕ = tablet_of_entry n x in
-        load_kept n s e i g (moves x r) at_g at (fills x r (s.words (top t)) 0)
+        load_kept n s e i g (moves x found r) at_g at (fills x found r (s.words (top t)) 0)
         (record { raise = λ u. refl; count = λ u. refl })
         (record {
           inside = k.inside;
@@ -119,11 +125,13 @@ module _ (n : Numbers) (s : State) (e : Evacuation n s) (i : ℕ) (g : GateFacet
           kept = record {
             region = k.region;
             offset = sym
-                (filled_is n s e i g at_g (moves x r) at t (belongings_in_range.entry n x k.inside) k.writer refl refl);
+                (filled_is n s e i g at_g (moves x found r) at t (belongings_in_range.entry n x k.inside) k.writer
+                    refl refl);
           };
           taken = k.taken;
           epoch = k.epoch;
           out = k.out;
+          as_found = k.as_found;
           most = omega arith;
           words = λ b less. absurd (omega arith);
         })

@@ -35,15 +35,16 @@ use Rattle.mako_gate.specs.Changes.{Sets}
 module _ (n : Numbers) (shape : IsShape n) (s : State) (e : Evacuation n s) (i : ℕ) (g : GateFacet)
     (at_g : slice_get s.gates i ≡ Some g) where
   -- the record is copied whole: its entry gets the new address
-  pub store_moved : (x r o : ℕ) (V : Place → ℕ) → slice_get s.works i ≡ Some (fills x r o ((layout n s).slot x).size) →
-      Sets n s.words V (entry x) (entry_word (moved_entry (s.words (entry x)) (index n (region_word r o)))) →
+  pub store_moved : (x : ℕ) (found : EntryWord) (r o : ℕ) (V : Place → ℕ) →
+      slice_get s.works i ≡ Some (fills x found r o ((layout n s).slot x).size) →
+      Sets n s.words V (entry x) (entry_word (moved_entry found (index n (region_word r o)))) →
       Evacuation n (record s { words = V; works = set s.works i (raises x r o ((layout n s).slot x).size) })
-  store_moved x r o V at sets =
+  store_moved x found r o V at sets =
       let l : Layout = layout n s in
       let z : ℕ = (l.slot x).size in
-      let w : Work = fills x r o z in
+      let w : Work = fills x found r o z in
       let u : Work = raises x r o z in
-      let k : Fills n l s.words g x r o z = e.knows i g w at_g at in
+      let k : Fills n l s.words g x found r o z = e.knows i g w at_g at in
       let t : ℕ = tablet_of_entry n x in
       let t_in = belongings_in_range.entry n x k.inside in
       let out : (l.slot x).region ≢ l.home t = λ c. k.out (c ∙ sym k.kept.region) in
@@ -51,7 +52,7 @@ module _ (n : Numbers) (shape : IsShape n) (s : State) (e : Evacuation n s) (i :
       let r_in = subst (λ q. q < regions_of n) (sym k.kept.region) (e.copy.home_in t t_in) in
       let rec = e.records x k.inside k.taken in
       let whole = size_is n s.words s.heap x rec in
-      let E : EntryWord = moved_entry (s.words (entry x)) (index n (region_word r o)) in
+      let E : EntryWord = moved_entry found (index n (region_word r o)) in
       let p : Publishes n s V s.heap s.made g w u E x r o z = record {
         inside = k.inside;
         writer = k.writer;
@@ -59,13 +60,14 @@ module _ (n : Numbers) (shape : IsShape n) (s : State) (e : Evacuation n s) (i :
         sets = sets;
         fits_word = record {
           address = address_fits n r o r_in (omega (arith, k.kept.offset)) shape;
-          epoch = epoch_small (s.words (entry x));
-          generation = generation_small (s.words (entry x));
+          epoch = subst (λ q. q < 2 ^ 20) k.as_found.epoch (epoch_small (s.words (entry x)));
+          generation = subst (λ q. q < 2 ^ 20) k.as_found.generation (generation_small (s.words (entry x)));
         };
-        taken = k.taken;
-        epoch = k.epoch;
+        taken = sym k.as_found.taken ∙ k.taken;
+        epoch = sym k.as_found.epoch ∙ k.epoch;
         address = refl;
-        size = refl;
+        size = ap (λ q. length (unwrap_or (fields_of s.heap (record { entry = x; generation = q })) []) + 1)
+            (sym k.as_found.generation);
         some = omega arith;
         fits = omega (arith, k.kept.offset);
         out = λ _. out;
@@ -75,7 +77,8 @@ module _ (n : Numbers) (shape : IsShape n) (s : State) (e : Evacuation n s) (i :
         owes = λ q. omega arith;
         others = λ y _ _. refl;
         fields = rec.fields;
-        fields_are = rec.are;
+        fields_are = ap (λ q. fields_of s.heap (record { entry = x; generation = q })) (sym k.as_found.generation)
+            ∙ rec.are;
         words = λ b less. k.words b (omega arith) ∙ rec.words b less;
       } in
       publish_kept n s e i g w at_g at V s.heap s.made u E x r o z p (record {

@@ -262,14 +262,14 @@ no_writing n l o W f idle k is none taken = is
 no_writing n l o W f (reads x r q) k is none taken = is
 no_writing n l o W f (uses x r q) k is none taken = is
 no_writing n l o W f (holds_home x r) k is none taken = is
-no_writing n l o W f (moves x r) k is none taken = away n l o x k.inside k.taken k.epoch
+no_writing n l o W f (moves x found r) k is none taken = away n l o x k.inside k.taken k.epoch
     (λ c. k.out (c ∙ sym k.region)) none
 no_writing n l o W f (asks x) k is none taken = is
 no_writing n l o W f (tops x q z) k is none taken = is
 no_writing n l o W f (finds name q z) k is none taken = let c = k.free in cc
-no_writing n l o W f (fills x r q j) k is none taken = away n l o x k.inside k.taken k.epoch
+no_writing n l o W f (fills x found r q j) k is none taken = away n l o x k.inside k.taken k.epoch
     (λ c. k.out (c ∙ sym k.kept.region)) none
-no_writing n l o W f (carries x r q j v) k is none taken = away n l o x k.fills.inside k.fills.taken k.fills.epoch
+no_writing n l o W f (carries x found r q j v) k is none taken = away n l o x k.fills.inside k.fills.taken k.fills.epoch
     (λ c. k.fills.out (c ∙ sym k.fills.kept.region)) none
 no_writing n l o W f (raises x r q z) k is none taken = k.left none
 no_writing n l o W f (makes name r q z j) k is none taken = let c = k.free in cc

@@ -21,6 +21,7 @@ use Rattle.mako_layout.proofs.Frames.{table_beside_region, gates_frame, layout_s
 use Rattle.mako_layout.proofs.Stays.{KnownAfter, stays_kept}
 use Rattle.mako_gate.proofs.GatesTell.{gates_tell}
 use Rattle.mako_words.specs.declared.name.Name.{Name}
+use Rattle.mako_words.specs.declared.entry_word.EntryWord.{EntryWord}
 
 same_table : (n : Numbers) (W : Place → ℕ) → SameTable n W W
 same_table n W = record {
@@ -120,25 +121,28 @@ module _ (n : Numbers) (s : State) (e : Evacuation n s) (i : ℕ) (g : GateFacet
 module _ (n : Numbers) (s : State) (e : Evacuation n s) (i : ℕ) (g : GateFacet) (at_g : slice_get s.gates i ≡ Some g)
   where
     -- the next word of the record is loaded
-    pub load_word : (x r o j : ℕ) → slice_get s.works i ≡ Some (fills x r o j) → j < ((layout n s).slot x).size →
+    pub load_word : (x : ℕ) (found : EntryWord) (r o j : ℕ) → slice_get s.works i ≡ Some (fills x found r o j) →
+        j < ((layout n s).slot x).size →
         Evacuation n
         (record s {
           works = set s.works i
-              (carries x r o j (s.words (region_word ((layout n s).slot x).region (((layout n s).slot x).offset + j))));
+              (carries x found r o j
+                  (s.words (region_word ((layout n s).slot x).region (((layout n s).slot x).offset + j))));
         })
-    load_word x r o j at more =
-        load_kept n s e i g (fills x r o j) at_g at
-        (carries x r o j (s.words (region_word ((layout n s).slot x).region (((layout n s).slot x).offset + j))))
+    load_word x found r o j at more =
+        load_kept n s e i g (fills x found r o j) at_g at
+        (carries x found r o j (s.words (region_word ((layout n s).slot x).region (((layout n s).slot x).offset + j))))
         (record { raise = λ t. refl; count = λ t. refl })
-        (record { fills = e.knows i g (fills x r o j) at_g at; more = more; word = refl })
+        (record { fills = e.knows i g (fills x found r o j) at_g at; more = more; word = refl })
 
     -- and stored
-    pub store_word : (x r o j v : ℕ) (V : Place → ℕ) → slice_get s.works i ≡ Some (carries x r o j v) →
+    pub store_word : (x : ℕ) (found : EntryWord) (r o j v : ℕ) (V : Place → ℕ) →
+        slice_get s.works i ≡ Some (carries x found r o j v) →
         Sets n s.words V (region_word r (o + j)) v →
-        Evacuation n (record s { words = V; works = set s.works i (fills x r o (j + 1)) })
-    store_word x r o j v V at sets =
+        Evacuation n (record s { words = V; works = set s.works i (fills x found r o (j + 1)) })
+    store_word x found r o j v V at sets =
         let l : Layout = layout n s in
-        let k : Carries n l s.words g x r o j v = e.knows i g (carries x r o j v) at_g at in
+        let k : Carries n l s.words g x found r o j v = e.knows i g (carries x found r o j v) at_g at in
         let t : ℕ = tablet_of_entry n x in
         let f = k.fills in
         let inside = belongings_in_range.entry n x f.inside in
@@ -150,7 +154,8 @@ module _ (n : Numbers) (s : State) (e : Evacuation n s) (i : ℕ) (g : GateFacet
         λ b less. record_stays n l e.copy s.words V t (o + j) v inside past sets' x (l.slot x).region
         ((l.slot x).offset + b) f.inside
         (record { taken = f.taken; region = refl; low = omega arith; high = omega arith }) in
-        store_kept n s e i g (carries x r o j v) at_g at V (fills x r o (j + 1)) t (o + j) v inside f.writer past sets'
+        store_kept n s e i g (carries x found r o j v) at_g at V (fills x found r o (j + 1)) t (o + j) v inside
+            f.writer past sets'
         (record { raise = λ t. refl; count = λ t. refl })
         (record {
           inside = f.inside;
@@ -159,6 +164,7 @@ module _ (n : Numbers) (s : State) (e : Evacuation n s) (i : ℕ) (g : GateFacet
           taken = f.taken;
           epoch = f.epoch;
           out = f.out;
+          as_found = f.as_found;
           most = omega (arith, k.more);
           words = λ b less. elim (cases_eq b j) [
             | inl same ↦

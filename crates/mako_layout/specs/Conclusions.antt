@@ -13,6 +13,7 @@ use Rattle.mako_layout.specs.Facets.{Work, reads, uses, holds_home, fills, rests
 use Rattle.mako_layout.specs.Evacuations.{to_raise, counted_in, IsRecordOf, State, layout, slot_at, IsTaken, top_of, Seat, Evacuation}
 use Rattle.mako_layout.specs.Beside.{entry_of, IsWriting}
 use Rattle.mako_layout.specs.StepParts.{past_of}
+use Rattle.mako_words.specs.declared.entry_word.EntryWord.{EntryWord}
 
 -- the address in an entry's word
 abbrev pub address_of : State → ℕ → ℕ
@@ -53,6 +54,11 @@ abbrev pub ReadIsPresent : Type 0
 ReadIsPresent = (n : Numbers) (s : State) → Evacuation n s → (i x r o : ℕ) (g : GateFacet) →
     Seat s i g (reads x r o) → r ≡ s.words (home (tablet_of_entry n x)) → IsPresent n s x r o
 
+-- while a record is copied, its entry is as it was found
+abbrev pub FoundIsPresent : Type 0
+FoundIsPresent = (n : Numbers) (s : State) → Evacuation n s → (i x : ℕ) (found : EntryWord) (r o j : ℕ) (g : GateFacet) →
+    Seat s i g (fills x found r o j) → entry_at (s.words (entry x)) ≡ found
+
 -- ---- records
 
 -- each taken entry has its record
@@ -82,8 +88,8 @@ AllAreHomeAtRest = (n : Numbers) (s : State) → Evacuation n s → (spare : Lis
 
 -- a copy that is begun has room
 abbrev pub BegunCopiesFit : Type 0
-BegunCopiesFit = (n : Numbers) (s : State) → Evacuation n s → (i x r o j : ℕ) (g : GateFacet) →
-    Seat s i g (fills x r o j) → o + (slot_at n s x).size ≤ n.words
+BegunCopiesFit = (n : Numbers) (s : State) → Evacuation n s → (i x : ℕ) (found : EntryWord) (r o j : ℕ)
+    (g : GateFacet) → Seat s i g (fills x found r o j) → o + (slot_at n s x).size ≤ n.words
 
 -- the words of a taken record of the cycle that does not lie in the home
 abbrev pub part_to_come : ℕ → ℕ → Slot → ℕ

@@ -119,14 +119,22 @@ pub record HoldsHome (n : Numbers) (l : Layout) (g : GateFacet) (x r : ℕ) : Ty
   pub stands_there : 1 ≤ stands (tablet_of_entry n x) g
   pub region : r ≡ l.home (tablet_of_entry n x)
 
--- it may write, and the entry's record of the cycle lies outside of the home
-pub record Moves (n : Numbers) (l : Layout) (g : GateFacet) (x r : ℕ) : Type 0 where
+-- the slot is that of the entry as it was found
+pub record IsAsFound (n : Numbers) (s : Slot) (found : EntryWord) : Type 0 where
+  pub taken : s.taken ≡ found.taken
+  pub generation : s.generation ≡ found.generation
+  pub epoch : s.epoch ≡ found.epoch
+  pub address : index n (region_word s.region s.offset) ≡ found.address
+
+-- it may write, and the record of the cycle of the entry that it found lies outside of the home
+pub record Moves (n : Numbers) (l : Layout) (g : GateFacet) (x : ℕ) (found : EntryWord) (r : ℕ) : Type 0 where
   pub inside : x < entries_of n
   pub writer : 1 ≤ writes (tablet_of_entry n x) g
   pub region : r ≡ l.home (tablet_of_entry n x)
   pub taken : (l.slot x).taken ≡ true
   pub epoch : (l.slot x).epoch ≡ l.cycle
   pub out : (l.slot x).region ≢ r
+  pub as_found : IsAsFound n (l.slot x) found
 
 -- the place that it keeps is the first free word of the home
 pub record Kept (n : Numbers) (l : Layout) (x r o : ℕ) : Type 0 where
@@ -134,19 +142,22 @@ pub record Kept (n : Numbers) (l : Layout) (x r o : ℕ) : Type 0 where
   pub offset : o ≡ l.filled (tablet_of_entry n x)
 
 -- j words of such a record are copied to the first free word
-pub record Fills (n : Numbers) (l : Layout) (W : Place → ℕ) (g : GateFacet) (x r o j : ℕ) : Type 0 where
+pub record Fills (n : Numbers) (l : Layout) (W : Place → ℕ) (g : GateFacet) (x : ℕ) (found : EntryWord) (r o j : ℕ) :
+    Type 0 where
   pub inside : x < entries_of n
   pub writer : 1 ≤ writes (tablet_of_entry n x) g
   pub kept : Kept n l x r o
   pub taken : (l.slot x).taken ≡ true
   pub epoch : (l.slot x).epoch ≡ l.cycle
   pub out : (l.slot x).region ≢ r
+  pub as_found : IsAsFound n (l.slot x) found
   pub most : j ≤ (l.slot x).size
   pub words : Stand W r o j (λ i. W (region_word (l.slot x).region ((l.slot x).offset + i)))
 
 -- and v is the next
-pub record Carries (n : Numbers) (l : Layout) (W : Place → ℕ) (g : GateFacet) (x r o j v : ℕ) : Type 0 where
-  pub fills : Fills n l W g x r o j
+pub record Carries (n : Numbers) (l : Layout) (W : Place → ℕ) (g : GateFacet) (x : ℕ) (found : EntryWord) (r o j v : ℕ) :
+    Type 0 where
+  pub fills : Fills n l W g x found r o j
   pub more : j < (l.slot x).size
   pub word : v ≡ W (region_word (l.slot x).region ((l.slot x).offset + j))
 
@@ -206,9 +217,9 @@ Knows n l W g idle = Unit {0}
 Knows n l W g (reads x r o) = Reads n l g x r o
 Knows n l W g (uses x r o) = Uses n l g x r o
 Knows n l W g (holds_home x r) = HoldsHome n l g x r
-Knows n l W g (moves x r) = Moves n l g x r
-Knows n l W g (fills x r o j) = Fills n l W g x r o j
-Knows n l W g (carries x r o j v) = Carries n l W g x r o j v
+Knows n l W g (moves x found r) = Moves n l g x found r
+Knows n l W g (fills x found r o j) = Fills n l W g x found r o j
+Knows n l W g (carries x found r o j v) = Carries n l W g x found r o j v
 Knows n l W g (raises x r o z) = Raises n l W g x r o z
 Knows n l W g (asks x) = Asks n l g x
 Knows n l W g (tops x o z) = Tops n l g x o z

@@ -4,6 +4,7 @@ use Rattle.mako_words.specs.declared.name.Name.{Name}
 use Rattle.mako_shape.specs.declared.numbers.Numbers.{Numbers}
 use Rattle.mako_gate.specs.Sums.{counted}
 use Rattle.mako_gate.specs.Standings.{GateFacet, admitted, drained_by, drained_own}
+use Rattle.mako_words.specs.declared.entry_word.EntryWord.{EntryWord}
 
 -- above 0 where the tablet's home cannot change beside the view: it is admitted there, or has drained the gate
 abbrev pub stands : ℕ → GateFacet → ℕ
@@ -18,12 +19,12 @@ pub data Work : Type 0 where
   uses : (entry region offset : ℕ) → Work
   -- it keeps the home of the entry's tablet
   holds_home : (entry home : ℕ) → Work
-  -- as a writer it found the entry's record of the cycle outside of the home
-  moves : (entry home : ℕ) → Work
+  -- as a writer it found the entry so, with its record of the cycle outside of the home
+  moves : (entry : ℕ) → (found : EntryWord) → (home : ℕ) → Work
   -- it copies this record to the first free word of the home
-  fills : (entry home top stored : ℕ) → Work
+  fills : (entry : ℕ) → (found : EntryWord) → (home top stored : ℕ) → Work
   -- it also holds the next word
-  carries : (entry home top stored word : ℕ) → Work
+  carries : (entry : ℕ) → (found : EntryWord) → (home top stored word : ℕ) → Work
   -- the entry names the copy, and the top is still to be raised by its size
   raises : (entry home offset size : ℕ) → Work
   -- it is to make an object, and found the entry's tablet not left

@@ -37,8 +37,8 @@ abbrev pub OwesNothing : Numbers → Work → Type 0
 OwesNothing n w = (t : ℕ) → (to_raise n t w ≡ 0) × (counted_in n t w ≡ 0)
 
 -- an entry with another address
-abbrev pub moved_entry : ℕ → ℕ → EntryWord
-moved_entry w a = record (entry_at w) { address = a }
+abbrev pub moved_entry : EntryWord → (address : ℕ) → EntryWord
+moved_entry found a = record found { address = a }
 
 -- the entry of a new object
 abbrev pub new_entry : Name → (cycle address : ℕ) → EntryWord

@@ -5,7 +5,7 @@ use Rattle.mako_words.specs.declared.value.Value.{Value}
 use Rattle.mako_words.specs.declared.value.Value.TheVariants.{Null}
 use Rattle.mako_words.specs.Values.{value_word}
 use Rattle.mako_words.specs.declared.entry_word.EntryWord.{EntryWord}
-use Rattle.mako_words.specs.Entries.{entry_word}
+use Rattle.mako_words.specs.Entries.{entry_word, entry_at}
 use Rattle.mako_words.specs.Phases.{phase_at, cycle_of}
 use Rattle.mako_shape.specs.declared.numbers.Numbers.{Numbers}
 use Rattle.mako_shape.specs.Limits.{IsShape}
@@ -71,17 +71,21 @@ pub data Step (n : Numbers) (s : State) : ℕ → State → Type 0 where
       IsTaken n s y → (slot_at n s y).region ≡ r → Step n s i (at_work s s.words i (uses y r (slot_at n s y).offset))
   finds_away : (i x y r : ℕ) (g : GateFacet) → Seat s i g (holds_home x r) → y < entries_of n →
       tablet_of_entry n y ≡ tablet_of_entry n x → 1 ≤ writes (tablet_of_entry n y) g →
-      IsTaken n s y → IsOfCycle n s y → (slot_at n s y).region ≢ r → Step n s i (at_work s s.words i (moves y r))
+      IsTaken n s y → IsOfCycle n s y → (slot_at n s y).region ≢ r →
+      Step n s i (at_work s s.words i (moves y (entry_at (s.words (entry y))) r))
   -- the top is loaded; each word of the record is loaded and stored; the entry gets the new address; the top is raised
-  load_top : (i x r : ℕ) (g : GateFacet) → Seat s i g (moves x r) →
-      Step n s i (at_work s s.words i (fills x r (s.words (top (tablet_of_entry n x))) 0))
-  load_word : (i x r o j : ℕ) (g : GateFacet) → Seat s i g (fills x r o j) → j < (slot_at n s x).size →
+  load_top : (i x : ℕ) (found : EntryWord) (r : ℕ) (g : GateFacet) → Seat s i g (moves x found r) →
+      Step n s i (at_work s s.words i (fills x found r (s.words (top (tablet_of_entry n x))) 0))
+  load_word : (i x : ℕ) (found : EntryWord) (r o j : ℕ) (g : GateFacet) → Seat s i g (fills x found r o j) →
+      j < (slot_at n s x).size →
       Step n s i (at_work s s.words i
-      (carries x r o j (s.words (region_word (slot_at n s x).region ((slot_at n s x).offset + j)))))
-  store_word : (V : Place → ℕ) (i x r o j v : ℕ) (g : GateFacet) → Seat s i g (carries x r o j v) →
-      Sets n s.words V (region_word r (o + j)) v → Step n s i (at_work s V i (fills x r o (j + 1)))
-  store_moved : (V : Place → ℕ) (i x r o : ℕ) (g : GateFacet) → Seat s i g (fills x r o (slot_at n s x).size) →
-      Sets n s.words V (entry x) (entry_word (moved_entry (s.words (entry x)) (index n (region_word r o)))) →
+      (carries x found r o j (s.words (region_word (slot_at n s x).region ((slot_at n s x).offset + j)))))
+  store_word : (V : Place → ℕ) (i x : ℕ) (found : EntryWord) (r o j v : ℕ) (g : GateFacet) →
+      Seat s i g (carries x found r o j v) → Sets n s.words V (region_word r (o + j)) v →
+      Step n s i (at_work s V i (fills x found r o (j + 1)))
+  store_moved : (V : Place → ℕ) (i x : ℕ) (found : EntryWord) (r o : ℕ) (g : GateFacet) →
+      Seat s i g (fills x found r o (slot_at n s x).size) →
+      Sets n s.words V (entry x) (entry_word (moved_entry found (index n (region_word r o)))) →
       Step n s i (at_work s V i (raises x r o (slot_at n s x).size))
   raise_and_use : (V : Place → ℕ) (i x r o z : ℕ) (g : GateFacet) → Seat s i g (raises x r o z) →
       1 ≤ admitted (tablet_of_entry n x) g.standing → Sets n s.words V (top (tablet_of_entry n x)) (o + z) →

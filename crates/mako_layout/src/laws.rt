@@ -2,7 +2,7 @@
 
 ghost use Rattle.mako_layout.specs.Actions.{HomesChangeInPauses, FreeWordsAreTheWriters};
 ghost use Rattle.mako_layout.specs.Claims.{PutKeeps, AlterKeeps, ChooseKeeps, ClearKeeps, FinishKeeps, CycleKeeps, SameKeeps, CopyFits, AllMoved, FreeAbove};
-ghost use Rattle.mako_layout.specs.Conclusions.{ServersCopyAlone, WritersMayWrite, OneWriter, UsedIsPresent, ReadIsPresent, EachHasItsRecord, RecordsAreApart, AllAreHomeAtRest, BegunCopiesFit, WhatIsLeftFits, ClearedTopsAreExact, UsedIsMade};
+ghost use Rattle.mako_layout.specs.Conclusions.{ServersCopyAlone, WritersMayWrite, OneWriter, UsedIsPresent, ReadIsPresent, FoundIsPresent, EachHasItsRecord, RecordsAreApart, AllAreHomeAtRest, BegunCopiesFit, WhatIsLeftFits, ClearedTopsAreExact, UsedIsMade};
 ghost use Rattle.mako_layout.specs.Frames.{PlacesAreApart};
 ghost use Rattle.mako_layout.specs.Openings.{OpeningHolds};
 ghost use Rattle.mako_layout.specs.Runs.{AllReachedHold, NewIsPublished, PutIsStored, OthersEnter};
@@ -65,10 +65,12 @@ pub fn writers_tell()
     ensures one { OneWriter }
 {}
 
-/// A view reads and stores at the present address of an entry, in the region that the home word names.
+/// A view reads and stores at the present address of an entry, in the region that the home word names, and the
+/// entry of a record that is copied is as the copy found it.
 pub fn addresses_tell()
     ensures used { UsedIsPresent }
     ensures read { ReadIsPresent }
+    ensures found { FoundIsPresent }
 {}
 
 /// Each taken entry has its record, whose words are the fields of the heap's object; records of two entries share
