@@ -14,7 +14,7 @@ use Rattle.mako_layout.specs.Layouts.{regions_of}
 use Rattle.mako_layout.specs.Evacuations.{slot_of_entry, slot_of}
 
 module _ (n : Numbers) (r o : ℕ) (inside : r < regions_of n) (low : o < n.words) where
-  address_of_place : IsAddress n (index n (region_word r o)) × (region_of_address n (index n (region_word r o)) ≡ r)
+  pub address_of_place : IsAddress n (index n (region_word r o)) × (region_of_address n (index n (region_word r o)) ≡ r)
   address_of_place = let e = addresses_belong.word_after n r o in
       addresses_belong.region_words n r (index n (region_word r o)) inside (omega arith, omega arith)
 

@@ -24,3 +24,4 @@ pub mod Opens
 pub mod Runs
 pub mod Actions
 pub mod Worked
+pub mod Found

@@ -3,6 +3,7 @@
 ghost use Rattle.mako_layout.specs.Actions.{HomesChangeInPauses, FreeWordsAreTheWriters};
 ghost use Rattle.mako_layout.specs.Claims.{PutKeeps, AlterKeeps, ChooseKeeps, ClearKeeps, FinishKeeps, CycleKeeps, SameKeeps, CopyFits, AllMoved, FreeAbove};
 ghost use Rattle.mako_layout.specs.Conclusions.{ServersCopyAlone, WritersMayWrite, OneWriter, UsedIsPresent, ReadIsPresent, FoundIsPresent, EachHasItsRecord, RecordsAreApart, AllAreHomeAtRest, BegunCopiesFit, WhatIsLeftFits, ClearedTopsAreExact, UsedIsMade};
+ghost use Rattle.mako_layout.specs.Found.{GatesAreFound, HomesAreFound, TopsAreFound, AddressesAreFound, RecordsAreFound};
 ghost use Rattle.mako_layout.specs.Frames.{PlacesAreApart};
 ghost use Rattle.mako_layout.specs.Openings.{OpeningHolds};
 ghost use Rattle.mako_layout.specs.Runs.{AllReachedHold, NewIsPublished, PutIsStored, OthersEnter};
@@ -79,6 +80,15 @@ pub fn records_tell()
     ensures each { EachHasItsRecord }
     ensures apart { RecordsAreApart }
     ensures home { AllAreHomeAtRest }
+{}
+
+/// What the words of gates, homes, tops, entries and records are to a view that loads them.
+pub fn words_found_fit()
+    ensures gates { GatesAreFound }
+    ensures homes { HomesAreFound }
+    ensures tops { TopsAreFound }
+    ensures addresses { AddressesAreFound }
+    ensures records { RecordsAreFound }
 {}
 
 /// A copy that is begun has room, and so have all that are to come; the top of a tablet that leaves its region for
