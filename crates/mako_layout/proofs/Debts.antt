@@ -129,10 +129,12 @@ module _ (n : Numbers) (s : State) (e : Evacuation n s) (i : ℕ) (g : GateFacet
           let t0_in : t0 < tablets_of n = belongings_in_range.entry n x inside in
           let other_top : (t : ℕ) → t < tablets_of n → t ≢ t0 → V (top t) ≡ s.words (top t) = λ t h d. sets.others
           (top t) h (λ c. d (let b : t ≡ t0 = cc in b)) in
-          let regions : (r a : ℕ) → r < regions_of n → a < n.words → V (region_word r a) ≡ s.words (region_word r a) = λ r a h k. sets.others (region_word r a) (h, k) (λ c. cc) in
+          let regions : (r a : ℕ) → r < regions_of n → a < n.words → V (region_word r a) ≡ s.words (region_word r a) =
+          λ r a h k. sets.others (region_word r a) (h, k) (λ c. cc) in
           let entries : (y : ℕ) → y < entries_of n → V (entry y) ≡ s.words (entry y) = λ y h. sets.others (entry y) h
           (λ c. cc) in
-          let filled : (t : ℕ) → t < tablets_of n → (layout_of n V s.heap (set s.works i u) s.choice s.made).filled t ≡ (layout n s).filled t = λ t h.
+          let filled : (t : ℕ) → t < tablets_of n → (layout_of n V s.heap (set s.works i u) s.choice s.made).filled t
+          ≡ (layout n s).filled t = λ t h.
           let a = sum_at (to_raise n t) s.works i w u at_w in
           let b = sum_at (counted_in n t) s.works i w u at_w in
           let c = balance t h in

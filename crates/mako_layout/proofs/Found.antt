@@ -20,7 +20,8 @@ use Rattle.mako_layout.proofs.Entries.{address_of_place}
 
 pub gates_are_found : GatesAreFound
 gates_are_found n s e = record {
-  tablets = λ t h. (gate_forms (s.words (tablet_gate t))).1 (gates.below _ _ _ _ _ _ e.gates.many (e.gates.tablets t h));
+  tablets = λ t h. (gate_forms (s.words (tablet_gate t))).1
+      (gates.below _ _ _ _ _ _ e.gates.many (e.gates.tablets t h));
   owns = λ m h. (gate_forms (s.words (mutator_gate m))).1 (gates.below _ _ _ _ _ _ e.gates.many (e.gates.owns m h));
 }
 
@@ -30,7 +31,8 @@ homes_are_found n s e i t g at h there =
 
 pub tops_are_found : TopsAreFound
 tops_are_found n s e i t g w seat h writer owes =
-    subst (λ q. q ≤ n.words) (filled_is n s e i g seat.gate w seat.work t h writer (owes t).0 (owes t).1) (e.copy.within t h)
+    subst (λ q. q ≤ n.words) (filled_is n s e i g seat.gate w seat.work t h writer (owes t).0 (owes t).1)
+    (e.copy.within t h)
 
 pub addresses_are_found : AddressesAreFound
 addresses_are_found n s e x h taken =

@@ -95,11 +95,11 @@ module _ (n : Numbers) (s : State) (e : Evacuation n s) (i : ℕ) (g : GateFacet
         tablet_of_entry n y ≡ tablet_of_entry n x → 1 ≤ writes (tablet_of_entry n y) g →
         ((layout n s).slot y).taken ≡ true → ((layout n s).slot y).epoch ≡ (layout n s).cycle →
         ((layout n s).slot y).region ≢ r →
-            Evacuation n (record s { works = set s.works i (moves y (entry_at (s.words (entry y))) r) })
+        Evacuation n (record s { works = set s.works i (moves y (entry_at (s.words (entry y))) r) })
     finds_away x y r at inside same writer taken epoch out =
         let k = e.knows i g (holds_home x r) at_g at in
         load_kept n s e i g (holds_home x r) at_g at (moves y (entry_at (s.words (entry y))) r)
-            (record { raise = λ t. refl; count = λ t. refl })
+        (record { raise = λ t. refl; count = λ t. refl })
         (record {
           inside = inside;
           writer = writer;
@@ -107,8 +107,12 @@ module _ (n : Numbers) (s : State) (e : Evacuation n s) (i : ℕ) (g : GateFacet
           taken = taken;
           epoch = epoch;
           out = out;
-          as_found = record { taken = refl; generation = refl; epoch = refl;
-              address = (e.records y inside taken).address };
+          as_found = record {
+            taken = refl;
+            generation = refl;
+            epoch = refl;
+            address = (e.records y inside taken).address;
+          };
         })
 
     -- the top is loaded, and the copy begins
@@ -126,7 +130,7 @@ module _ (n : Numbers) (s : State) (e : Evacuation n s) (i : ℕ) (g : GateFacet
             region = k.region;
             offset = sym
                 (filled_is n s e i g at_g (moves x found r) at t (belongings_in_range.entry n x k.inside) k.writer
-                    refl refl);
+                refl refl);
           };
           taken = k.taken;
           epoch = k.epoch;

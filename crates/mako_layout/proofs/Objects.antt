@@ -253,7 +253,8 @@ module _ (n : Numbers) (s : State) (e : Evacuation n s) (i : ℕ) (g : GateFacet
                   ∙ c.address ∙ ap (λ q. (entry_at q).address) (sym es);
               words = λ b small.
                   let inside : b < length fields + 1 = (let a = length-set fields j v in omega arith) in
-                  let place : region_word (slot_of n h y (V (entry y))).region ((slot_of n h y (V (entry y))).offset + b) ≡ region_word r (o + b) =
+                  let place : region_word (slot_of n h y (V (entry y))).region ((slot_of n h y (V (entry y))).offset + b)
+                  ≡ region_word r (o + b) =
                   (λ q. region_word (slot_of n h y (es q)).region ((slot_of n h y (es q)).offset + b))
                   ∙ (λ q. region_word (at_r q) (at_o q + b)) in
                   ap V place ∙ elim (cases_eq b (1 + j)) [

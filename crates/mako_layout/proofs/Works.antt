@@ -127,7 +127,7 @@ module _ (n : Numbers) (s : State) (e : Evacuation n s) (i : ℕ) (g : GateFacet
         (record s {
           works = set s.works i
               (carries x found r o j
-                  (s.words (region_word ((layout n s).slot x).region (((layout n s).slot x).offset + j))));
+              (s.words (region_word ((layout n s).slot x).region (((layout n s).slot x).offset + j))));
         })
     load_word x found r o j at more =
         load_kept n s e i g (fills x found r o j) at_g at
@@ -150,12 +150,13 @@ module _ (n : Numbers) (s : State) (e : Evacuation n s) (i : ℕ) (g : GateFacet
         let out : (l.slot x).region ≢ l.home t = λ c. f.out (c ∙ sym f.kept.region) in
         let fit = copy_fits n l e.copy x f.inside f.taken f.epoch out in
         let past : l.filled t ≤ o + j = omega (arith, f.kept.offset) in
-        let source : (b : ℕ) → b < (l.slot x).size → V (region_word (l.slot x).region ((l.slot x).offset + b)) ≡ s.words (region_word (l.slot x).region ((l.slot x).offset + b)) =
+        let source : (b : ℕ) → b < (l.slot x).size → V (region_word (l.slot x).region ((l.slot x).offset + b))
+        ≡ s.words (region_word (l.slot x).region ((l.slot x).offset + b)) =
         λ b less. record_stays n l e.copy s.words V t (o + j) v inside past sets' x (l.slot x).region
         ((l.slot x).offset + b) f.inside
         (record { taken = f.taken; region = refl; low = omega arith; high = omega arith }) in
         store_kept n s e i g (carries x found r o j v) at_g at V (fills x found r o (j + 1)) t (o + j) v inside
-            f.writer past sets'
+        f.writer past sets'
         (record { raise = λ t. refl; count = λ t. refl })
         (record {
           inside = f.inside;

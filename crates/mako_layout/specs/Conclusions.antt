@@ -56,8 +56,8 @@ ReadIsPresent = (n : Numbers) (s : State) → Evacuation n s → (i x r o : ℕ)
 
 -- while a record is copied, its entry is as it was found
 abbrev pub FoundIsPresent : Type 0
-FoundIsPresent = (n : Numbers) (s : State) → Evacuation n s → (i x : ℕ) (found : EntryWord) (r o j : ℕ) (g : GateFacet) →
-    Seat s i g (fills x found r o j) → entry_at (s.words (entry x)) ≡ found
+FoundIsPresent = (n : Numbers) (s : State) → Evacuation n s → (i x : ℕ) (found : EntryWord) (r o j : ℕ)
+    (g : GateFacet) → Seat s i g (fills x found r o j) → entry_at (s.words (entry x)) ≡ found
 
 -- ---- records
 
@@ -105,8 +105,8 @@ abbrev pub WhatIsLeftFits : Type 0
 WhatIsLeftFits = (n : Numbers) (s : State) → Evacuation n s → (t : ℕ) → t < tablets_of n → s.words (leaving t) ≢ 0 →
     LeavingFits n (layout n s) t
 
--- where a server that passed all entries of a tablet clears its leaving word, the top is the sum of the tablet's records
--- of the cycle
+-- where a server that passed all entries of a tablet clears its leaving word, the top is the sum of the tablet's
+-- records of the cycle
 abbrev pub ClearedTopsAreExact : Type 0
 ClearedTopsAreExact = (n : Numbers) (s : State) → Evacuation n s → (i t x r : ℕ) →
     Seat s i (shutter_at i (has_drained t (past_of n t))) (holds_home x r) → t < tablets_of n →

@@ -155,8 +155,8 @@ pub record Fills (n : Numbers) (l : Layout) (W : Place → ℕ) (g : GateFacet) 
   pub words : Stand W r o j (λ i. W (region_word (l.slot x).region ((l.slot x).offset + i)))
 
 -- and v is the next
-pub record Carries (n : Numbers) (l : Layout) (W : Place → ℕ) (g : GateFacet) (x : ℕ) (found : EntryWord) (r o j v : ℕ) :
-    Type 0 where
+pub record Carries (n : Numbers) (l : Layout) (W : Place → ℕ) (g : GateFacet) (x : ℕ) (found : EntryWord)
+    (r o j v : ℕ) : Type 0 where
   pub fills : Fills n l W g x found r o j
   pub more : j < (l.slot x).size
   pub word : v ≡ W (region_word (l.slot x).region ((l.slot x).offset + j))

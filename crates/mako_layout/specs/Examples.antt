@@ -1,4 +1,4 @@
--- Worked examples: a mutator comes to use the board's record; a server copies it to a new home; and layouts that are wrong.
+-- Worked examples: a mutator comes to use the board's record; a server copies it to a new home; and wrong layouts.
 use Rattle.std.specs.Prelude.{ℕ, true, false, ◌≡◌, ◌==◌, if◌then◌else◌, [], ◌∷◌}
 use Rattle.std.proofs.Common.{zero, suc}
 use Rattle.mako_shape.specs.declared.numbers.Numbers.{Numbers}

@@ -55,8 +55,9 @@ NewIsPublished = (n : Numbers) → IsShape n → (s : State) → Evacuation n s 
 
 -- a field is stored, and the point that put it there enters the history
 abbrev pub PutIsStored : Type 0
-PutIsStored = (n : Numbers) (s : State) → Evacuation n s → (w : Facts) (history : List Point) → IsOfHistory w history s →
-    (i : ℕ) (g : GateFacet) (x r o m to field from : ℕ) (v : Value) (V : Place → ℕ) → Seat s i g (uses x r o) →
+PutIsStored = (n : Numbers) (s : State) → Evacuation n s → (w : Facts) (history : List Point) →
+    IsOfHistory w history s → (i : ℕ) (g : GateFacet) (x r o m to field from : ℕ) (v : Value) (V : Place → ℕ) →
+    Seat s i g (uses x r o) →
     let name : Name = name_of x (s.words (entry x)) in
     let after : List Point = history ++ Did m (Put to field from) Done ∷ [] in
     (fields : List Value) → fields_of (state_of w history) name ≡ Some fields → field < length fields →
@@ -66,8 +67,8 @@ PutIsStored = (n : Numbers) (s : State) → Evacuation n s → (w : Facts) (hist
 
 -- a point that changes no object's fields and makes no object enters the history
 abbrev pub OthersEnter : Type 0
-OthersEnter = (n : Numbers) (s : State) → Evacuation n s → (w : Facts) (history : List Point) → IsOfHistory w history s →
-    (point : Point) →
+OthersEnter = (n : Numbers) (s : State) → Evacuation n s → (w : Facts) (history : List Point) →
+    IsOfHistory w history s → (point : Point) →
     ((name : Name) → fields_of (heap_after (state_of w history) point) name ≡ fields_of (state_of w history) name) →
     ((t : ℕ) → words_by w t point ≡ 0) →
     let after : List Point = history ++ point ∷ [] in
