@@ -133,22 +133,25 @@ module _ (n : Numbers) (s : State) (e : Evacuation n s) (i : ℕ) (g : GateFacet
           λ r a h k. sets.others (region_word r a) (h, k) (λ c. cc) in
           let entries : (y : ℕ) → y < entries_of n → V (entry y) ≡ s.words (entry y) = λ y h. sets.others (entry y) h
           (λ c. cc) in
-          let filled : (t : ℕ) → t < tablets_of n → (layout_of n V s.heap (set s.works i u) s.choice s.made).filled t
-          ≡ (layout n s).filled t = λ t h.
+          let after : Layout = layout_of n V s.heap (set s.works i u) s.choice s.made in
+          let both : (t : ℕ) → t < tablets_of n → (after.filled t ≡ (layout n s).filled t)
+          × (sum_by (counted_in n t) (set s.works i u) ≤ top_read (debt_of s.choice) t (V (top t))
+          + sum_by (to_raise n t) (set s.works i u)) = λ t h.
           let a = sum_at (to_raise n t) s.works i w u at_w in
           let b = sum_at (counted_in n t) s.works i w u at_w in
           let c = balance t h in
           let p = e.even t h in
           elim (cases_eq t t0) [
-            | inl same ↦ (let one = subst (λ q. 1 ≤ writes q g) (sym same) writing in
-                omega (arith, top_is t (V (top t)) one, top_is t (s.words (top t)) one))
+            | inl same ↦
+                (let one = subst (λ q. 1 ≤ writes q g) (sym same) writing in
+                let now = top_is t (V (top t)) one in
+                let was = top_is t (s.words (top t)) one in
+                (omega arith, omega arith))
             | inr d ↦
-                omega (
-                  arith,
-                  ap (top_read (debt_of s.choice) t) (other_top t h d),
-                  (elsewhere t d).0,
-                  (elsewhere t d).1,
-                )
+                (let stays = ap (top_read (debt_of s.choice) t) (other_top t h d) in
+                let raise = (elsewhere t d).0 in
+                let count = (elsewhere t d).1 in
+                (omega arith, omega arith))
           ] in
           stays_kept n s e V s.gates (set s.works i u) (length-set s.works i u ∙ e.seats)
           (gates_frame n s.words V s.gates (leaves_gates n s.words V _ _ sets tt) e.gates)
@@ -156,29 +159,13 @@ module _ (n : Numbers) (s : State) (e : Evacuation n s) (i : ℕ) (g : GateFacet
             cycle = ap (λ q. cycle_of (phase_at q)) (sets.others phase tt (λ c. cc));
             slots = λ y h. ap (slot_of n s.heap y) (entries y h);
             homes = λ t h. ap (home_read (debt_of s.choice) t) (sets.others (home t) h (λ c. cc));
-            filleds = filled;
+            filleds = λ t h. (both t h).0;
             leavings = λ t h. sets.others (leaving t) h (λ c. cc);
             givens = λ t h. refl;
             spares = λ r h. refl;
             mades = λ _ _. refl;
           })
-          entries e.pause
-          (λ t h.
-          let a = sum_at (to_raise n t) s.works i w u at_w in
-          let b = sum_at (counted_in n t) s.works i w u at_w in
-          let c = balance t h in
-          let p = e.even t h in
-          elim (cases_eq t t0) [
-            | inl same ↦ (let one = subst (λ q. 1 ≤ writes q g) (sym same) writing in
-                omega (arith, top_is t (V (top t)) one, top_is t (s.words (top t)) one))
-            | inr d ↦
-                omega (
-                  arith,
-                  ap (top_read (debt_of s.choice) t) (other_top t h d),
-                  (elsewhere t d).0,
-                  (elsewhere t d).1,
-                )
-          ])
+          entries e.pause (λ t h. (both t h).1)
           (λ y r a h holds. let q = record_within n (layout n s) e.copy y r a h holds in regions r a q.0 q.1)
           e.passed
           (known n s e i g w at_g at_w V u own
