@@ -66,7 +66,7 @@ module _ (n : Numbers) (W V : Place → ℕ) (gs : List GateFacet) (o : Gates n 
   action_step _ _ _ here (shuts i k t h seat s) =
       let open_ = found.stands_open n W gs o i _ here t h seat refl in
       kinds.shuts n W V i k t seat open_ (shuts_it (tablet_gate t) open_ s)
-  action_step _ _ _ here (drains i k t h none s) = kinds.drains n W V i k t 0
+  action_step _ _ _ here (drains i k t b h none s) = kinds.drains n W V i k t b
       (found.count_zero n W gs o i _ here t h (omega (arith, count_at t t 1 refl)) none) (kinds.looked_tablet n W V t s)
   action_step _ _ _ here (passes i k t b l) = kinds.passes n W V i k t b l
   action_step _ _ _ here (reopens i k t b h s) = kinds.reopens n W V i k t b _

@@ -42,8 +42,8 @@ pub data GateAction (n : Numbers) (W V : Place → ℕ) : ℕ → GateFacet → 
   shuts : (i k t : ℕ) → t < tablets_of n → i ≡ n.mutators + server_of_tablet n t →
       Makes n W V (tablet_gate t) (Or shut_bit) →
       GateAction n W V i (shutter_at k rests) (shutter_at k (keeps_shut t))
-  drains : (i k t : ℕ) → t < tablets_of n → count_of (W (tablet_gate t)) ≡ 0 → Makes n W V (tablet_gate t) Load →
-      GateAction n W V i (shutter_at k (keeps_shut t)) (shutter_at k (has_drained t 0))
+  drains : (i k t b : ℕ) → t < tablets_of n → count_of (W (tablet_gate t)) ≡ 0 → Makes n W V (tablet_gate t) Load →
+      GateAction n W V i (shutter_at k (keeps_shut t)) (shutter_at k (has_drained t b))
   passes : (i k t b : ℕ) → LeavesGates n W V →
       GateAction n W V i (shutter_at k (has_drained t b)) (shutter_at k (has_drained t (b + 1)))
   reopens : (i k t b : ℕ) → t < tablets_of n → Makes n W V (tablet_gate t) (And (all_but shut_bit)) →
