@@ -75,7 +75,8 @@ impl Kept {
     pub(crate) fn trace(&mut self, word: u64) -> ServerStage
         requires acts { IsAct (tracing.next_of self.old.tracer) }
         requires fits { tracing.Fits self.old.tracer word }
-        ensures { serving_in self.new result ≡ serving.stage_fed (serving_in self.old stages.Tracing) stages.Tracing word }
+        ensures { serving_in self.new result ≡
+            serving.stage_fed (serving_in self.old stages.Tracing) stages.Tracing word }
     {
         self.tracer.feed(word);
         match self.tracer.next() {
