@@ -7,3 +7,6 @@ mod stage;
 
 pub use server::Server;
 pub use stage::ServerStage;
+
+#[cfg(test)]
+mod tests;
