@@ -4,3 +4,6 @@
 mod seat;
 
 pub use seat::Seat;
+
+#[cfg(test)]
+mod tests;
