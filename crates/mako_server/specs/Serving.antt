@@ -47,11 +47,15 @@ next_of v = stage_next v.tracer v.stage
 abbrev pub owner_in : TracerView → ℕ → Owner
 owner_in t c = record { shape = t.shape; server = t.server; cycle = c }
 
--- Idle, or Evac of the cycle that it has ended: it turns again. Trace: a turn of the tracing begins. Evac: the evacuation begins. Stop: the end
+-- Evac of the cycle that it has ended: it turns again. Evac of another: the evacuation begins
+abbrev pub stage_in_evac : Serving → ℕ → ServerStage
+stage_in_evac v c = if c == v.ended then Turning else Evacuating (evacuating.opening (owner_in v.tracer c) v.notice_at)
+
+-- Idle: it turns again. Trace: a turn of the tracing begins. Stop: the end
 abbrev pub turned : Serving → PhaseWord → Serving
 turned v (Idle c) = record v { stage = Turning }
 turned v (Trace c) = record v { tracer = begun v.tracer c; stage = Tracing }
-turned v (Evac c) = record v { stage = if c == v.ended then Turning else Evacuating (evacuating.opening (owner_in v.tracer c) v.notice_at) }
+turned v (Evac c) = record v { stage = stage_in_evac v c }
 turned v (Stop c) = record v { stage = Ended }
 
 -- the tracing after its step, by what it does next: with nothing in hand it turns again
@@ -112,7 +116,7 @@ stage_waits ended Ended w = false
 abbrev pub is_waiting : Serving → ℕ → Bool
 is_waiting v w = stage_waits v.ended v.stage w
 
--- a look at the phase is a job; the jobs of the tracing and of the evacuation are those of the machine, and its end ends the last
+-- a look at the phase is a job; others are the jobs of the tracing and of the evacuation, whose end ends the last
 abbrev pub phase_renews : ℕ → PhaseWord → Bool
 phase_renews ended (Idle c) = false
 phase_renews ended (Trace c) = true
