@@ -63,6 +63,14 @@ impl Evacuator {
         }
     }
 
+    /// The cycle of the evacuation.
+    pub fn cycle(&self) -> u32
+        ensures cycle { result ≡ self.now.owner.cycle }
+        ensures at_most { result ≤ self.now.owner.shape.cycles }
+    {
+        self.owner.cycle
+    }
+
     /// The slot of the notice ring for the next notice, in the next cycle.
     pub fn result(&self) -> u64
         requires { evacuating.next_of self.now ≡ steps.Ended }

@@ -2,3 +2,4 @@ pub mod Names
 pub mod Known
 pub mod Lowering
 pub mod Stages
+pub mod SameServer

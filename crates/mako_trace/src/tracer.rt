@@ -60,6 +60,21 @@ impl Tracer {
         self.stage = self.holdings.begin(cycle);
     }
 
+    /// The geometry of the heap.
+    pub fn shape(&self) -> &Shape
+        ensures { result.now ≡ self.now.shape }
+    {
+        &self.holdings.shape
+    }
+
+    /// The number of the server.
+    pub fn server(&self) -> u32
+        ensures server { result ≡ self.now.server }
+        ensures below { result < self.now.shape.servers }
+    {
+        self.holdings.server
+    }
+
     /// What a turn came to: nothing, each time that the server has nothing in hand.
     pub fn result(&self)
         requires { tracing.next_of self.now ≡ Ended }
