@@ -21,13 +21,14 @@ use Rattle.mako_script.specs.declared.command.Argument.TheVariants.{Defined, Rea
 use Rattle.mako_script.specs.Names.{is_name, is_letter_or_digit, name_of, AreNames, board_name}
 use Rattle.mako_script.specs.Programs.{ProgramView, IsCall, defined_after, AreCalls, IsProgram}
 use Rattle.mako_script.specs.Texts.{command_words, command_word, argument_words, end_word, mutator_word, section_lines, line_text, settings, script_lines, script_text}
+use Rattle.mako_script.specs.Printed.{values_of, setting_lines}
 use Rattle.mako_script.specs.Scripts.{ScriptView, IsProper}
 use Rattle.mako_script.specs.Reading.{lines_of, words_of, within_at, name_at, place_at, command_named, kinds_of, defines, call_of, names_after, value_at, each_at, argument_at, arguments_at, command_at, setting_at, settings_at, calls_at, section_at, sections_at, script_at, script_of, with_call, keys, Reads}
 use Rattle.mako_script.specs.Forms.{IsAccepted}
 use Rattle.mako_script.proofs.Takes.{some_is}
 use Rattle.mako_script.proofs.Digits.{own, number_again}
 use Rattle.mako_script.proofs.NameLists.{place_takes, place_none, define_known, define_new}
-use Rattle.mako_script.proofs.Spelled.{named_text, lines_from, setting_lines}
+use Rattle.mako_script.proofs.Spelled.{named_text, lines_from}
 
 -- ---- words and lines
 
@@ -348,8 +349,6 @@ setting_words_ok (key ∷ table) (v ∷ vs) h = ((h.0, (decimal_word v h.3, tt))
 -- ---- scripts
 
 -- the numbers of a script's settings
-abbrev pub values_of : ScriptView → List ℕ
-values_of s = map (λ p. p.1) (settings s)
 
 in_ranges : (s : ScriptView) → IsProper s → InRanges keys (values_of s)
 in_ranges s proper =

@@ -18,6 +18,7 @@ use Rattle.mako_script.specs.declared.command.Command.TheVariants.{New, Num, Cop
 use Rattle.mako_script.specs.declared.command.Argument.TheVariants.{Defined, Read, Fields, Index, Number}
 use Rattle.mako_script.specs.Names.{is_name, name_of, AreNames, board_name}
 use Rattle.mako_script.specs.Programs.{ProgramView, IsCall, defined_after, AreCalls, IsProgram}
+use Rattle.mako_script.specs.Printed.{setting_lines}
 use Rattle.mako_script.specs.Texts.{command_words, end_word, mutator_word, section_lines, line_text, settings, setting_words, script_lines, script_text, IsScript}
 use Rattle.mako_script.specs.Scripts.{ScriptView}
 use Rattle.mako_script.specs.Forms.{IsAccepted}
@@ -504,12 +505,6 @@ are_proper roots lines ps e some = let t = sections_take 16 roots 0 lines ps e s
 
 pub eleven : (vs : List ℕ) → length vs ≡ 11 → vs ≡ get_or vs 0 0 ∷ get_or vs 1 0 ∷ get_or vs 2 0 ∷ get_or vs 3 0 ∷ get_or vs 4 0 ∷ get_or vs 5 0 ∷ get_or vs 6 0 ∷ get_or vs 7 0 ∷ get_or vs 8 0 ∷ get_or vs 9 0 ∷ get_or vs 10 0 ∷ []
 eleven vs len = drop_more vs 0 0 (omega (arith, len)) ∙ ap (λ (t : List ℕ). get_or vs 0 0 ∷ t) (drop_more vs 1 0 (omega (arith, len)) ∙ ap (λ (t : List ℕ). get_or vs 1 0 ∷ t) (drop_more vs 2 0 (omega (arith, len)) ∙ ap (λ (t : List ℕ). get_or vs 2 0 ∷ t) (drop_more vs 3 0 (omega (arith, len)) ∙ ap (λ (t : List ℕ). get_or vs 3 0 ∷ t) (drop_more vs 4 0 (omega (arith, len)) ∙ ap (λ (t : List ℕ). get_or vs 4 0 ∷ t) (drop_more vs 5 0 (omega (arith, len)) ∙ ap (λ (t : List ℕ). get_or vs 5 0 ∷ t) (drop_more vs 6 0 (omega (arith, len)) ∙ ap (λ (t : List ℕ). get_or vs 6 0 ∷ t) (drop_more vs 7 0 (omega (arith, len)) ∙ ap (λ (t : List ℕ). get_or vs 7 0 ∷ t) (drop_more vs 8 0 (omega (arith, len)) ∙ ap (λ (t : List ℕ). get_or vs 8 0 ∷ t) (drop_more vs 9 0 (omega (arith, len)) ∙ ap (λ (t : List ℕ). get_or vs 9 0 ∷ t) (drop_more vs 10 0 (omega (arith, len)) ∙ ap (λ (t : List ℕ). get_or vs 10 0 ∷ t) (drop_all 11 vs (omega (arith, len)))))))))))))
-
--- the lines of settings with these keys and numbers
-abbrev pub setting_lines : List (List ℕ × (ℕ × ℕ)) → List ℕ → List (List (List ℕ))
-setting_lines [] vs = []
-setting_lines (key ∷ table) [] = []
-setting_lines (key ∷ table) (v ∷ vs) = (key.0 ∷ decimal v ∷ []) ∷ setting_lines table vs
 
 settings_spelled : (keys : List (List ℕ × (ℕ × ℕ))) (lines : List (List ℕ)) (vs : List ℕ) (rest : List (List ℕ)) → TakesSettings keys lines vs rest → lines ≡ lines_from (setting_lines keys vs) ++ rest
 settings_spelled [] lines vs rest h = h.1

@@ -6,7 +6,7 @@ ghost use Rattle.mako_script.specs.Reading.{Gives, lines_of, words_of, words_beh
 use crate::refusal::Refusal;
 
 /// The place of the first such byte.
-fn place_of(byte: u8, text: &[u8]) -> Option<usize>
+pub fn place_of(byte: u8, text: &[u8]) -> Option<usize>
     ensures { result ≡ position (λ b. b == byte) text.now }
 {
     text.iter().position(|found| *found == byte)

@@ -77,6 +77,7 @@ fn script(alloc: Global, bytes: &[u8]) -> Result<Script, Refusal>
 /// Reads a script. `Bad` comes where the bytes are no script of the form that is accepted so far.
 pub fn parse(alloc: Global, bytes: &[u8]) -> Result<Script, ScriptFault>
     ensures ok { IfOk result (IsScript bytes.now) }
+    ensures accepted { IfOk result IsAccepted }
     ensures only { (s : ScriptView) → IsAccepted s → IsScript bytes.now s → IsScriptOrMemory s result }
     ensures form { (kind : Kind) (line : ℕ) → result ≡ Err (ScriptFault.Bad kind line) → (kind ≡ Kind.Form) × (line ≡ 0) }
     ensures bad { (kind : Kind) (line : ℕ) → result ≡ Err (ScriptFault.Bad kind line) → (s : ScriptView) → IsAccepted s → bytes.now ≢ script_text s }

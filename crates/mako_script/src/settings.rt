@@ -13,14 +13,14 @@ pub const SETTINGS: usize = 11;
 
 /// A key, and the range of its number.
 #[derive(Clone, Copy)]
-struct Key {
-    word: &'static [u8],
-    low: u32,
-    high: u32,
+pub struct Key {
+    pub word: &'static [u8],
+    pub low: u32,
+    pub high: u32,
 }
 
 /// The keys, in the order of their lines.
-const KEYS: [Key; SETTINGS] = [
+pub const KEYS: [Key; SETTINGS] = [
     Key {
         word: b"mako",
         low: 1,

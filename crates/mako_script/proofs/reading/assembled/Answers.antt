@@ -4,6 +4,7 @@ use Rattle.mako_shape.specs.declared.numbers.Numbers.{Numbers}
 use Rattle.mako_shape.specs.Limits.{IsShape}
 use Rattle.mako_shape.proofs.Ranges.{no_fault}
 use Rattle.mako_script.specs.Forms.{IsAccepted}
+use Rattle.mako_script.specs.Scripts.{IsProper}
 use Rattle.mako_script.specs.Reading.{numbers_in, has_form}
 use Rattle.mako_script.proofs.Accepted.{form_from, form_has, proper_from}
 use Rattle.mako_script.proofs.reading.assembled.Goals as goal
@@ -31,9 +32,8 @@ invariant_of-result c =
     let board = slice_index c.args.values.now 10 in
     let whole : c.in-Ok.shape ≡ numbers_in c.args.values.now (length c.args.programs.items) = c.in-Ok.ensures.shape.0 ∙ same in
     let shape : IsShape (numbers_in c.args.values.now (length c.args.programs.items)) = subst IsShape whole c.in-Ok.ensures.shape.1 in
-    let test : has_form (numbers_in c.args.values.now (length c.args.programs.items)) board c.args.programs.items ≡ true = rw (← same, ← c.deref.ensures.value) (sym c.if-not-is_accepted.ensures) in
-    subst (λ (n : Numbers). IsAccepted (record { numbers = n; board = board; programs = c.args.programs.items })) (sym whole)
-    (record { proper = proper_from c.args.values.now c.args.programs.items c.requires.values c.requires.programs shape; form = form_from _ board c.args.programs.items test })
+    subst (λ (n : Numbers). IsProper (record { numbers = n; board = board; programs = c.args.programs.items })) (sym whole)
+    (proper_from c.args.values.now c.args.programs.items c.requires.values c.requires.programs shape)
 
 pub returns-clause-accepted : goal.returns-clause-accepted
 returns-clause-accepted c =
