@@ -1,12 +1,12 @@
 //! The reader of scripts.
 
-ghost use Rattle.std.specs.Prelude.{◌≡◌, ◌≢◌, List, ℕ, length, slice_index, IfOk, OnErr, IfErr, IsErrOf, Some, Err};
+ghost use Rattle.std.specs.Prelude.{◌≡◌, List, ℕ, length, slice_index, IfOk, OnErr, IfErr, IsErrOf, Some, Err};
 ghost use Rattle.mako_script.specs.Programs.{ProgramView};
 ghost use Rattle.mako_script.specs.Reading.{lines_of, AreValues, AreProper, Reads, numbers_in, script_at, script_of};
 ghost use Rattle.mako_script.specs.Scripts.{ScriptView};
-ghost use Rattle.mako_script.specs.Texts.{IsScript, script_text};
+ghost use Rattle.mako_script.specs.Texts.{IsScript};
 ghost use Rattle.mako_script.specs.Forms.{IsAccepted};
-ghost use Rattle.mako_script.specs.Answers.{IsScriptOrMemory};
+ghost use Rattle.mako_script.specs.Answers.{IsRefused, IsScriptOrMemory};
 
 use crate::fault::{Kind, ScriptFault};
 use crate::form::is_accepted;
@@ -79,8 +79,7 @@ pub fn parse(alloc: Global, bytes: &[u8]) -> Result<Script, ScriptFault>
     ensures ok { IfOk result (IsScript bytes.now) }
     ensures accepted { IfOk result IsAccepted }
     ensures only { (s : ScriptView) → IsAccepted s → IsScript bytes.now s → IsScriptOrMemory s result }
-    ensures form { (kind : Kind) (line : ℕ) → result ≡ Err (ScriptFault.Bad kind line) → (kind ≡ Kind.Form) × (line ≡ 0) }
-    ensures bad { (kind : Kind) (line : ℕ) → result ≡ Err (ScriptFault.Bad kind line) → (s : ScriptView) → IsAccepted s → bytes.now ≢ script_text s }
+    ensures refused { (kind : Kind) (line : ℕ) → result ≡ Err (ScriptFault.Bad kind line) → IsRefused bytes.now kind line }
 {
     match script(alloc, bytes) {
         Ok(script) => Ok(script),

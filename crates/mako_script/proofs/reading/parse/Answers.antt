@@ -12,5 +12,9 @@ returns-in-Ok-clause-only c = λ s accepted is. one_script c.args.bytes.now s c.
 pub returns-in-Err-Bad-clause-only : goal.returns-in-Err-Bad-clause-only
 returns-in-Err-Bad-clause-only c = λ s accepted is. no_script c.args.bytes.now (c.in-Err-Bad.ensures.bad (ap Err c.in-Err-Bad.field-0-is)) s accepted is.spelled
 
-pub returns-in-Err-Bad-clause-bad : goal.returns-in-Err-Bad-clause-bad
-returns-in-Err-Bad-clause-bad c = λ kind line e s accepted spelled. no_script c.args.bytes.now (c.in-Err-Bad.ensures.bad (ap Err c.in-Err-Bad.field-0-is)) s accepted spelled
+pub returns-in-Err-Bad-clause-refused : goal.returns-in-Err-Bad-clause-refused
+returns-in-Err-Bad-clause-refused c = λ kind line e. record {
+  form = cc;
+  nowhere = cc;
+  none = λ s accepted is. no_script c.args.bytes.now (c.in-Err-Bad.ensures.bad (ap Err c.in-Err-Bad.field-0-is)) s accepted is.spelled;
+}
