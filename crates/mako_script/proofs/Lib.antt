@@ -6,6 +6,7 @@ pub mod Takes
 pub mod Sections
 pub mod Spelled
 pub mod Accepted
+pub mod Parsed
 pub mod PrintedTexts
 pub mod Progress
 pub mod Again

@@ -20,8 +20,7 @@ use Rattle.mako_script.specs.Names.{is_name, name_of, AreNames, board_name}
 use Rattle.mako_script.specs.Programs.{ProgramView, IsCall, defined_after, AreCalls, IsProgram}
 use Rattle.mako_script.specs.Printed.{setting_lines}
 use Rattle.mako_script.specs.Texts.{command_words, end_word, mutator_word, section_lines, line_text, settings, setting_words, script_lines, script_text, IsScript}
-use Rattle.mako_script.specs.Scripts.{ScriptView}
-use Rattle.mako_script.specs.Forms.{IsAccepted}
+use Rattle.mako_script.specs.Scripts.{IsProper, ScriptView}
 use Rattle.mako_script.specs.Reading.{◌>>=◌, words_of, name_at, place_at, define_at, word_at, command_named, kinds_of, defines, call_of, names_after, arguments_at, command_at, calls_at, section_at, sections_at, with_call, line_at, is_end, is_nil, within_at, setting_at, settings_at, each_at, keys, AreValues, AreProper, Gives, lines_of, script_at, script_of, Reads}
 use Rattle.mako_script.proofs.NameLists.{place_takes, place_none, define_known, define_full, define_new}
 use Rattle.mako_script.proofs.Takes.{bind_some, some_is, name_takes, word_takes, Takes, TakesEach, arguments_take, one, two, three, ended_some, within_takes, nil_is}
@@ -541,5 +540,5 @@ script_takes text vs ps e =
     let spelled : text ≡ flat_map line_text (script_lines (script_of a.0.0 b.0)) = text_is text ∙ ap (join_with_byte 10) lines ∙ joined (script_lines (script_of a.0.0 b.0)) in
     subst (λ (x : List ℕ × List ProgramView). text ≡ flat_map line_text (script_lines (script_of x.0 x.1))) (some_is (a.0.0, b.0) (vs, ps) b.2) spelled
 
-pub is_script : (text : List ℕ) (s : ScriptView) → IsAccepted s → Reads (lines_of text) s → IsScript text s
-is_script text s accepted reads = record { proper = accepted.proper; spelled = script_takes text reads.values s.programs reads.read ∙ ap script_text (sym reads.made) }
+pub is_script : (text : List ℕ) (s : ScriptView) → IsProper s → Reads (lines_of text) s → IsScript text s
+is_script text s proper reads = record { proper = proper; spelled = script_takes text reads.values s.programs reads.read ∙ ap script_text (sym reads.made) }

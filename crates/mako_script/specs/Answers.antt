@@ -1,10 +1,10 @@
 -- What a reader may answer.
-use Rattle.std.specs.Prelude.{◌≡◌, ℕ, List, Result, Ok, Err}
+use Rattle.std.specs.Prelude.{◌≡◌, ℕ, ◌⊎◌, List, Result, Ok, Err}
 use Rattle.mako_script.specs.declared.fault.Kind.{Kind}
 use Rattle.mako_script.specs.declared.fault.Kind.TheVariants.{Form}
 use Rattle.mako_script.specs.declared.fault.ScriptFault.{ScriptFault}
 use Rattle.mako_script.specs.declared.fault.ScriptFault.TheVariants.{Bad, Memory}
-use Rattle.mako_script.specs.Forms.{IsAccepted}
+use Rattle.mako_script.specs.Forms.{IsFirstForm}
 use Rattle.mako_script.specs.Scripts.{ScriptView}
 use Rattle.mako_script.specs.Texts.{IsScript}
 
@@ -14,8 +14,7 @@ IsScriptOrMemory s (Ok t) = t ≡ s
 IsScriptOrMemory s (Err Memory) = Unit {0}
 IsScriptOrMemory s (Err (Bad kind line)) = ⊥
 
--- the bytes are those of no script that is accepted
-pub record IsRefused (bytes : List ℕ) (kind : Kind) (line : ℕ) : Type 0 where
-  pub form : kind ≡ Form
-  pub nowhere : line ≡ 0
-  pub none : (s : ScriptView) → IsAccepted s → ¬ IsScript bytes s
+-- the bytes are no script, or their script is not of the form that is accepted
+abbrev pub IsRefused : List ℕ → Kind → ℕ → Type 0
+IsRefused bytes kind line =
+    ((s : ScriptView) → ¬ IsScript bytes s) ⊎ ((kind ≡ Form) × (line ≡ 0) × ((s : ScriptView) × IsScript bytes s × ¬ IsFirstForm s))

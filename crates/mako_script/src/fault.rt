@@ -7,31 +7,31 @@ use crate::line::{Line, add, add_number};
 use std::fmt;
 use thiserror::Error;
 
-/// What is wrong with a line.
-#[derive(Clone, Copy, Debug, PartialEq, Eq)]
+/// What is wrong with a line. Of several faults in one line the first in this order is told.
+#[derive(Clone, Copy, Debug, PartialEq, Eq, PartialOrd, Ord)]
 pub enum Kind {
-    /// One of the first eleven lines is not its key and one more word.
-    Header,
     /// A byte is not in 32 to 126.
     NotAscii,
+    /// A line without its line feed, fewer than eleven settings, or a section without its end.
+    Unclosed,
+    /// One of the first eleven lines is not its key and one more word.
+    Header,
     /// A word is not one that may stand there, or the number of words is wrong.
     Word,
     /// A number is not spelled as one.
     Number,
     /// A number is out of its range.
     Range,
-    /// The section has more names than roots.
-    Names,
-    /// A name is read that is not defined on an earlier line.
-    Undefined,
-    /// There is no section.
-    NoMutator,
-    /// A line without its line feed, fewer than eleven settings, or a section without its end.
-    Unclosed,
-    /// Too many sections or commands.
-    Many,
     /// The tablets of all servers have too many entries together.
     Entries,
+    /// A name is read that is not defined on an earlier line.
+    Undefined,
+    /// The section has more names than roots.
+    Names,
+    /// Too many sections or commands.
+    Many,
+    /// There is no section.
+    NoMutator,
     /// All areas together have too many words.
     Words,
     /// The input is too long to be read; the line is 0.

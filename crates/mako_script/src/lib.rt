@@ -2,6 +2,7 @@
 #![tactic(auto)]
 
 mod arguments;
+mod check;
 mod command;
 mod fault;
 mod form;

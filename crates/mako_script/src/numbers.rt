@@ -9,7 +9,7 @@ const MAX_DIGITS: usize = 10;
 
 /// The number that a word spells: `0`, or a digit 1 to 9 and further digits, at most ten in all.
 #[tactic(auto, unfolding(crate::specs::Reading::number_at))]
-fn number(word: &[u8]) -> Result<u64, Refusal>
+pub fn number(word: &[u8]) -> Result<u64, Refusal>
     ensures { Gives (λ n. n) result (number_at word.now) }
 {
     if word.is_empty() || word.len() > MAX_DIGITS || (word[0] == b'0' && word.len() > 1) {
