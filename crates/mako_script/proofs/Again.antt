@@ -464,3 +464,13 @@ one_script text s t proper spelled reads =
 pub no_script : (text : List ℕ) → ((v : List ℕ) (ps : List ProgramView) → script_at (lines_of text) ≡ Some (v, ps) → ¬ IsProper (script_of v ps)) → (s : ScriptView) → ¬ IsScript text s
 no_script text none s is =
     none (values_of s) s.programs (ap (λ (x : List ℕ). script_at (lines_of x)) is.spelled ∙ script_again s is.proper) (subst IsProper (made_again s is.proper) is.proper)
+
+-- a text is that of one script at most
+pub same_script : (text : List ℕ) (s t : ScriptView) → IsScript text s → IsScript text t → s ≡ t
+same_script text s t one two =
+    let reads : Reads (lines_of text) s = record {
+      values = values_of s;
+      read = ap (λ (x : List ℕ). script_at (lines_of x)) one.spelled ∙ script_again s one.proper;
+      made = made_again s one.proper;
+    } in
+    one_script text t s two.proper two.spelled reads

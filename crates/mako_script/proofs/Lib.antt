@@ -1,5 +1,6 @@
 pub mod Splits
 pub mod Digits
+pub mod Checked
 pub mod NameLists
 pub mod Loops
 pub mod Takes

@@ -1,4 +1,5 @@
 pub mod Answers
+pub mod Checks
 pub mod Examples
 pub mod FaultTexts
 pub mod Faults

@@ -1,11 +1,14 @@
 //! The first fault of a text that is no script.
 
-ghost use Rattle.std.specs.Prelude.{◌≡◌, ◌≤◌, ◌<◌, [], ℕ, length, map, slice_index, slice_index_or, IfOk, IfSome, IsSome};
-ghost use Rattle.mako_script.specs.Reading.{key_view};
+ghost use Rattle.std.specs.Prelude.{◌≡◌, ◌≤◌, ◌<◌, ◌+◌, ◌∷◌, [], ℕ, length, map, min, IfErr, IfNone, IfOk, IfSome, IsSome, OnOk};
+ghost use Rattle.std.specs.List.{list_all};
+ghost use Rattle.mako_script.specs.Checks.{HaveSettings, IsCut, IsLine, IsSettingLine, IsValue};
+ghost use Rattle.mako_script.specs.Faults.{IsFirstFault, is_printable};
+ghost use Rattle.mako_script.specs.Reading.{key_view, keys, lines_of, words_of};
 
 use crate::command::{Argument, Command};
 use crate::fault::Kind;
-use crate::lines::{next_word, place_of, split_word};
+use crate::lines::{next_line, next_word, split_word};
 use crate::names::is_spelled_as_name;
 use crate::numbers::number;
 use crate::section::{MAX_COMMANDS, MAX_SECTIONS};
@@ -45,30 +48,32 @@ struct Lines<'a> {
 impl<'a> Lines<'a> {
     /// The next line without its line feed, or `None` at the end of the text.
     fn next(&mut self) -> Result<Option<&'a [u8]>, Fault>
-        ensures { IfOk result (λ line. IsSome line → length self.new.rest.now < length self.old.rest.now) }
+        ensures line { self.new.line ≡ min (self.old.line + 1) 4294967295 }
+        ensures end { IfOk result (λ line. IfNone line (lines_of self.old.rest.now ≡ [] ∷ [])) }
+        ensures read { IfOk result (λ line. IfSome line (λ l. IsLine (lines_of self.old.rest.now) l.now (lines_of self.new.rest.now))) }
+        ensures fault { IfErr result (λ f. (f.line ≡ self.new.line) × IsCut (lines_of self.old.rest.now) f.kind) }
+        ensures shorter { IfOk result (λ line. IsSome line → length self.new.rest.now < length self.old.rest.now) }
     {
         self.line = self.line.saturating_add(1);
         if self.rest.is_empty() {
             return Ok(None);
         }
-        let end = place_of(b'\n', self.rest);
-        let line = match end {
-            Some(end) => &self.rest[..end],
-            None => self.rest,
-        };
-        if !is_printable(line) {
-            return Err(self.fault(Kind::NotAscii));
+        match next_line(self.rest) {
+            Ok((line, rest)) if is_printable(line) => {
+                self.rest = rest;
+                Ok(Some(line))
+            }
+            Err(_) if is_printable(self.rest) => Err(self.fault(Kind::Unclosed)),
+            _ => Err(self.fault(Kind::NotAscii)),
         }
-        let Some(end) = end else {
-            return Err(self.fault(Kind::Unclosed));
-        };
-        self.rest = &self.rest[end + 1..];
-        Ok(Some(line))
     }
 
     /// The next line of settings or of a section, which the end of the text leaves unclosed.
     fn expect(&mut self) -> Result<&'a [u8], Fault>
-        ensures { IfOk result (λ _. length self.new.rest.now < length self.old.rest.now) }
+        ensures line { self.new.line ≡ min (self.old.line + 1) 4294967295 }
+        ensures read { IfOk result (λ l. IsLine (lines_of self.old.rest.now) l.now (lines_of self.new.rest.now)) }
+        ensures fault { IfErr result (λ f. (f.line ≡ self.new.line) × IsCut (lines_of self.old.rest.now) f.kind) }
+        ensures shorter { IfOk result (λ _. length self.new.rest.now < length self.old.rest.now) }
     {
         match self.next()? {
             Some(line) => Ok(line),
@@ -77,7 +82,9 @@ impl<'a> Lines<'a> {
     }
 
     /// A fault of the line that was read last.
-    fn fault(&self, kind: Kind) -> Fault {
+    fn fault(&self, kind: Kind) -> Fault
+        ensures { (result.kind ≡ kind) × (result.line ≡ self.now.line) }
+    {
         Fault {
             kind,
             line: self.line,
@@ -86,13 +93,15 @@ impl<'a> Lines<'a> {
 }
 
 /// Whether all bytes are in 32 to 126.
-fn is_printable(line: &[u8]) -> bool {
-    line.iter().all(|byte| (32..=126).contains(byte))
+fn is_printable(line: &[u8]) -> bool
+    ensures { result ≡ list_all is_printable line.now }
+{
+    line.iter().all(|byte| *byte >= 32 && *byte <= 126)
 }
 
 /// The number of a word, if it is spelled as one and in its range.
 fn value(low: u32, high: u32, word: &[u8]) -> Result<u32, Kind>
-    ensures { IfOk result (λ n. (low ≤ n) × (n ≤ high)) }
+    ensures { IsValue low high word.now result }
 {
     let Ok(value) = number(word) else {
         return Err(Kind::Number);
@@ -105,7 +114,7 @@ fn value(low: u32, high: u32, word: &[u8]) -> Result<u32, Kind>
 
 /// The number of a setting's line.
 fn setting(key: &Key, line: &[u8]) -> Result<u32, Kind>
-    ensures { IfOk result (λ n. (key.now.low ≤ n) × (n ≤ key.now.high)) }
+    ensures { IsSettingLine (key_view key.now) (words_of line.now) result }
 {
     let (word, rest) = split_word(line);
     let Ok((number, rest)) = next_word(rest) else {
@@ -119,9 +128,12 @@ fn setting(key: &Key, line: &[u8]) -> Result<u32, Kind>
 
 /// The numbers of the settings.
 fn settings(lines: &mut Lines, table: &[Key]) -> Result<ArrayVec<u32, SETTINGS>, Fault>
-    requires { length table.now ≤ 11 }
-    ensures count { IfOk result (λ v. length v.items ≡ length table.now) }
-    ensures within { IfOk result (λ v. (i : ℕ) → i < length table.now → slice_index v.items i ≤ (slice_index_or (map key_view table.now) i ([], (0, 0))).1.1) }
+    requires table { map key_view table.now ≡ keys }
+    requires start { lines.old.line ≡ 0 }
+    ensures count { IfOk result (λ v. length v.items ≡ 11) }
+    ensures read { IfOk result (λ v. HaveSettings (lines_of lines.old.rest.now) v.items) }
+    ensures line { OnOk result (lines.new.line ≡ 11) }
+    ensures fault { IfErr result (λ f. IsFirstFault lines.old.rest.now f.kind f.line) }
 {
     let mut values = ArrayVec::new();
     for key in table {
