@@ -20,7 +20,7 @@ use Rattle.mako_script.specs.declared.command.Argument.{Argument}
 use Rattle.mako_script.specs.declared.command.Argument.TheVariants.{Defined, Read, Fields, Index, Number}
 use Rattle.mako_script.specs.Names.{is_name, is_letter_or_digit, name_of, AreNames, board_name}
 use Rattle.mako_script.specs.Programs.{ProgramView, IsCall, defined_after, AreCalls, IsProgram}
-use Rattle.mako_script.specs.Texts.{command_words, command_word, argument_words, end_word, mutator_word, section_lines, line_text, settings, script_lines, script_text, IsScript}
+use Rattle.mako_script.specs.Texts.{command_words, command_word, argument_words, end_word, mutator_word, section_lines, line_text, script_lines, script_text, IsScript}
 use Rattle.mako_script.specs.Printed.{values_of, setting_lines}
 use Rattle.mako_script.specs.Scripts.{ScriptView, IsProper}
 use Rattle.mako_script.specs.Reading.{lines_of, words_of, within_at, name_at, place_at, command_named, kinds_of, defines, call_of, names_after, value_at, each_at, argument_at, arguments_at, command_at, setting_at, settings_at, calls_at, section_at, sections_at, script_at, script_of, with_call, keys, Reads}

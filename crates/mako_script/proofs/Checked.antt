@@ -1,5 +1,5 @@
 -- The lines of settings, one after the other, and the first fault among them.
-use Rattle.std.proofs.Common.{◌≡◌, ◌≢◌, ◌⊎◌, inl, inr, ◌+◌, ◌-◌, ◌<◌, ◌≤◌, ℕ, zero, suc, List, [], ◌∷◌, ◌++◌, length, map, eqb, drop, get_or, Result, Ok, Err, Option, Some, None, true, false, true≢false, eq-or-lt_of_le, refl, ap, sym, subst, ◌∙◌, arith, length-append, length-drop}
+use Rattle.std.proofs.Common.{◌≡◌, ◌⊎◌, inl, inr, ◌+◌, ◌<◌, ◌≤◌, ℕ, zero, suc, List, [], ◌∷◌, ◌++◌, length, map, eqb, drop, get_or, Ok, Err, Some, None, true, false, true≢false, eq-or-lt_of_le, refl, ap, sym, subst, ◌∙◌, arith, length-append, length-drop}
 use Rattle.std.specs.Fmt.{decimal}
 use Rattle.std.specs.List.{list_all, join_with_byte}
 use Rattle.std.specs.Prelude.{slice_index}
@@ -8,12 +8,13 @@ use Rattle.std.proofs.lemmas.Bool.Decides.{nat_tests}
 use Rattle.std.proofs.lemmas.List.Splits.{join_with_byte-slice_split}
 use Rattle.std.proofs.lemmas.List.{drop_more, get_or-drop, get_or_append_left, get_or_push, get_or_default, length-map}
 use Rattle.mako_script.specs.declared.fault.Kind.{Kind}
-use Rattle.mako_script.specs.declared.fault.Kind.TheVariants.{Header, NotAscii, Word, Number, Range, Names, Undefined, NoMutator, Unclosed, Many, Entries, Words, Long, Form}
-use Rattle.mako_script.specs.Checks.{IsCut, IsLine, IsValue, IsSettingLine, HasSetting, HaveSettings, SettingFault}
+use Rattle.mako_script.specs.declared.fault.Kind.TheVariants.{Header, NotAscii, Word, Number, Range, Names, Undefined, Unclosed, Many, Entries}
+use Rattle.mako_script.specs.Checks.{IsCut, IsLine, IsSettingLine, HasSetting, HaveSettings, SettingFault}
 use Rattle.mako_script.specs.Faults.{IsFirstFault, HasFault, LineFault, is_printable, rank, told_line}
 use Rattle.mako_script.specs.Lines.{line_in, words_at, word_in, ended, key_at, IsNumber}
 use Rattle.mako_script.specs.declared.settings.Key.{Key}
-use Rattle.mako_script.specs.Reading.{lines_of, words_of, line_at, word_at, keys, key_view}
+use Rattle.mako_script.specs.Reading.{lines_of, words_of, line_at, word_at, keys, key_view, numbers_in}
+use Rattle.mako_shape.specs.Limits.{all_entries, max_entries}
 use Rattle.mako_script.proofs.Splits.{split_some}
 use Rattle.mako_script.proofs.Takes.{some_is}
 use Rattle.mako_script.proofs.Loops.{key_at as key_in}
@@ -59,8 +60,8 @@ have_more lines v n have has at below =
     elim (cases_lt at (length v)) [
       | inl less ↦ subst (HasSetting lines at) (sym (get_or_append_left v (n ∷ []) 0 at less)) (have at less)
       | inr past ↦ (
-        let same : length v ≡ at = omega (arith, length-append v (n ∷ [])) in
-        subst (HasSetting lines at) (sym (get_or_push v n 0 at same)) (subst (λ (k : ℕ). HasSetting lines k n) same has))
+          let same : length v ≡ at = omega (arith, length-append v (n ∷ [])) in
+          subst (HasSetting lines at) (sym (get_or_push v n 0 at same)) (subst (λ (k : ℕ). HasSetting lines k n) same has))
     ]
 
 -- ---- the faults of one line
@@ -150,9 +151,9 @@ told text at kind setting before has line least = record { at = at; has = has; t
     first other k fault =
         elim (cases_lt other at) [
           | inl less ↦ (
-            let has = before other less in
-            let last = passes (lines_of text) other has.0 (omega arith) has.1 k fault in
-            absurd (omega (arith, last.1)))
+              let has = before other less in
+              let last = passes (lines_of text) other has.0 (omega arith) has.1 k fault in
+              absurd (omega (arith, last.1)))
           | inr more ↦ elim (eq-or-lt_of_le more) [
             | inl same ↦ inr (same, least k (subst (λ (n : ℕ). HasFault (lines_of text) n k) (sym same) fault))
             | inr later ↦ inl later
@@ -245,3 +246,17 @@ pub wrong_first : (text : List ℕ) (i : ℕ) (kind : Kind) (told : ℕ) (line :
     → IsNth (lines_of text) i line left → list_all is_printable line ≡ true → IsSettingLine (key_at i) (words_of line) (Err kind) → IsFirstFault text kind told
 wrong_first text i kind told line left small at before nth printable is =
     subst (IsFirstFault text kind) (sym at) (setting_first text i kind small before (wrong_setting (lines_of text) i line left kind nth printable is))
+
+-- the entries of all tablets are too many, and the settings are right
+pub entries_first : (text v : List ℕ) → length v ≡ 11 → HaveSettings (lines_of text) v → max_entries < all_entries (numbers_in v 0) → IsFirstFault text Entries 11
+entries_first text v count has many =
+    let lines = lines_of text in
+    let each : (at : ℕ) → at < 11 → IsNumber (word_in (words_at lines at) 1) (slice_index v at) =
+    λ at below. (let s = has at (omega (arith, count)) in (ap second s.words, s.few)) in
+    let last = has 10 (omega (arith, count)) in
+    told text 10 Entries (omega arith) (λ k below. (slice_index v k, has k (omega (arith, count))))
+    (inr (inl (last.ended, (refl, v, record { count = count; each = each }, many)))) refl
+    (λ k fault. ap_rank k (passes lines 10 (slice_index v 10) (omega arith) last k fault).0)
+  where
+    ap_rank : (k : Kind) → k ≡ Entries → rank Entries ≤ rank k
+    ap_rank k e = omega (arith, ap rank e)

@@ -8,7 +8,7 @@ use Rattle.mako_script.specs.declared.fault.ScriptFault.TheVariants.{Bad, Memory
 use Rattle.mako_script.specs.Answers.{IsRefused, IsScriptOrMemory}
 use Rattle.mako_script.specs.Forms.{IsAccepted, IsFirstForm}
 use Rattle.mako_script.specs.Reading.{Reads, lines_of}
-use Rattle.mako_script.specs.Scripts.{ScriptView, IsProper}
+use Rattle.mako_script.specs.Scripts.{ScriptView}
 use Rattle.mako_script.specs.Texts.{IsScript}
 use Rattle.mako_script.proofs.Again.{one_script}
 

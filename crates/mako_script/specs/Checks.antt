@@ -3,7 +3,7 @@ use Rattle.std.specs.Prelude.{◌≡◌, ◌≢◌, ℕ, ◌≤◌, ◌<◌, ◌
 use Rattle.std.specs.Fmt.{decimal}
 use Rattle.std.specs.List.{list_all}
 use Rattle.mako_script.specs.declared.fault.Kind.{Kind}
-use Rattle.mako_script.specs.declared.fault.Kind.TheVariants.{Header, NotAscii, Word, Number, Range, Names, Undefined, NoMutator, Unclosed, Many, Entries, Words, Long, Form}
+use Rattle.mako_script.specs.declared.fault.Kind.TheVariants.{Header, NotAscii, Number, Range, Unclosed}
 use Rattle.mako_script.specs.Faults.{is_printable}
 use Rattle.mako_script.specs.Lines.{IsNumber, ended, key_at, line_in, words_at}
 

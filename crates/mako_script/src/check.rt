@@ -1,10 +1,13 @@
 //! The first fault of a text that is no script.
 
-ghost use Rattle.std.specs.Prelude.{◌≡◌, ◌≤◌, ◌<◌, ◌+◌, ◌∷◌, [], ℕ, length, map, min, IfErr, IfNone, IfOk, IfSome, IsSome, OnOk};
+ghost use Rattle.std.specs.Prelude.{◌≡◌, ◌≤◌, ◌<◌, ◌+◌, ◌∷◌, [], length, map, min, IfErr, IfNone, IfOk, IfSome, IsSome, OnOk};
+ghost use Rattle.std.specs.Bool.{OnTrue};
 ghost use Rattle.std.specs.List.{list_all};
+ghost use Rattle.mako_script.specs.Answers.{IsFirstAmongSettings};
 ghost use Rattle.mako_script.specs.Checks.{HaveSettings, IsCut, IsLine, IsSettingLine, IsValue};
 ghost use Rattle.mako_script.specs.Faults.{IsFirstFault, is_printable};
-ghost use Rattle.mako_script.specs.Reading.{key_view, keys, lines_of, words_of};
+ghost use Rattle.mako_script.specs.Reading.{key_view, keys, lines_of, numbers_in, words_of};
+ghost use Rattle.mako_shape.specs.Limits.{all_entries, max_entries};
 
 use crate::command::{Argument, Command};
 use crate::fault::Kind;
@@ -188,7 +191,12 @@ fn arguments(count: usize, text: &[u8]) -> Option<Words>
 }
 
 /// The first of the faults that the arguments have.
-fn arguments_fault(names: &[&[u8]], roots: usize, kinds: &[Argument], words: &[&[u8]]) -> Option<Kind>
+fn arguments_fault(
+    names: &[&[u8]],
+    roots: usize,
+    kinds: &[Argument],
+    words: &[&[u8]],
+) -> Option<Kind>
     requires { length kinds.now ≡ length words.now }
 {
     let mut first: Option<Kind> = None;
@@ -226,7 +234,9 @@ fn command<'a>(names: &[&[u8]], roots: usize, line: &'a [u8]) -> Result<Option<&
 /// Checks a section from its second line on, behind so many commands, and counts its commands to them.
 fn section(lines: &mut Lines, roots: usize, before: usize) -> Result<usize, Fault>
     requires { roots ≤ 32 }
-    ensures { IfOk result (λ _. length lines.new.rest.now < length lines.old.rest.now) }
+    ensures shorter { IfOk result (λ _. length lines.new.rest.now < length lines.old.rest.now) }
+    ensures later { min (lines.old.line + 1) 4294967295 ≤ lines.new.line }
+    ensures fault { IfErr result (λ f. min (lines.old.line + 1) 4294967295 ≤ f.line) }
 {
     let mut names = Names::new();
     names.push(b"board".as_slice());
@@ -253,7 +263,9 @@ fn section(lines: &mut Lines, roots: usize, before: usize) -> Result<usize, Faul
 /// Checks all sections, and counts them.
 fn sections(lines: &mut Lines, roots: usize) -> Result<usize, Fault>
     requires { roots ≤ 32 }
-    ensures { IfOk result (λ count. count ≤ 16) }
+    ensures count { IfOk result (λ count. count ≤ 16) }
+    ensures later { min (lines.old.line + 1) 4294967295 ≤ lines.new.line }
+    ensures fault { IfErr result (λ f. min (lines.old.line + 1) 4294967295 ≤ f.line) }
 {
     let mut sections = 0;
     let mut commands = 0;
@@ -272,12 +284,31 @@ fn sections(lines: &mut Lines, roots: usize) -> Result<usize, Fault>
     }
 }
 
+/// The fault of all settings together, in a geometry with one mutator.
+fn too_many_entries(values: &[u32]) -> bool
+    requires { length values.now ≡ 11 }
+    ensures { OnTrue result (max_entries < all_entries (numbers_in values.now 0)) }
+{
+    match Shape::new(numbers_of(values, 1)) {
+        Err(ShapeFault::TooManyEntries) => true,
+        _ => false,
+    }
+}
+
 /// The first fault of the text, if it has one. It takes no memory.
-pub fn check(text: &[u8]) -> Result<(), Fault> {
-    let mut lines = Lines { rest: text, line: 0 };
+pub fn check(text: &[u8]) -> Result<(), Fault>
+    ensures { IfErr result (λ f. IsFirstAmongSettings text.now f.kind f.line) }
+{
+    let mut lines = Lines {
+        rest: text,
+        line: 0,
+    };
     let values = settings(&mut lines, &KEYS)?;
-    if Shape::new(numbers_of(&values, 1)) == Err(ShapeFault::TooManyEntries) {
-        return Err(lines.fault(Kind::Entries));
+    if too_many_entries(&values) {
+        return Err(Fault {
+            kind: Kind::Entries,
+            line: LAST_SETTING,
+        });
     }
     let mutators = sections(&mut lines, values[7] as usize)?;
     if mutators == 0 {

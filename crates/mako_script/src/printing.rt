@@ -88,11 +88,7 @@ fn add_call(text: &mut Vec<u8>, names: &IndexSet<String>, call: &Call) -> Result
 }
 
 /// Adds the lines of calls.
-fn add_calls(
-    text: &mut Vec<u8>,
-    names: &IndexSet<String>,
-    calls: &[Call],
-) -> Result<(), AllocError>
+fn add_calls(text: &mut Vec<u8>, names: &IndexSet<String>, calls: &[Call]) -> Result<(), AllocError>
     ensures { OnOk result (text.new.items ≡ text.old.items ++ flat_map (λ c. line_text (command_words (texts names.now) c)) calls.now) }
 {
     for call in calls {

@@ -1,12 +1,12 @@
 //! The reader of scripts.
 
-ghost use Rattle.std.specs.Prelude.{◌≡◌, ◌≢◌, List, ℕ, length, slice_index, IfOk, OnErr, IfErr, IsErrOf, Some, Err};
+ghost use Rattle.std.specs.Prelude.{◌≡◌, List, ℕ, length, slice_index, IfOk, OnErr, IfErr, IsErrOf, Some, Err};
 ghost use Rattle.mako_script.specs.Programs.{ProgramView};
 ghost use Rattle.mako_script.specs.Reading.{lines_of, AreValues, AreProper, Reads, script_at, script_of};
 ghost use Rattle.mako_script.specs.Scripts.{IsProper, ScriptView};
 ghost use Rattle.mako_script.specs.Texts.{IsScript};
 ghost use Rattle.mako_script.specs.Forms.{IsAccepted, IsFirstForm};
-ghost use Rattle.mako_script.specs.Answers.{IsRefused, IsScriptOrMemory};
+ghost use Rattle.mako_script.specs.Answers.{IsRefused, IsScriptOrMemory, TellsFault};
 
 use crate::check::{Fault, check};
 use crate::fault::{Kind, ScriptFault};
@@ -53,7 +53,7 @@ fn script(alloc: Global, bytes: &[u8]) -> Result<Script, Refusal>
 
 /// The first fault of bytes that are no script.
 fn fault(bytes: &[u8]) -> ScriptFault
-    ensures { result ≢ ScriptFault.Memory }
+    ensures { TellsFault bytes.now result }
 {
     match check(bytes) {
         Ok(()) => FORM,

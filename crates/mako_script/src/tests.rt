@@ -104,11 +104,7 @@ fn tells_the_first_fault(rt: HostRuntime) -> Result<(), Fail> {
             Kind::Undefined,
             16,
         ),
-        (
-            b"mutator\nnum a 1\ndrop a\nmutator\nend\n",
-            Kind::Word,
-            15,
-        ),
+        (b"mutator\nnum a 1\ndrop a\nmutator\nend\n", Kind::Word, 15),
     ];
     for (section, kind, line) in &sections {
         let text = with_header(&rt, section)?;

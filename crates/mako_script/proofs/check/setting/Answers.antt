@@ -1,4 +1,4 @@
-use Rattle.std.proofs.Common.{◌≡◌, ◌∷◌, [], ℕ, List, Bool, true, false, not, Option, Some, None, arith, inl, inr, refl, length, sym, ap, subst, ◌∙◌}
+use Rattle.std.proofs.Common.{◌≡◌, ◌∷◌, [], ℕ, List, Bool, true, false, not, None, arith, inl, inr, refl, length, sym, ap, subst, ◌∙◌}
 use Rattle.std.specs.Str.{bytes_eq}
 use Rattle.std.proofs.lemmas.Slice.Eq.{bytes_eq-Decides}
 use Rattle.mako_script.specs.declared.refusal.Refusal.{Refusal}
@@ -40,12 +40,15 @@ returns-then-ne c =
     let more = words_behind c.in-Ok.rest.now in
     let behind = word_takes (words_behind c.split_word.result.1.now) (c.in-Ok.number.now, more) c.in-Ok.ensures.read in
     let words : words_of c.args.line.now ≡ w ∷ c.in-Ok.number.now ∷ more = c.split_word.ensures ∙ ap (λ (ws : List (List ℕ)). w ∷ ws) behind in
-    inl (λ word e.
-      let same : w ∷ c.in-Ok.number.now ∷ more ≡ key ∷ word ∷ [] = sym words ∙ e in
-      elim c.then-ne.branch [
-        | then-ne-via-then-ne x ↦ other_key w key (c.in-Ok.number.now ∷ more) word (sym x.if-ne.ensures) same
-        | then-ne-via-else-ne+then-not-is_empty x ↦ third_word w key c.in-Ok.number.now more word (no_words c.in-Ok.rest.now ∙ sym x.if-not-is_empty.ensures) same
-      ], refl)
+    inl (
+      λ word e.
+          let same : w ∷ c.in-Ok.number.now ∷ more ≡ key ∷ word ∷ [] = sym words ∙ e in
+          elim c.then-ne.branch [
+            | then-ne-via-then-ne x ↦ other_key w key (c.in-Ok.number.now ∷ more) word (sym x.if-ne.ensures) same
+            | then-ne-via-else-ne+then-not-is_empty x ↦ third_word w key c.in-Ok.number.now more word (no_words c.in-Ok.rest.now ∙ sym x.if-not-is_empty.ensures) same
+          ],
+      refl,
+    )
 
 pub returns : goal.returns
 returns c =

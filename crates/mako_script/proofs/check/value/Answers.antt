@@ -1,5 +1,4 @@
-use Rattle.std.proofs.Common.{◌≡◌, ℕ, ◌<◌, ◌≤◌, Option, Some, None, inl, inr, sym, ap, subst, ◌∙◌, arith}
-use Rattle.mako_script.specs.Lines.{IsNumber}
+use Rattle.std.proofs.Common.{◌≡◌, Some, None, inl, inr, ap, subst, ◌∙◌, arith}
 use Rattle.mako_script.specs.Reading.{number_at, Refuses}
 use Rattle.mako_script.specs.declared.refusal.Refusal.{Refusal}
 use Rattle.mako_script.proofs.Digits.{number_takes, number_few, ten_digits_again}
@@ -16,11 +15,14 @@ pub returns-then-value-from : goal.returns-then-value-from
 returns-then-value-from c =
     let word = c.args.word.now in
     let n = c.in-Ok.value in
-    let read : number_at word ≡ Some n = c.in-Ok.ensures.read in
-    (n, (number_takes word n read, number_few word n read), elim c.then-value-from.branch [
-      | then-value-from-via-then-value-from w ↦ inl (omega (arith, c.from.ensures))
-      | then-value-from-via-else-value-from+then-value-from-2 w ↦ inr (omega (arith, w.from-else-value-from.ensures))
-    ])
+    let read : number_at word ≡ Some n = c.in-Ok.ensures.read in (
+      n,
+      (number_takes word n read, number_few word n read),
+      elim c.then-value-from.branch [
+        | then-value-from-via-then-value-from w ↦ inl (omega (arith, c.from.ensures))
+        | then-value-from-via-else-value-from+then-value-from-2 w ↦ inr (omega (arith, w.from-else-value-from.ensures))
+      ],
+    )
 
 pub returns : goal.returns
 returns c =

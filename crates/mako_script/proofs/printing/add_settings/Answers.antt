@@ -1,11 +1,9 @@
 use Rattle.std.proofs.Common.{◌++◌, ℕ, List, [], ◌∷◌, map, arith, ap, sym, ◌∙◌, get_or}
 use Rattle.std.specs.Fmt.{decimal}
-use Rattle.std.specs.List.{flat_map}
 use Rattle.std.proofs.lemmas.List.{length-map, get_or-map}
 use Rattle.mako_script.specs.declared.settings.Key.{Key}
 use Rattle.mako_script.specs.Reading.{key_view}
 use Rattle.mako_script.specs.Texts.{line_text}
-use Rattle.mako_script.specs.Printed.{setting_lines}
 use Rattle.mako_script.proofs.PrintedTexts.{setting_goes_on}
 use Rattle.mako_script.proofs.printing.add_settings.Goals as goal
 

@@ -4,7 +4,7 @@ use Rattle.mako_script.specs.Programs.{ProgramView}
 use Rattle.mako_script.specs.Scripts.{ScriptView, IsProper}
 use Rattle.mako_script.specs.Texts.{line_text, section_lines, script_text, settings, setting_words}
 use Rattle.mako_script.specs.Reading.{keys}
-use Rattle.mako_script.specs.Printed.{setting_lines, values_of}
+use Rattle.mako_script.specs.Printed.{setting_lines}
 use Rattle.mako_script.proofs.PrintedTexts.{all_sections}
 use Rattle.mako_script.proofs.printing.script_bytes.Goals as goal
 

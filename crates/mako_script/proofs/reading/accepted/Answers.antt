@@ -19,11 +19,13 @@ pub returns-else-is_accepted-clause-err : goal.returns-else-is_accepted-clause-e
 returns-else-is_accepted-clause-err c =
     let s = c.script.inside in
     let test : has_form s.shape s.board s.programs.items ≡ c.is_accepted.result =
-    (λ i. has_form (sym c.numbers.ensures.numbers i) s.board (sym c.deref.ensures.value i)) ∙ sym c.is_accepted.ensures in
-    (refl, λ first.
-      let has = form_has s.shape s.board s.programs.items (subst IsFirstForm (sym c.script.view_is) first) in
-      let no : c.is_accepted.result ≡ true = sym test ∙ has in
-      cc)
+    (λ i. has_form (sym c.numbers.ensures.numbers i) s.board (sym c.deref.ensures.value i)) ∙ sym c.is_accepted.ensures in (
+      refl,
+      λ first.
+          let has = form_has s.shape s.board s.programs.items (subst IsFirstForm (sym c.script.view_is) first) in
+          let no : c.is_accepted.result ≡ true = sym test ∙ has in
+          cc,
+    )
 
 pub returns-else-is_accepted-clause-proper : goal.returns-else-is_accepted-clause-proper
 returns-else-is_accepted-clause-proper c = subst IsProper c.script.view_is c.script.invariant

@@ -1,4 +1,6 @@
-use Rattle.std.proofs.Common.{ap, inl, Err}
+use Rattle.std.proofs.Common.{◌≡◌, ap, subst, inl, Err}
+use Rattle.mako_script.specs.declared.fault.ScriptFault.TheVariants.{Bad}
+use Rattle.mako_script.specs.Answers.{TellsFault}
 use Rattle.mako_script.proofs.Spelled.{is_script}
 use Rattle.mako_script.proofs.Again.{no_script}
 use Rattle.mako_script.proofs.Parsed.{accepts, ok_is, only_is, refused_is}
@@ -23,4 +25,6 @@ pub returns-in-Err-Bad-clause-only : goal.returns-in-Err-Bad-clause-only
 returns-in-Err-Bad-clause-only c = λ s accepted is. absurd (no_script c.args.bytes.now (c.in-Err-Bad.ensures.bad (ap Err c.in-Err-Bad.field-0-is)) s is)
 
 pub returns-in-Err-Bad-clause-refused : goal.returns-in-Err-Bad-clause-refused
-returns-in-Err-Bad-clause-refused c = λ kind line e. inl (no_script c.args.bytes.now (c.in-Err-Bad.ensures.bad (ap Err c.in-Err-Bad.field-0-is)))
+returns-in-Err-Bad-clause-refused c = λ kind line e.
+    let same : c.fault.result ≡ Bad kind line = cc in
+    inl (no_script c.args.bytes.now (c.in-Err-Bad.ensures.bad (ap Err c.in-Err-Bad.field-0-is)), subst (TellsFault c.args.bytes.now) same c.fault.ensures)

@@ -1,6 +1,5 @@
-use Rattle.std.proofs.Common.{◌≡◌, ◌∷◌, [], List, ℕ, false, true, Option, None, length, refl, sym, ap, subst, ◌∙◌}
+use Rattle.std.proofs.Common.{◌≡◌, true, None, sym, ap, subst, ◌∙◌}
 use Rattle.std.specs.List.{list_all}
-use Rattle.mako_script.specs.declared.fault.Kind.{Kind}
 use Rattle.mako_script.specs.declared.refusal.Refusal.{Refusal}
 use Rattle.mako_script.specs.Checks.{IsCut}
 use Rattle.mako_script.specs.Faults.{is_printable}
@@ -22,10 +21,12 @@ returns-in-Err-clause-fault c =
 
 pub returns-in_default-clause-fault : goal.returns-in_default-clause-fault
 returns-in_default-clause-fault c =
-    let rest = c.args.self.now.rest.now in
-    (c.fault-in_default.ensures.1, subst (IsCut (lines_of rest)) (sym c.fault-in_default.ensures.0) (elim c.in_default.branch [
-      | in_default-via-in-Ok+else-is_printable w ↦ (ap (list_all is_printable) (first_line (lines_of rest) w.in-Ok.line.now _ w.in-Ok.ensures.read) ∙ sym w.if-is_printable.ensures)
-      | in_default-via-in-Err+else-is_printable-2 w ↦ (
-        let none : line_at (lines_of rest) ≡ None = subst (λ (e : Refusal). Refuses e (line_at (lines_of rest))) w.in-Err.ensures.kind w.in-Err.ensures.read in
-        ap (list_all is_printable) (last_piece rest none).1 ∙ sym w.if-is_printable-2.ensures)
-    ]))
+    let rest = c.args.self.now.rest.now in (
+      c.fault-in_default.ensures.1,
+      subst (IsCut (lines_of rest)) (sym c.fault-in_default.ensures.0) (elim c.in_default.branch [
+        | in_default-via-in-Ok+else-is_printable w ↦ (ap (list_all is_printable) (first_line (lines_of rest) w.in-Ok.line.now _ w.in-Ok.ensures.read) ∙ sym w.if-is_printable.ensures)
+        | in_default-via-in-Err+else-is_printable-2 w ↦ (
+            let none : line_at (lines_of rest) ≡ None = subst (λ (e : Refusal). Refuses e (line_at (lines_of rest))) w.in-Err.ensures.kind w.in-Err.ensures.read in
+            ap (list_all is_printable) (last_piece rest none).1 ∙ sym w.if-is_printable-2.ensures)
+      ]),
+    )
