@@ -17,13 +17,13 @@ differ e = omega (arith, e)
 pub replay_says : (first second : List ℕ) (r : Option CommandLine) → Finds (IsReplay first second) r → Finds (Says (codes "replay" ∷ first ∷ second ∷ [])) r
 replay_says first second (Some line) h = inl (refl, h)
 replay_says first second None h = λ line s. elim s [
-    | inl p ↦ h line p.1
-    | inr p ↦ differ (ap length p.0)
-  ]
+  | inl p ↦ h line p.1
+  | inr p ↦ differ (ap length p.0)
+]
 
 pub gen_says : (first second : List ℕ) (r : Option CommandLine) → Finds (IsGen first second) r → Finds (Says (codes "gen" ∷ first ∷ second ∷ [])) r
 gen_says first second (Some line) h = inr (refl, h)
 gen_says first second None h = λ line s. elim s [
-    | inl p ↦ differ (sym (ap length p.0))
-    | inr p ↦ h line p.1
-  ]
+  | inl p ↦ differ (sym (ap length p.0))
+  | inr p ↦ h line p.1
+]

@@ -15,9 +15,9 @@ use crate::ended::Ended;
 use crate::run::run;
 use crate::settled::Settled;
 use mako_core::Order;
+use mako_gen::make;
 use mako_io::{ReadRefusal, Sink, Source, read_all, write_all};
 use mako_model::{Front, Outcome};
-use mako_gen::make;
 use mako_script::{Kind, Script, ScriptFault, fault_line, parse, print, write_output, write_text};
 use std::alloc::Global;
 

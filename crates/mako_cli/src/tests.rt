@@ -39,7 +39,7 @@ fn carries_out_scripts(rt: HostRuntime) -> Result<(), Fail> {
             0,
             b"mutator 0\nnew 1#0\nget null\nget noref\nend\n",
         ),
-        (b"mutator\n", 2, b"script form 0\n"),
+        (b"mutator\n", 2, b"script unclosed 13\n"),
     ];
     let command = words(alloc, &["replay", "turns", "1000"])?;
     for (section, status, output) in &cases {

@@ -10,7 +10,7 @@ returns-in-NoScript-clause-told g c =
     (Rose (g.K.Sink.faults c.args.sink.now) (g.K.Sink.faults c.tell_line-in-NoScript.new.sink)) c.tell_line-in-NoScript.result in
     subst P (sym c.in-NoScript.is) (record {
       written = subst (λ (text : List ℕ). IsWritten text 2 (g.K.Sink.taken c.args.sink.now) (g.K.Sink.taken c.tell_line-in-NoScript.new.sink)
-      (Rose (g.K.Sink.faults c.args.sink.now) (g.K.Sink.faults c.tell_line-in-NoScript.new.sink)) c.tell_line-in-NoScript.result.status)
+          (Rose (g.K.Sink.faults c.args.sink.now) (g.K.Sink.faults c.tell_line-in-NoScript.new.sink)) c.tell_line-in-NoScript.result.status)
           (c.deref-in-NoScript.ensures.0 ∙ c.fault_line.ensures) c.tell_line-in-NoScript.ensures.written;
       front_is = c.tell_line-in-NoScript.ensures.front;
     })
