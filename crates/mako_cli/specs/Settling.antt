@@ -6,14 +6,22 @@ use Rattle.mako_io.specs.Streams.{TakesMore}
 use Rattle.mako_model.specs.Answering.{AnswersToEnd}
 use Rattle.mako_model.specs.Fronts.{Seen, FollowsPrograms}
 use Rattle.mako_model.specs.Outcomes as outcomes
+use Rattle.mako_script.specs.declared.fault.Kind.{Kind}
+use Rattle.mako_script.specs.declared.fault.Kind.TheVariants.{Long}
+use Rattle.mako_script.specs.Answers.{IsRefused}
+use Rattle.mako_script.specs.FaultTexts.{fault_text}
 use Rattle.mako_script.specs.Forms.{IsAccepted}
 use Rattle.mako_script.specs.Outputs.{output_text}
 use Rattle.mako_script.specs.Scripts.{ScriptView}
 use Rattle.mako_script.specs.Texts.{IsScript}
 use Rattle.mako_script.specs.ScriptFacts.{facts_of}
+use Rattle.mako_gen.specs.Workloads.{IsWorkload}
+use Rattle.mako_cli.specs.CommandLines.{Says, SayNothing}
+use Rattle.mako_cli.specs.declared.command_line.CommandLine.{CommandLine}
+use Rattle.mako_cli.specs.declared.command_line.CommandLine.TheVariants.{Replay, Gen}
 use Rattle.mako_cli.specs.declared.ended.Ended.{Ended}
 use Rattle.mako_cli.specs.declared.settled.Settled.{Settled}
-use Rattle.mako_cli.specs.declared.settled.Settled.TheVariants.{Done, Usage, NoScript, ReadFault, Memory}
+use Rattle.mako_cli.specs.declared.settled.Settled.TheVariants.{Done, Generated, Usage, NoScript, ReadFault, Memory}
 
 -- the greatest number of bytes of a script
 abbrev pub max_bytes : ℕ
@@ -22,24 +30,27 @@ max_bytes = 16777216
 -- the exit status, if all its text is written
 abbrev pub status_of : Settled → ℕ
 status_of (Done script outcome) = 0
+status_of (Generated text) = 0
 status_of Usage = 1
-status_of NoScript = 2
+status_of (NoScript kind line) = 2
 status_of ReadFault = 3
 status_of Memory = 5
 
 -- the text that is written
 abbrev pub text_of : Settled → List ℕ
 text_of (Done script outcome) = output_text (length script.programs) outcome.front true
+text_of (Generated text) = text.items
 text_of Usage = codes "usage\n"
-text_of NoScript = codes "script form 0\n"
+text_of (NoScript kind line) = fault_text kind line
 text_of ReadFault = codes "read fault\n"
 text_of Memory = codes "memory\n"
 
 -- the front of the run, empty where there was none
 abbrev pub front_of : Settled → Seen
 front_of (Done script outcome) = outcome.front
+front_of (Generated text) = record { history = []; finished = [] }
 front_of Usage = record { history = []; finished = [] }
-front_of NoScript = record { history = []; finished = [] }
+front_of (NoScript kind line) = record { history = []; finished = [] }
 front_of ReadFault = record { history = []; finished = [] }
 front_of Memory = record { history = []; finished = [] }
 
@@ -58,18 +69,22 @@ pub record IsAnswered (old new : Option (List ℕ)) (script : ScriptView) (front
   pub answers : AnswersToEnd (facts_of script) front
   pub cycles : front.finished ≡ []
 
--- the bytes are not those of a script that is accepted
-pub record IsUnaccepted (old new : Option (List ℕ)) : Type 0 where
+-- the bytes have this fault, or there are too many
+pub record HasFault (old new : Option (List ℕ)) (kind : Kind) (line : ℕ) : Type 0 where
   pub bytes : List ℕ
   pub whole : IsWhole old new bytes
-  pub none : (script : ScriptView) → IsAccepted script → IsScript bytes script → ⊥
+  pub refused : IsRefused bytes kind line
 
--- What reading a source and carrying out its script come to: done where an accepted script was read, no script where there
--- was none or too many bytes, a read fault only where the source's count of faults rose. Want of memory is free.
+abbrev pub IsUnread : Option (List ℕ) → Option (List ℕ) → Kind → ℕ → Type 0
+IsUnread old new kind line = (TakesMore max_bytes old new × (kind ≡ Long) × (line ≡ 0)) ⊎ HasFault old new kind line
+
+-- What reading a source and carrying out its script come to: done where an accepted script was read, no script with the fault
+-- that the bytes have, a read fault only where the source's count of faults rose. Want of memory is free.
 abbrev pub Settles : Option (List ℕ) → Option (List ℕ) → Type 0 → Settled → Type 0
 Settles old new rose (Done script outcome) = IsAnswered old new script outcome.front
+Settles old new rose (Generated text) = ⊥
 Settles old new rose Usage = ⊥
-Settles old new rose NoScript = TakesMore max_bytes old new ⊎ IsUnaccepted old new
+Settles old new rose (NoScript kind line) = IsUnread old new kind line
 Settles old new rose ReadFault = rose
 Settles old new rose Memory = Unit {0}
 
@@ -77,8 +92,9 @@ Settles old new rose Memory = Unit {0}
 abbrev pub IsTellable : Settled → Type 0
 IsTellable (Done script outcome) = outcomes.IsWhole outcome × outcomes.AreCyclesOfFront outcome × (length (outcomes.reply_lists outcome) ≡ length script.programs)
     × FollowsPrograms (map (λ p. p.calls) script.programs) outcome.front.history
+IsTellable (Generated text) = Unit {0}
 IsTellable Usage = Unit {0}
-IsTellable NoScript = Unit {0}
+IsTellable (NoScript kind line) = Unit {0}
 IsTellable ReadFault = Unit {0}
 IsTellable Memory = Unit {0}
 
@@ -99,17 +115,29 @@ pub record IsTold (settled : Settled) (old new : Option (List ℕ)) (rose : Type
   pub written : IsWritten (text_of settled) (status_of settled) old new rose ended.status
   pub front_is : ended.front ≡ front_of settled
 
--- the words of the command line that are a command
-abbrev pub command : List (List ℕ)
-command = codes "replay" ∷ codes "turns" ∷ codes "1000" ∷ []
+-- the text is that of the workload of a seed
+pub record IsGenerated (seed size : ℕ) (text : List ℕ) : Type 0 where
+  pub script : ScriptView
+  pub made : IsWorkload seed size script
+  pub spelled : IsScript text script
 
--- What a command line comes to: usage exactly where its words are no command, and then the source was not read.
+-- what generating a workload comes to; want of memory is free
+abbrev pub Generates : ℕ → ℕ → Settled → Type 0
+Generates seed size (Done script outcome) = ⊥
+Generates seed size (Generated text) = IsGenerated seed size text.items
+Generates seed size Usage = ⊥
+Generates seed size (NoScript kind line) = ⊥
+Generates seed size ReadFault = ⊥
+Generates seed size Memory = Unit {0}
+
+-- what a command comes to
+abbrev pub Does : CommandLine → Option (List ℕ) → Option (List ℕ) → Type 0 → Settled → Type 0
+Does (Replay order steps) old new rose settled = Settles old new rose settled
+Does (Gen seed size) old new rose settled = Generates seed size settled
+
+-- What the words come to: what their command does, or usage where they say none.
 abbrev pub Commands : List (List ℕ) → Option (List ℕ) → Option (List ℕ) → Type 0 → Settled → Type 0
-Commands words old new rose Usage = ¬ (words ≡ command)
-Commands words old new rose (Done script outcome) = (words ≡ command) × Settles old new rose (Done script outcome)
-Commands words old new rose NoScript = (words ≡ command) × Settles old new rose NoScript
-Commands words old new rose ReadFault = (words ≡ command) × Settles old new rose ReadFault
-Commands words old new rose Memory = (words ≡ command) × Settles old new rose Memory
+Commands words old new rose settled = ((line : CommandLine) × Says words line × Does line old new rose settled) ⊎ (SayNothing words × (settled ≡ Usage))
 
 -- A script was read and carried out: its front answers it to the end, and the output of the front was written.
 pub record IsDone (old new taken_old taken_new : Option (List ℕ)) (front : Seen) : Type 0 where
@@ -117,7 +145,21 @@ pub record IsDone (old new taken_old taken_new : Option (List ℕ)) (front : See
   pub answered : IsAnswered old new script front
   pub written : Appends taken_old taken_new (output_text (length script.programs) front true)
 
--- No accepted script was read, or too many bytes, and its line was written.
-pub record IsRefused (old new taken_old taken_new : Option (List ℕ)) : Type 0 where
-  pub unread : TakesMore max_bytes old new ⊎ IsUnaccepted old new
-  pub written : Appends taken_old taken_new (codes "script form 0\n")
+-- The workload was written, and no script was run.
+pub record IsPrinted (seed size : ℕ) (taken_old taken_new : Option (List ℕ)) (front : Seen) : Type 0 where
+  pub text : List ℕ
+  pub generated : IsGenerated seed size text
+  pub written : Appends taken_old taken_new text
+  pub empty : front ≡ record { history = []; finished = [] }
+
+-- a command was done
+abbrev pub IsDoneBy : CommandLine → Option (List ℕ) → Option (List ℕ) → Option (List ℕ) → Option (List ℕ) → Seen → Type 0
+IsDoneBy (Replay order steps) old new taken_old taken_new front = IsDone old new taken_old taken_new front
+IsDoneBy (Gen seed size) old new taken_old taken_new front = IsPrinted seed size taken_old taken_new front
+
+-- Too many bytes were read, or those of no accepted script, and the line of their fault was written.
+pub record IsToldUnread (old new taken_old taken_new : Option (List ℕ)) : Type 0 where
+  pub kind : Kind
+  pub line : ℕ
+  pub unread : IsUnread old new kind line
+  pub written : Appends taken_old taken_new (fault_text kind line)

@@ -1,20 +1,24 @@
 //! The top call, and the call of the command that it knows.
 
-ghost use Rattle.std.specs.Prelude.{◌≡◌, ◌≤◌, ◌↔◌, ◌⊎◌, [], true, IsTrue, length, map, string_bytes};
+ghost use Rattle.std.specs.Prelude.{◌≡◌, ◌≤◌, ◌⊎◌, [], true, length, map, string_bytes};
 ghost use Rattle.mako_io.specs.Causes.{Rose};
 ghost use Rattle.mako_model.specs.Fronts.{FollowsPrograms};
 ghost use Rattle.mako_model.specs.Outcomes as outcomes;
 ghost use Rattle.mako_script.specs.Outputs.{output_text};
-ghost use Rattle.mako_cli.specs.Settling.{Commands, IsDone, IsRefused, IsTellable, IsTold, IsWritten, Settles, command};
+ghost use Rattle.mako_cli.specs.CommandLines.{SayNothing, Says};
+ghost use Rattle.mako_cli.specs.Settling.{Commands, Generates, IsDone, IsDoneBy, IsPrinted, IsTellable, IsTold, IsToldUnread, IsWritten, Settles};
+ghost use Rattle.mako_cli.specs.declared.command_line.CommandLine.{CommandLine};
 ghost use Rattle.mako_cli.specs.declared.settled.Settled.{Settled};
 
+use crate::command_line::{CommandLine, command_line};
 use crate::ended::Ended;
 use crate::run::run;
 use crate::settled::Settled;
 use mako_core::Order;
+use mako_gen::make;
 use mako_io::{ReadRefusal, Sink, Source, read_all, write_all};
 use mako_model::{Front, Outcome};
-use mako_script::{Script, ScriptFault, parse, write_output};
+use mako_script::{Kind, Script, ScriptFault, fault_line, parse, print, write_output, write_text};
 use std::alloc::Global;
 
 /// The greatest number of bytes of a script.
@@ -29,12 +33,17 @@ fn settle<S: Source>(alloc: Global, source: &mut S) -> Settled
     let bytes = match read_all(alloc, source, MAX_BYTES) {
         Ok(bytes) => bytes,
         Err(ReadRefusal::Fault) => return Settled::ReadFault,
-        Err(ReadRefusal::TooLong) => return Settled::NoScript,
+        Err(ReadRefusal::TooLong) => {
+            return Settled::NoScript {
+                kind: Kind::Long,
+                line: 0,
+            };
+        }
         Err(ReadRefusal::Memory) => return Settled::Memory,
     };
     let script = match parse(alloc, &bytes) {
         Ok(script) => script,
-        Err(ScriptFault::Bad { .. }) => return Settled::NoScript,
+        Err(ScriptFault::Bad { kind, line }) => return Settled::NoScript { kind, line },
         Err(ScriptFault::Memory) => return Settled::Memory,
     };
     let Ok(outcome) = run(alloc, &script) else {
@@ -67,10 +76,29 @@ fn tell<K: Sink>(alloc: Global, sink: &mut K, settled: Settled) -> Ended
 {
     match settled {
         Settled::Done(script, outcome) => tell_run(sink, &script, outcome),
+        Settled::Generated(text) => tell_text(alloc, sink, &text),
         Settled::Usage => tell_line(alloc, sink, b"usage\n", Settled::USAGE),
-        Settled::NoScript => tell_line(alloc, sink, b"script form 0\n", Settled::NO_SCRIPT),
+        Settled::NoScript { kind, line } => {
+            tell_line(alloc, sink, &fault_line(kind, line), Settled::NO_SCRIPT)
+        }
         Settled::ReadFault => tell_line(alloc, sink, b"read fault\n", Settled::READ_FAULT),
         Settled::Memory => tell_line(alloc, sink, b"memory\n", Settled::MEMORY),
+    }
+}
+
+/// Writes the lines of a text.
+fn tell_text<K: Sink>(alloc: Global, sink: &mut K, text: &[u8]) -> Ended
+    ensures written { IsWritten text.now 0 (K.taken sink.old) (K.taken sink.new) (Rose (K.faults sink.old) (K.faults sink.new)) result.status }
+    ensures front { result.front ≡ record { history = []; finished = [] } }
+    ensures counted { K.faults sink.old ≤ K.faults sink.new }
+{
+    let status = match write_text(sink, text) {
+        Ok(()) => Settled::DONE,
+        Err(_) => Settled::WRITE_FAULT,
+    };
+    Ended {
+        status,
+        front: Front::empty(alloc),
     }
 }
 
@@ -106,7 +134,7 @@ pub fn replay_top<S: Source, K: Sink>(
     requires { steps ≤ 1000000000 }
     // Each status has its cause.
     ensures done { result.status ≡ 0 → IsDone (S.left source.old) (S.left source.new) (K.taken sink.old) (K.taken sink.new) result.front }
-    ensures refused { result.status ≡ 2 → IsRefused (S.left source.old) (S.left source.new) (K.taken sink.old) (K.taken sink.new) }
+    ensures refused { result.status ≡ 2 → IsToldUnread (S.left source.old) (S.left source.new) (K.taken sink.old) (K.taken sink.new) }
     ensures read { result.status ≡ 3 → Rose (S.faults source.old) (S.faults source.new) }
     ensures write { result.status ≡ 4 → Rose (K.faults sink.old) (K.faults sink.new) }
 
@@ -118,43 +146,52 @@ pub fn replay_top<S: Source, K: Sink>(
     tell(alloc, sink, settled)
 }
 
-/// Whether the word is this text.
-fn is_word(word: &String, text: &str) -> bool
-    ensures { IsTrue result ↔ (string_bytes word.now ≡ text.now) }
+/// Generates the workload of a seed, and its text.
+fn generate(alloc: Global, seed: u64, size: u32) -> Settled
+    requires { (1 ≤ size) × (size ≤ 4096) }
+    ensures generates { Generates seed size result }
+    ensures tellable { IsTellable result }
 {
-    word.as_str() == text
-}
-
-/// Whether the words are those of the command.
-fn is_replay(words: &[String]) -> bool
-    ensures { IsTrue result ↔ (map string_bytes words.now ≡ command) }
-{
-    let [name, order, steps] = words else {
-        return false;
+    let Ok(script) = make(alloc, seed, size) else {
+        return Settled::Memory;
     };
-    if !is_word(name, "replay") {
-        return false;
+    match print(alloc, &script) {
+        Ok(text) => Settled::Generated(text),
+        Err(_) => Settled::Memory,
     }
-    if !is_word(order, "turns") {
-        return false;
-    }
-    is_word(steps, "1000")
 }
 
-/// Carries out the command that the words of the command line name, over this source and this sink.
+/// Writes the workload of a seed, with so many commands that are drawn for each mutator.
+pub fn gen_top<K: Sink>(alloc: Global, seed: u64, size: u32, sink: &mut K) -> Ended
+    requires { (1 ≤ size) × (size ≤ 4096) }
+    // Each status has its cause.
+    ensures done { result.status ≡ 0 → IsPrinted seed size (K.taken sink.old) (K.taken sink.new) result.front }
+    ensures write { result.status ≡ 4 → Rose (K.faults sink.old) (K.faults sink.new) }
+    ensures others { (result.status ≡ 0) ⊎ ((result.status ≡ 4) ⊎ (result.status ≡ 5)) }
+
+    // And at the status of a write fault the text is a prefix of that of another status.
+    ensures settled { (settled : Settled) × Generates seed size settled
+        × IsTold settled (K.taken sink.old) (K.taken sink.new) (Rose (K.faults sink.old) (K.faults sink.new)) result }
+{
+    let settled = generate(alloc, seed, size);
+    tell(alloc, sink, settled)
+}
+
+/// Carries out the command that the words of the command line say, over this source and this sink.
 pub fn top<S: Source, K: Sink>(
     alloc: Global,
     words: &[String],
     source: &mut S,
     sink: &mut K,
 ) -> Ended
-    // The words are no command exactly where the status is that of usage, or that of a write fault.
-    ensures usage { result.status ≡ 1 → ¬ (map string_bytes words.now ≡ command) }
-    ensures other { ¬ (map string_bytes words.now ≡ command) → (result.status ≡ 1) ⊎ (result.status ≡ 4) }
+    // The words say no command exactly where the status is that of usage, or that of a write fault.
+    ensures usage { result.status ≡ 1 → SayNothing (map string_bytes words.now) }
+    ensures other { SayNothing (map string_bytes words.now) → (result.status ≡ 1) ⊎ (result.status ≡ 4) }
 
     // Each status has its cause.
-    ensures done { result.status ≡ 0 → IsDone (S.left source.old) (S.left source.new) (K.taken sink.old) (K.taken sink.new) result.front }
-    ensures refused { result.status ≡ 2 → IsRefused (S.left source.old) (S.left source.new) (K.taken sink.old) (K.taken sink.new) }
+    ensures done { result.status ≡ 0 → (line : CommandLine) × Says (map string_bytes words.now) line
+        × IsDoneBy line (S.left source.old) (S.left source.new) (K.taken sink.old) (K.taken sink.new) result.front }
+    ensures refused { result.status ≡ 2 → IsToldUnread (S.left source.old) (S.left source.new) (K.taken sink.old) (K.taken sink.new) }
     ensures read { result.status ≡ 3 → Rose (S.faults source.old) (S.faults source.new) }
     ensures write { result.status ≡ 4 → Rose (K.faults sink.old) (K.faults sink.new) }
 
@@ -162,9 +199,9 @@ pub fn top<S: Source, K: Sink>(
     ensures settled { (settled : Settled) × Commands (map string_bytes words.now) (S.left source.old) (S.left source.new) (Rose (S.faults source.old) (S.faults source.new)) settled
         × IsTold settled (K.taken sink.old) (K.taken sink.new) (Rose (K.faults sink.old) (K.faults sink.new)) result }
 {
-    if is_replay(words) {
-        replay_top(alloc, Order::Turns, 1000, source, sink)
-    } else {
-        tell(alloc, sink, Settled::Usage)
+    match command_line(words) {
+        Some(CommandLine::Replay { order, steps }) => replay_top(alloc, order, steps, source, sink),
+        Some(CommandLine::Gen { seed, size }) => gen_top(alloc, seed, size, sink),
+        None => tell(alloc, sink, Settled::Usage),
     }
 }

@@ -1,12 +1,14 @@
 //! The commands of the program, from the words of the command line to the bytes that are written.
 #![tactic(auto)]
 
+mod command_line;
 mod commands;
 mod ended;
 mod run;
 mod settled;
 
-pub use commands::{replay_top, top};
+pub use command_line::CommandLine;
+pub use commands::{gen_top, replay_top, top};
 pub use ended::Ended;
 pub use settled::Settled;
 

@@ -1,17 +1,19 @@
 //! What a command comes to, before its text is written.
 
 use mako_model::Outcome;
-use mako_script::Script;
+use mako_script::{Kind, Script};
 
 /// What a command comes to, before its text is written.
 #[derive(Drop)]
 pub enum Settled {
     /// The script was carried out to its end.
     Done(Script, Outcome),
+    /// A workload was generated, with this text.
+    Generated(Vec<u8>),
     /// The words of the command line are no command.
     Usage,
     /// The bytes are no script of the form that is accepted, or too many.
-    NoScript,
+    NoScript { kind: Kind, line: u32 },
     /// A read failed.
     ReadFault,
     /// There was not memory enough before the first step.

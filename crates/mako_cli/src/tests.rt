@@ -39,7 +39,7 @@ fn carries_out_scripts(rt: HostRuntime) -> Result<(), Fail> {
             0,
             b"mutator 0\nnew 1#0\nget null\nget noref\nend\n",
         ),
-        (b"mutator\n", 2, b"script form 0\n"),
+        (b"mutator\n", 2, b"script unclosed 13\n"),
     ];
     let command = words(alloc, &["replay", "turns", "1000"])?;
     for (section, status, output) in &cases {
@@ -71,9 +71,32 @@ fn reports_faults_of_streams(rt: HostRuntime) -> Result<(), Fail> {
 }
 
 #[test]
+fn prints_a_workload(rt: HostRuntime) -> Result<(), Fail> {
+    let alloc = rt.alloc();
+    let command = words(alloc, &["gen", "1", "1"])?;
+    let mut source = SoundSource::new(Vec::new(alloc));
+    let mut sink = SoundSink::new(alloc, 1000)?;
+    let ended = top(alloc, &command, &mut source, &mut sink);
+    assert_eq!(rt; ended.status, 0);
+    assert!(rt; sink.bytes().starts_with(b"mako 1\nservers 4\n"));
+    let fails = Vec::from_slice(alloc, &[2])?;
+    let mut sink = MemSink::new(alloc, 1000, fails)?;
+    let ended = gen_top(alloc, 1, 1, &mut sink);
+    assert_eq!(rt; ended.status, 4);
+    assert_eq!(rt; sink.bytes(), b"mako 1\n".as_slice());
+    Ok(())
+}
+
+#[test]
 fn refuses_words(rt: HostRuntime) -> Result<(), Fail> {
     let alloc = rt.alloc();
-    let cases: [&[&str]; 6] = [
+    let cases: [&[&str]; 12] = [
+        &["replay", "turns", "1000000001"],
+        &["replay", "18446744073709551616", "5"],
+        &["replay", "turns", "+5"],
+        &["gen", "1", "0"],
+        &["gen", "1", "4097"],
+        &["gen", "01", "1"],
         &["replay", "fast", "5"],
         &["replay", "turns"],
         &["replay", "turns", "05"],

@@ -3,7 +3,7 @@
 ghost use Rattle.std.specs.Prelude.{◌≡◌, ◌<◌, ◌≤◌, ◌++◌, ◌∷◌, ◌↔◌, [], length, slice_get, IfOk, IsTrue, Some};
 ghost use Rattle.std.specs.Bool.{OnTrue, OnFalse};
 ghost use Rattle.mako_model.specs.Answering.{Answers, AnswersToEnd};
-ghost use Rattle.mako_script.specs.Forms.{all_calls};
+ghost use Rattle.mako_script.specs.Forms.{all_calls, IsFirstForm};
 ghost use Rattle.mako_script.specs.ScriptFacts.{facts_of};
 
 use crate::commands::{carry_out, make};
@@ -48,6 +48,7 @@ impl Core {
 
     /// The core of a script before its first command: the board is made, and nothing is answered.
     pub fn start(alloc: Global, script: &Script) -> Result<Core, Memory>
+        requires { IsFirstForm script.now }
         ensures script { IfOk result (λ c. c.script ≡ script.now) }
         ensures opening { IfOk result (λ c. c.history ≡ []) }
     {

@@ -20,14 +20,14 @@ use Rattle.mako_script.specs.declared.command.Argument.{Argument}
 use Rattle.mako_script.specs.declared.command.Argument.TheVariants.{Defined, Read, Fields, Index, Number}
 use Rattle.mako_script.specs.Names.{is_name, is_letter_or_digit, name_of, AreNames, board_name}
 use Rattle.mako_script.specs.Programs.{ProgramView, IsCall, defined_after, AreCalls, IsProgram}
-use Rattle.mako_script.specs.Texts.{command_words, command_word, argument_words, end_word, mutator_word, section_lines, line_text, settings, script_lines, script_text}
+use Rattle.mako_script.specs.Texts.{command_words, command_word, argument_words, end_word, mutator_word, section_lines, line_text, script_lines, script_text, IsScript}
+use Rattle.mako_script.specs.Printed.{values_of, setting_lines}
 use Rattle.mako_script.specs.Scripts.{ScriptView, IsProper}
 use Rattle.mako_script.specs.Reading.{lines_of, words_of, within_at, name_at, place_at, command_named, kinds_of, defines, call_of, names_after, value_at, each_at, argument_at, arguments_at, command_at, setting_at, settings_at, calls_at, section_at, sections_at, script_at, script_of, with_call, keys, Reads}
-use Rattle.mako_script.specs.Forms.{IsAccepted}
 use Rattle.mako_script.proofs.Takes.{some_is}
 use Rattle.mako_script.proofs.Digits.{own, number_again}
 use Rattle.mako_script.proofs.NameLists.{place_takes, place_none, define_known, define_new}
-use Rattle.mako_script.proofs.Spelled.{named_text, lines_from, setting_lines}
+use Rattle.mako_script.proofs.Spelled.{named_text, lines_from}
 
 -- ---- words and lines
 
@@ -348,8 +348,6 @@ setting_words_ok (key ∷ table) (v ∷ vs) h = ((h.0, (decimal_word v h.3, tt))
 -- ---- scripts
 
 -- the numbers of a script's settings
-abbrev pub values_of : ScriptView → List ℕ
-values_of s = map (λ p. p.1) (settings s)
 
 in_ranges : (s : ScriptView) → IsProper s → InRanges keys (values_of s)
 in_ranges s proper =
@@ -462,7 +460,17 @@ one_script text s t proper spelled reads =
     let same : pair reads.values t.programs ≡ pair (values_of s) s.programs = sym reads.read ∙ again in
     reads.made ∙ ap (λ (x : List ℕ × List ProgramView). script_of x.0 x.1) (some_is (reads.values, t.programs) (values_of s, s.programs) same) ∙ sym (made_again s proper)
 
--- where no accepted script was made of what was read, the text has none
-pub no_script : (text : List ℕ) → ((v : List ℕ) (ps : List ProgramView) → script_at (lines_of text) ≡ Some (v, ps) → ¬ IsAccepted (script_of v ps)) → (s : ScriptView) → IsAccepted s → text ≡ script_text s → ⊥
-no_script text none s accepted spelled =
-    none (values_of s) s.programs (ap (λ (x : List ℕ). script_at (lines_of x)) spelled ∙ script_again s accepted.proper) (subst IsAccepted (made_again s accepted.proper) accepted)
+-- where no script was made of what was read, the text has none
+pub no_script : (text : List ℕ) → ((v : List ℕ) (ps : List ProgramView) → script_at (lines_of text) ≡ Some (v, ps) → ¬ IsProper (script_of v ps)) → (s : ScriptView) → ¬ IsScript text s
+no_script text none s is =
+    none (values_of s) s.programs (ap (λ (x : List ℕ). script_at (lines_of x)) is.spelled ∙ script_again s is.proper) (subst IsProper (made_again s is.proper) is.proper)
+
+-- a text is that of one script at most
+pub same_script : (text : List ℕ) (s t : ScriptView) → IsScript text s → IsScript text t → s ≡ t
+same_script text s t one two =
+    let reads : Reads (lines_of text) s = record {
+      values = values_of s;
+      read = ap (λ (x : List ℕ). script_at (lines_of x)) one.spelled ∙ script_again s one.proper;
+      made = made_again s one.proper;
+    } in
+    one_script text t s two.proper two.spelled reads

@@ -65,9 +65,18 @@ number_takes word n e =
     let small = digits_value_short own word 10 d.0 short in
     sym (decimal-digits_value own word d.0 some plain (omega arith)) ∙ ap decimal d.1
 
-pub number_again : (n : ℕ) → n < 2 ^ 32 → number_at (decimal n) ≡ Some n
+pub number_few : (word : List ℕ) (n : ℕ) → number_at word ≡ Some n → n < 10000000000
 unfolding number_at
-number_again n small =
+number_few word n e =
+    let g = guard_digits (eqb (length word) 0 || ltb 10 (length word) || (eqb (get_or word 0 0) 48 && ltb 1 (length word))) (digits_on 0 word) n e in
+    let d = all_digits 0 word n g.1 in
+    let short : length word ≤ 10 = grind (arith, nat_tests, g.0) in
+    let small = digits_value_short own word 10 d.0 short in
+    omega (arith, d.1)
+
+pub ten_digits_again : (n : ℕ) → n < 10000000000 → number_at (decimal n) ≡ Some n
+unfolding number_at
+ten_digits_again n small =
     let some = decimal_nonempty n (omega arith) in
     let short = length-decimal-le 10 n (omega arith) (omega arith) (omega arith) in
     let read = digits_read 0 (decimal n) (digits_decimal own n (omega arith)) ∙ ap Some (digits_value-decimal own n (omega arith)) in
@@ -75,6 +84,9 @@ number_again n small =
     let test : (eqb (length (decimal n)) 0 || ltb 10 (length (decimal n)) || (eqb (get_or (decimal n) 0 0) 48 && ltb 1 (length (decimal n)))) ≡ false = grind (arith, nat_tests) in
     rw test read
   where
-    plain : (n : ℕ) → n < 2 ^ 32 → (eqb (get_or (decimal n) 0 0) 48 && ltb 1 (length (decimal n))) ≡ false
+    plain : (n : ℕ) → n < 10000000000 → (eqb (get_or (decimal n) 0 0) 48 && ltb 1 (length (decimal n))) ≡ false
     plain zero small = rw (decimal_digit 0 (omega arith)) refl
     plain (suc n) small = let first = first_decimal (suc n) (omega arith) (omega arith) in grind (arith, nat_tests)
+
+pub number_again : (n : ℕ) → n < 2 ^ 32 → number_at (decimal n) ≡ Some n
+number_again n small = ten_digits_again n (omega arith)

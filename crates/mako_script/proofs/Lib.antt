@@ -1,11 +1,14 @@
 pub mod Splits
 pub mod Digits
+pub mod Checked
 pub mod NameLists
 pub mod Loops
 pub mod Takes
 pub mod Sections
 pub mod Spelled
 pub mod Accepted
+pub mod Parsed
+pub mod PrintedTexts
 pub mod Progress
 pub mod Again
 pub mod Examples

@@ -16,21 +16,33 @@ use Rattle.mako_script.specs.Reading.{lines_of, words_of, numbers_in, kinds_of}
 use Rattle.mako_script.specs.Examples.{spaced_text}
 
 -- the line is its key and this number, in its range
-record IsGood (lines : List (List ℕ)) (at n : ℕ) : Type 0 where
+pub record IsGood (lines : List (List ℕ)) (at n : ℕ) : Type 0 where
   pub setting : at < 11
   pub words : words_at lines at ≡ (key_at at).0 ∷ decimal n ∷ []
   pub low : (key_at at).1.0 ≤ n
   pub high : n ≤ (key_at at).1.1
   pub few : n < 10000000000
 
-not_in : (lines : List (List ℕ)) (from at : ℕ) → at < 12 → IsIn lines from at → ⊥
+pub not_in : (lines : List (List ℕ)) (from at : ℕ) → at < 12 → IsIn lines from at → ⊥
 not_in lines from at setting is = omega (arith, is.behind, is.before)
 
-not_between : (lines : List (List ℕ)) (at : ℕ) → at < 11 → IsBetween lines at → ⊥
+pub not_between : (lines : List (List ℕ)) (at : ℕ) → at < 11 → IsBetween lines at → ⊥
 not_between lines at setting is = omega (arith, is.behind)
 
 number_is : (word : List ℕ) (n m : ℕ) → word ≡ decimal n → n < 10000000000 → IsNumber word m → m ≡ n
 number_is word n m spelled few is = decimal_injective m n (omega (arith, is.1)) (omega arith) (sym is.0 ∙ spelled)
+
+-- its number is one, and in its range
+pub good_number : (lines : List (List ℕ)) (at n : ℕ) → IsGood lines at n → LineFault lines at Number → ⊥
+good_number lines at n is (word, range, inl (setting, spelled, ranged), none) = none n (spelled ∙ ap (λ (ws : List (List ℕ)). word_in ws 1) is.words, is.few)
+good_number lines at n is (word, range, inr (from, kind, inside, argument, least, most), none) = not_in lines from at (omega (arith, is.setting)) inside
+
+pub good_range : (lines : List (List ℕ)) (at n : ℕ) → IsGood lines at n → LineFault lines at Range → ⊥
+good_range lines at n is (word, range, m, inl (setting, spelled, ranged), number, inl low) =
+    omega (arith, number_is word n m (spelled ∙ ap (λ (ws : List (List ℕ)). word_in ws 1) is.words) is.few number, ap (λ (r : ℕ × ℕ). r.0) ranged, is.low, low)
+good_range lines at n is (word, range, m, inl (setting, spelled, ranged), number, inr high) =
+    omega (arith, number_is word n m (spelled ∙ ap (λ (ws : List (List ℕ)). word_in ws 1) is.words) is.few number, ap (λ (r : ℕ × ℕ). r.1) ranged, is.high, high)
+good_range lines at n is (word, range, m, inr (from, kind, inside, argument, least, most), number, out) = not_in lines from at (omega (arith, is.setting)) inside
 
 -- such a line has no fault, if the entries are few
 good : (lines : List (List ℕ)) (at n : ℕ) → IsGood lines at n
@@ -39,13 +51,8 @@ good : (lines : List (List ℕ)) (at n : ℕ) → IsGood lines at n
 good lines at n is entries Header (setting, none) = none (decimal n) is.words
 good lines at n is entries Word (inl (between, other)) = not_between lines at is.setting between
 good lines at n is entries Word (inr (from, inside, going, none)) = not_in lines from at (omega (arith, is.setting)) inside
-good lines at n is entries Number (word, range, inl (setting, spelled, ranged), none) = none n (spelled ∙ ap (λ (ws : List (List ℕ)). word_in ws 1) is.words, is.few)
-good lines at n is entries Number (word, range, inr (from, kind, inside, argument, least, most), none) = not_in lines from at (omega (arith, is.setting)) inside
-good lines at n is entries Range (word, range, m, inl (setting, spelled, ranged), number, inl low) =
-    omega (arith, number_is word n m (spelled ∙ ap (λ (ws : List (List ℕ)). word_in ws 1) is.words) is.few number, ap (λ (r : ℕ × ℕ). r.0) ranged, is.low, low)
-good lines at n is entries Range (word, range, m, inl (setting, spelled, ranged), number, inr high) =
-    omega (arith, number_is word n m (spelled ∙ ap (λ (ws : List (List ℕ)). word_in ws 1) is.words) is.few number, ap (λ (r : ℕ × ℕ). r.1) ranged, is.high, high)
-good lines at n is entries Range (word, range, m, inr (from, kind, inside, argument, least, most), number, out) = not_in lines from at (omega (arith, is.setting)) inside
+good lines at n is entries Number fault = good_number lines at n is fault
+good lines at n is entries Range fault = good_range lines at n is fault
 good lines at n is entries Entries (last, v, has, many) = entries v has many
 good lines at n is entries Undefined (from, name, inside, read, undefined) = not_in lines from at (omega (arith, is.setting)) inside
 good lines at n is entries Names (from, name, roots, inside, defined, new, number, full) = not_in lines from at (omega (arith, is.setting)) inside

@@ -18,9 +18,9 @@ use Rattle.mako_script.specs.declared.command.Command.TheVariants.{New, Num, Cop
 use Rattle.mako_script.specs.declared.command.Argument.TheVariants.{Defined, Read, Fields, Index, Number}
 use Rattle.mako_script.specs.Names.{is_name, name_of, AreNames, board_name}
 use Rattle.mako_script.specs.Programs.{ProgramView, IsCall, defined_after, AreCalls, IsProgram}
+use Rattle.mako_script.specs.Printed.{setting_lines}
 use Rattle.mako_script.specs.Texts.{command_words, end_word, mutator_word, section_lines, line_text, settings, setting_words, script_lines, script_text, IsScript}
-use Rattle.mako_script.specs.Scripts.{ScriptView}
-use Rattle.mako_script.specs.Forms.{IsAccepted}
+use Rattle.mako_script.specs.Scripts.{IsProper, ScriptView}
 use Rattle.mako_script.specs.Reading.{◌>>=◌, words_of, name_at, place_at, define_at, word_at, command_named, kinds_of, defines, call_of, names_after, arguments_at, command_at, calls_at, section_at, sections_at, with_call, line_at, is_end, is_nil, within_at, setting_at, settings_at, each_at, keys, AreValues, AreProper, Gives, lines_of, script_at, script_of, Reads}
 use Rattle.mako_script.proofs.NameLists.{place_takes, place_none, define_known, define_full, define_new}
 use Rattle.mako_script.proofs.Takes.{bind_some, some_is, name_takes, word_takes, Takes, TakesEach, arguments_take, one, two, three, ended_some, within_takes, nil_is}
@@ -505,12 +505,6 @@ are_proper roots lines ps e some = let t = sections_take 16 roots 0 lines ps e s
 pub eleven : (vs : List ℕ) → length vs ≡ 11 → vs ≡ get_or vs 0 0 ∷ get_or vs 1 0 ∷ get_or vs 2 0 ∷ get_or vs 3 0 ∷ get_or vs 4 0 ∷ get_or vs 5 0 ∷ get_or vs 6 0 ∷ get_or vs 7 0 ∷ get_or vs 8 0 ∷ get_or vs 9 0 ∷ get_or vs 10 0 ∷ []
 eleven vs len = drop_more vs 0 0 (omega (arith, len)) ∙ ap (λ (t : List ℕ). get_or vs 0 0 ∷ t) (drop_more vs 1 0 (omega (arith, len)) ∙ ap (λ (t : List ℕ). get_or vs 1 0 ∷ t) (drop_more vs 2 0 (omega (arith, len)) ∙ ap (λ (t : List ℕ). get_or vs 2 0 ∷ t) (drop_more vs 3 0 (omega (arith, len)) ∙ ap (λ (t : List ℕ). get_or vs 3 0 ∷ t) (drop_more vs 4 0 (omega (arith, len)) ∙ ap (λ (t : List ℕ). get_or vs 4 0 ∷ t) (drop_more vs 5 0 (omega (arith, len)) ∙ ap (λ (t : List ℕ). get_or vs 5 0 ∷ t) (drop_more vs 6 0 (omega (arith, len)) ∙ ap (λ (t : List ℕ). get_or vs 6 0 ∷ t) (drop_more vs 7 0 (omega (arith, len)) ∙ ap (λ (t : List ℕ). get_or vs 7 0 ∷ t) (drop_more vs 8 0 (omega (arith, len)) ∙ ap (λ (t : List ℕ). get_or vs 8 0 ∷ t) (drop_more vs 9 0 (omega (arith, len)) ∙ ap (λ (t : List ℕ). get_or vs 9 0 ∷ t) (drop_more vs 10 0 (omega (arith, len)) ∙ ap (λ (t : List ℕ). get_or vs 10 0 ∷ t) (drop_all 11 vs (omega (arith, len)))))))))))))
 
--- the lines of settings with these keys and numbers
-abbrev pub setting_lines : List (List ℕ × (ℕ × ℕ)) → List ℕ → List (List (List ℕ))
-setting_lines [] vs = []
-setting_lines (key ∷ table) [] = []
-setting_lines (key ∷ table) (v ∷ vs) = (key.0 ∷ decimal v ∷ []) ∷ setting_lines table vs
-
 settings_spelled : (keys : List (List ℕ × (ℕ × ℕ))) (lines : List (List ℕ)) (vs : List ℕ) (rest : List (List ℕ)) → TakesSettings keys lines vs rest → lines ≡ lines_from (setting_lines keys vs) ++ rest
 settings_spelled [] lines vs rest h = h.1
 settings_spelled (key ∷ keys) lines vs rest h = rw (h.3, h.4) (ap (λ (t : List (List ℕ)). join_with_byte 32 (key.0 ∷ decimal h.1 ∷ []) ∷ t) (settings_spelled keys h.0 h.2 rest h.7))
@@ -546,5 +540,5 @@ script_takes text vs ps e =
     let spelled : text ≡ flat_map line_text (script_lines (script_of a.0.0 b.0)) = text_is text ∙ ap (join_with_byte 10) lines ∙ joined (script_lines (script_of a.0.0 b.0)) in
     subst (λ (x : List ℕ × List ProgramView). text ≡ flat_map line_text (script_lines (script_of x.0 x.1))) (some_is (a.0.0, b.0) (vs, ps) b.2) spelled
 
-pub is_script : (text : List ℕ) (s : ScriptView) → IsAccepted s → Reads (lines_of text) s → IsScript text s
-is_script text s accepted reads = record { proper = accepted.proper; spelled = script_takes text reads.values s.programs reads.read ∙ ap script_text (sym reads.made) }
+pub is_script : (text : List ℕ) (s : ScriptView) → IsProper s → Reads (lines_of text) s → IsScript text s
+is_script text s proper reads = record { proper = proper; spelled = script_takes text reads.values s.programs reads.read ∙ ap script_text (sym reads.made) }

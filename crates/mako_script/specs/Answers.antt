@@ -1,11 +1,31 @@
 -- What a reader may answer.
-use Rattle.std.specs.Prelude.{◌≡◌, Result, Ok, Err}
+use Rattle.std.specs.Prelude.{◌≡◌, ◌≢◌, ℕ, ◌≤◌, ◌⊎◌, List, Result, Ok, Err}
+use Rattle.mako_script.specs.declared.fault.Kind.{Kind}
+use Rattle.mako_script.specs.declared.fault.Kind.TheVariants.{Form, Words}
 use Rattle.mako_script.specs.declared.fault.ScriptFault.{ScriptFault}
 use Rattle.mako_script.specs.declared.fault.ScriptFault.TheVariants.{Bad, Memory}
+use Rattle.mako_script.specs.Forms.{IsFirstForm}
+use Rattle.mako_script.specs.Faults.{IsFirstFault}
 use Rattle.mako_script.specs.Scripts.{ScriptView}
+use Rattle.mako_script.specs.Texts.{IsScript}
 
 -- the answer is this script, unless there was not memory enough
 abbrev pub IsScriptOrMemory : ScriptView → Result ScriptView ScriptFault → Type 0
 IsScriptOrMemory s (Ok t) = t ≡ s
 IsScriptOrMemory s (Err Memory) = Unit {0}
 IsScriptOrMemory s (Err (Bad kind line)) = ⊥
+
+-- a fault that is told at one of the settings is the first, but for that of all areas together, which is found last
+abbrev pub IsFirstAmongSettings : List ℕ → Kind → ℕ → Type 0
+IsFirstAmongSettings bytes kind line = 1 ≤ line → line ≤ 11 → kind ≢ Words → IsFirstFault bytes kind line
+
+-- what is told of bytes that are no script
+abbrev pub TellsFault : List ℕ → ScriptFault → Type 0
+TellsFault bytes (Bad kind line) = IsFirstAmongSettings bytes kind line
+TellsFault bytes Memory = ⊥
+
+-- the bytes are no script, or their script is not of the form that is accepted
+abbrev pub IsRefused : List ℕ → Kind → ℕ → Type 0
+IsRefused bytes kind line =
+    (((s : ScriptView) → ¬ IsScript bytes s) × IsFirstAmongSettings bytes kind line)
+    ⊎ ((kind ≡ Form) × (line ≡ 0) × ((s : ScriptView) × IsScript bytes s × ¬ IsFirstForm s))

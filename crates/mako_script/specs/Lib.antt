@@ -1,10 +1,13 @@
 pub mod Answers
+pub mod Checks
 pub mod Examples
+pub mod FaultTexts
 pub mod Faults
 pub mod Forms
 pub mod Lines
 pub mod Names
 pub mod Outputs
+pub mod Printed
 pub mod Programs
 pub mod Reading
 pub mod ScriptFacts

@@ -21,6 +21,11 @@ pub fn words_stand_one_space_apart()
     ensures { (s : ScriptView) → ¬ IsScript spaced_text s }
 {}
 
+/// A text is that of one script at most.
+pub fn a_text_is_of_one_script()
+    ensures { (text : List ℕ) → (s t : ScriptView) → IsScript text s → IsScript text t → s ≡ t }
+{}
+
 /// A text has one first fault at most, and one line that is told for it.
 pub fn one_fault_is_the_first()
     ensures { (text : List ℕ) → (kind other : Kind) → (line told : ℕ) → IsFirstFault text kind line → IsFirstFault text other told → (kind ≡ other) × (line ≡ told) }

@@ -1,12 +1,12 @@
 //! Lines and words: a line ends at a line feed, and words are apart by one space.
 
-ghost use Rattle.std.specs.Prelude.{◌≡◌, ◌∷◌, ◌<◌, ◌==◌, length, position, IfOk};
+ghost use Rattle.std.specs.Prelude.{◌≡◌, ◌∷◌, ◌<◌, ◌==◌, length, position, IfErr, IfOk};
 ghost use Rattle.mako_script.specs.Reading.{Gives, lines_of, words_of, words_behind, line_at, word_at};
 
 use crate::refusal::Refusal;
 
 /// The place of the first such byte.
-fn place_of(byte: u8, text: &[u8]) -> Option<usize>
+pub fn place_of(byte: u8, text: &[u8]) -> Option<usize>
     ensures { result ≡ position (λ b. b == byte) text.now }
 {
     text.iter().position(|found| *found == byte)
@@ -17,6 +17,7 @@ fn place_of(byte: u8, text: &[u8]) -> Option<usize>
 pub fn next_line(text: &[u8]) -> Result<(&[u8], &[u8]), Refusal>
     ensures read { Gives (λ x. (x.0.now, lines_of x.1.now)) result (line_at (lines_of text.now)) }
     ensures shorter { IfOk result (λ x. length x.1.now < length text.now) }
+    ensures kind { IfErr result (λ e. e ≡ Refusal.Bad) }
 {
     match place_of(b'\n', text) {
         Some(end) => Ok((&text[..end], &text[end + 1..])),
@@ -38,7 +39,8 @@ pub fn split_word(line: &[u8]) -> (&[u8], &[u8])
 /// The next word behind others, and what stands behind it.
 #[tactic(auto, unfolding(crate::specs::Reading::words_behind))]
 pub fn next_word(rest: &[u8]) -> Result<(&[u8], &[u8]), Refusal>
-    ensures { Gives (λ x. (x.0.now, words_behind x.1.now)) result (word_at (words_behind rest.now)) }
+    ensures read { Gives (λ x. (x.0.now, words_behind x.1.now)) result (word_at (words_behind rest.now)) }
+    ensures kind { IfErr result (λ e. e ≡ Refusal.Bad) }
 {
     match rest {
         [] => Err(Refusal::Bad),

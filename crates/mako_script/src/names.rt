@@ -21,7 +21,7 @@ fn has_letters_and_digits_only(word: &[u8]) -> bool
 
 /// Whether a word is a letter followed by at most 15 letters or digits.
 #[tactic(auto, unfolding(crate::specs::Names::is_name))]
-fn is_spelled_as_name(word: &[u8]) -> bool
+pub fn is_spelled_as_name(word: &[u8]) -> bool
     ensures { result ≡ is_name word.now }
 {
     !word.is_empty()

@@ -1,6 +1,6 @@
 //! Numbers in decimal.
 
-ghost use Rattle.std.specs.Prelude.{◌≡◌, ◌<◌, ◌≤◌, ◌^◌, IfOk};
+ghost use Rattle.std.specs.Prelude.{◌≡◌, ◌<◌, ◌≤◌, ◌^◌, IfErr, IfOk};
 ghost use Rattle.mako_script.specs.Reading.{Gives, number_at, within_at};
 
 use crate::refusal::Refusal;
@@ -9,8 +9,9 @@ const MAX_DIGITS: usize = 10;
 
 /// The number that a word spells: `0`, or a digit 1 to 9 and further digits, at most ten in all.
 #[tactic(auto, unfolding(crate::specs::Reading::number_at))]
-fn number(word: &[u8]) -> Result<u64, Refusal>
-    ensures { Gives (λ n. n) result (number_at word.now) }
+pub fn number(word: &[u8]) -> Result<u64, Refusal>
+    ensures read { Gives (λ n. n) result (number_at word.now) }
+    ensures kind { IfErr result (λ e. e ≡ Refusal.Bad) }
 {
     if word.is_empty() || word.len() > MAX_DIGITS || (word[0] == b'0' && word.len() > 1) {
         return Err(Refusal::Bad);

@@ -14,38 +14,12 @@ ghost use Rattle.mako_script.specs.Texts.{command_word};
 ghost use Rattle.mako_script.specs.Outputs.{point_text, reply_text, mutator_line, freed_text, cycle_text, last_line, output_text, WentOut};
 ghost use Rattle.mako_script.specs.Written.{Writes, lines_text, sections_text, FitPrograms};
 
+use crate::line::{Line, add, add_number};
 use crate::program::Program;
 use crate::script::Script;
-use arrayvec::ArrayVec;
-use itoa::Buffer;
 use mako_io::{Sink, WriteFault, write_all};
 use mako_model::{Call, Cycles, Outcome, Reply};
 use mako_words::{Name, Value};
-
-/// Room for a line; none but that of a cycle is longer.
-const LINE_LEN: usize = 64;
-
-type Line = ArrayVec<u8, LINE_LEN>;
-
-/// Adds bytes to a line that has room for them.
-fn add(line: &mut Line, bytes: &[u8])
-    requires { length line.old.items + length bytes.now ≤ 64 }
-    ensures { line.new.items ≡ line.old.items ++ bytes.now }
-{
-    if line.try_extend_from_slice(bytes).is_err() {
-        unreachable!()
-    }
-}
-
-/// Adds a number in decimal, in at most 20 digits.
-fn add_number(line: &mut Line, number: u64)
-    requires { length line.old.items ≤ 44 }
-    ensures text { line.new.items ≡ line.old.items ++ decimal number }
-    ensures short { length (decimal number) ≤ 20 }
-{
-    let mut digits = Buffer::new();
-    add(line, digits.format(number).as_bytes());
-}
 
 /// Adds a name, in at most 41 bytes.
 fn add_name(line: &mut Line, name: Name)
@@ -71,7 +45,7 @@ fn add_value(line: &mut Line, value: Value)
     }
 }
 
-fn command_bytes(call: &Call) -> &'static [u8]
+pub fn command_bytes(call: &Call) -> &'static [u8]
     ensures word { result.now ≡ command_word call.now }
     ensures short { length result.now ≤ 7 }
 {
@@ -126,7 +100,7 @@ fn point_line(call: &Call, reply: &Reply) -> Line
 }
 
 /// Writes a piece of the output, behind so many bytes, and answers how many went out with it.
-fn write_piece<K: Sink>(sink: &mut K, before: usize, piece: &[u8]) -> Result<usize, WriteFault>
+pub fn write_piece<K: Sink>(sink: &mut K, before: usize, piece: &[u8]) -> Result<usize, WriteFault>
     ensures written { Writes piece.now (K.taken sink.old) (K.taken sink.new) before result }
     ensures fault { OnErr result (Rose (K.faults sink.old) (K.faults sink.new)) }
     ensures counted { K.faults sink.old ≤ K.faults sink.new }

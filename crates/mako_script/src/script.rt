@@ -4,7 +4,7 @@ use crate::program::Program;
 use mako_shape::Shape;
 use std::marker::Model;
 
-/// A script of the grammar, in the form that is accepted so far.
+/// A script of the grammar.
 #[derive(Drop)]
 pub struct Script {
     pub shape: Shape,
@@ -15,12 +15,11 @@ pub struct Script {
 }
 
 impl Model for Script {
-    ghost use Rattle.mako_script.specs.Scripts.{ScriptView};
-    ghost use Rattle.mako_script.specs.Forms.{IsAccepted};
+    ghost use Rattle.mako_script.specs.Scripts.{ScriptView, IsProper};
 
     ghost Value = { ScriptView };
 
     ghost view = { λ s. record { numbers = s.shape; board = s.board; programs = s.programs.items } };
 
-    ghost invariant = { λ s. IsAccepted (record { numbers = s.shape; board = s.board; programs = s.programs.items }) };
+    ghost invariant = { λ s. IsProper (record { numbers = s.shape; board = s.board; programs = s.programs.items }) };
 }

@@ -13,10 +13,10 @@ use mako_model::Call;
 use std::alloc::Global;
 
 /// The most commands of a script.
-const MAX_COMMANDS: usize = 1_048_576;
+pub const MAX_COMMANDS: usize = 1_048_576;
 
 /// The most sections of a script.
-const MAX_SECTIONS: usize = 16;
+pub const MAX_SECTIONS: usize = 16;
 
 /// The names at the start of a section.
 fn first_names(alloc: Global) -> Result<IndexSet<String>, Refusal>

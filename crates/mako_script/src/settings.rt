@@ -1,26 +1,27 @@
 //! The first eleven lines of a script, each a key and a number.
 
 ghost use Rattle.std.specs.Prelude.{◌≡◌, ◌≤◌, length, map, IfOk};
-ghost use Rattle.mako_script.specs.Reading.{Gives, keys, key_view, setting_at, settings_at, lines_of, AreValues};
+ghost use Rattle.mako_script.specs.Reading.{Gives, keys, key_view, setting_at, settings_at, lines_of, numbers_in, AreValues};
 
 use crate::lines::{next_line, next_word, split_word};
 use crate::numbers::number_within;
 use crate::refusal::Refusal;
 use arrayvec::ArrayVec;
+use mako_shape::Numbers;
 
 /// How many lines there are.
 pub const SETTINGS: usize = 11;
 
 /// A key, and the range of its number.
 #[derive(Clone, Copy)]
-struct Key {
-    word: &'static [u8],
-    low: u32,
-    high: u32,
+pub struct Key {
+    pub word: &'static [u8],
+    pub low: u32,
+    pub high: u32,
 }
 
 /// The keys, in the order of their lines.
-const KEYS: [Key; SETTINGS] = [
+pub const KEYS: [Key; SETTINGS] = [
     Key {
         word: b"mako",
         low: 1,
@@ -117,4 +118,23 @@ pub fn settings(text: &[u8]) -> Result<(ArrayVec<u32, SETTINGS>, &[u8]), Refusal
     ensures read { Gives (λ x. (x.0.items, lines_of x.1.now)) result (settings_at keys (lines_of text.now)) }
 {
     numbers(&KEYS, text)
+}
+
+/// The numbers of the geometry, among those of the settings.
+pub fn numbers_of(values: &[u32], mutators: u32) -> Numbers
+    requires { length values.now ≡ 11 }
+    ensures { result ≡ numbers_in values.now mutators }
+{
+    Numbers {
+        mutators,
+        servers: values[1],
+        tablets: values[2],
+        entries: values[3],
+        words: values[4],
+        spare: values[5],
+        ring: values[6],
+        roots: values[7],
+        cycles: values[8],
+        generations: values[9],
+    }
 }

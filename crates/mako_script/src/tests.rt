@@ -65,39 +65,105 @@ fn reads_calls(rt: HostRuntime) -> Result<(), Fail> {
     Ok(())
 }
 
-#[test]
-fn refuses_what_is_no_script(rt: HostRuntime) -> Result<(), Fail> {
-    let sections: [&[u8]; 10] = [
-        b"",
-        b"mutator\n",
-        b"mutator\nend",
-        b"mutator\nput x 0 board\nend\n",
-        b"mutator\nnew abcdefghijklmnopq 1\nend\n",
-        b"mutator\nnum n 07\nend\n",
-        b"mutator\nnum n 4294967296\nend\n",
-        b"mutator\nnum n  7\nend\n",
-        b"mutator\nend\nx",
-        b"mutator\nnum \x80 7\nend\n",
-    ];
-    for section in &sections {
-        let text = with_header(&rt, section)?;
-        let bad = matches!(
-            parse(rt.alloc(), &text),
-            Err(ScriptFault::Bad {
-                kind: Kind::Form,
-                line: 0
-            })
-        );
-        assert!(rt; bad);
+/// The fault of a text that is no script.
+fn fault_of(rt: &HostRuntime, text: &[u8]) -> Option<(Kind, u32)> {
+    match parse(rt.alloc(), text) {
+        Err(ScriptFault::Bad { kind, line }) => Some((kind, line)),
+        _ => None,
     }
-    let empty = matches!(
-        parse(rt.alloc(), b""),
-        Err(ScriptFault::Bad {
-            kind: Kind::Form,
-            line: 0
-        })
-    );
-    assert!(rt; empty);
+}
+
+#[test]
+fn tells_the_first_fault(rt: HostRuntime) -> Result<(), Fail> {
+    let sections: [(&[u8], Kind, u32); 21] = [
+        (b"", Kind::NoMutator, 12),
+        (b"mutator", Kind::Unclosed, 12),
+        (b"mutator\n", Kind::Unclosed, 13),
+        (b"mutator\nend", Kind::Unclosed, 13),
+        (b"mutator\nend\nx", Kind::Unclosed, 14),
+        (b"mutator\nend\nx\n", Kind::Word, 14),
+        (b"end\n", Kind::Word, 12),
+        (b"mutator\nnum \x80 7\nend\n", Kind::NotAscii, 13),
+        (b"mutator\nend\n\x80", Kind::NotAscii, 14),
+        (b"mutator\nmake a 1\nend\n", Kind::Word, 13),
+        (b"mutator\nnew abcdefghijklmnopq 1\nend\n", Kind::Word, 13),
+        (b"mutator\nnum n  7\nend\n", Kind::Word, 13),
+        (b"mutator\nput X 07 y\nend\n", Kind::Word, 13),
+        (b"mutator\nput x 07 y\nend\n", Kind::Number, 13),
+        (b"mutator\nput x 14 y\nend\n", Kind::Range, 13),
+        (b"mutator\nnum n 4294967296\nend\n", Kind::Range, 13),
+        (b"mutator\nput x 0 board\nend\n", Kind::Undefined, 13),
+        (b"mutator\nget a a 0\nend\n", Kind::Undefined, 13),
+        (
+            b"mutator\nnum a 1\nnum b 1\nnum c 1\nnum d 1\nend\n",
+            Kind::Names,
+            16,
+        ),
+        (
+            b"mutator\nnum a 1\nnum b 1\nnum c 1\nget d e 0\nend\n",
+            Kind::Undefined,
+            16,
+        ),
+        (b"mutator\nnum a 1\ndrop a\nmutator\nend\n", Kind::Word, 15),
+    ];
+    for (section, kind, line) in &sections {
+        let text = with_header(&rt, section)?;
+        assert_eq!(rt; fault_of(&rt, &text), Some((*kind, *line)));
+    }
+    Ok(())
+}
+
+#[test]
+fn tells_faults_of_settings(rt: HostRuntime) -> Result<(), Fail> {
+    let texts: [(&[u8], Kind, u32); 8] = [
+        (b"", Kind::Unclosed, 1),
+        (b"mako 1", Kind::Unclosed, 1),
+        (b"mako 1\n", Kind::Unclosed, 2),
+        (b"mako\n", Kind::Header, 1),
+        (b"mako 1 \n", Kind::Header, 1),
+        (b"mako one\n", Kind::Number, 1),
+        (b"mako 2\n", Kind::Range, 1),
+        (b"mako 1\nservers 9\n", Kind::Range, 2),
+    ];
+    for (text, kind, line) in &texts {
+        assert_eq!(rt; fault_of(&rt, text), Some((*kind, *line)));
+    }
+    let large: [(&[u8], Kind); 2] = [
+        (
+            b"mako 1\nservers 8\ntablets 256\nentries 513\nwords 16\nspare 1\nring 2\nroots 4\ncycles 10\ngens 8\nboard 1\n",
+            Kind::Entries,
+        ),
+        (
+            b"mako 1\nservers 8\ntablets 7\nentries 9\nwords 65520\nspare 1\nring 2\nroots 11\ncycles 10\ngens 8\nboard 1\nmutator\nend\n",
+            Kind::Words,
+        ),
+    ];
+    for (text, kind) in &large {
+        assert_eq!(rt; fault_of(&rt, text), Some((*kind, 11)));
+    }
+    Ok(())
+}
+
+#[test]
+fn counts_sections(rt: HostRuntime) -> Result<(), Fail> {
+    let mut text = with_header(&rt, b"")?;
+    for _ in 0..17 {
+        text.extend_from_slice(b"mutator\nend\n")?;
+    }
+    assert_eq!(rt; fault_of(&rt, &text), Some((Kind::Many, 44)));
+    Ok(())
+}
+
+#[test]
+fn prints_what_it_read(rt: HostRuntime) -> Result<(), Fail> {
+    let text = with_header(&rt, b"mutator\nnew a 1\nput a 0 a\nget b a 0\nend\n")?;
+    let Ok(script) = parse(rt.alloc(), &text) else {
+        return Err("a script was refused".into());
+    };
+    let Ok(printed) = print(rt.alloc(), &script) else {
+        return Err("no memory".into());
+    };
+    assert_eq!(rt; printed.as_slice(), text.as_slice());
     Ok(())
 }
 

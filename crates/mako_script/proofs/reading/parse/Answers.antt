@@ -1,16 +1,30 @@
-use Rattle.std.proofs.Common.{ap, Err}
+use Rattle.std.proofs.Common.{◌≡◌, ap, subst, inl, Err}
+use Rattle.mako_script.specs.declared.fault.ScriptFault.TheVariants.{Bad}
+use Rattle.mako_script.specs.Answers.{TellsFault}
 use Rattle.mako_script.proofs.Spelled.{is_script}
-use Rattle.mako_script.proofs.Again.{one_script, no_script}
+use Rattle.mako_script.proofs.Again.{no_script}
+use Rattle.mako_script.proofs.Parsed.{accepts, ok_is, only_is, refused_is}
 use Rattle.mako_script.proofs.reading.parse.Goals as goal
 
 pub returns-in-Ok-clause-ok : goal.returns-in-Ok-clause-ok
-returns-in-Ok-clause-ok c = is_script c.args.bytes.now c.in-Ok.script c.in-Ok.ensures.accepted c.in-Ok.ensures.read
+returns-in-Ok-clause-ok c =
+    let s = c.in-Ok.script in
+    ok_is c.args.bytes.now s c.accepted.result (is_script c.args.bytes.now s c.accepted.ensures.proper c.in-Ok.ensures.read) (accepts s c.accepted.result c.accepted.ensures.ok c.accepted.ensures.err)
 
 pub returns-in-Ok-clause-only : goal.returns-in-Ok-clause-only
-returns-in-Ok-clause-only c = λ s accepted is. one_script c.args.bytes.now s c.in-Ok.script accepted.proper is.spelled c.in-Ok.ensures.read
+returns-in-Ok-clause-only c =
+    let s = c.in-Ok.script in
+    only_is c.args.bytes.now s c.accepted.result c.in-Ok.ensures.read (accepts s c.accepted.result c.accepted.ensures.ok c.accepted.ensures.err)
+
+pub returns-in-Ok-clause-refused : goal.returns-in-Ok-clause-refused
+returns-in-Ok-clause-refused c =
+    let s = c.in-Ok.script in
+    refused_is c.args.bytes.now s c.accepted.result (is_script c.args.bytes.now s c.accepted.ensures.proper c.in-Ok.ensures.read) (accepts s c.accepted.result c.accepted.ensures.ok c.accepted.ensures.err)
 
 pub returns-in-Err-Bad-clause-only : goal.returns-in-Err-Bad-clause-only
-returns-in-Err-Bad-clause-only c = λ s accepted is. no_script c.args.bytes.now (c.in-Err-Bad.ensures.bad (ap Err c.in-Err-Bad.field-0-is)) s accepted is.spelled
+returns-in-Err-Bad-clause-only c = λ s accepted is. absurd (no_script c.args.bytes.now (c.in-Err-Bad.ensures.bad (ap Err c.in-Err-Bad.field-0-is)) s is)
 
-pub returns-in-Err-Bad-clause-bad : goal.returns-in-Err-Bad-clause-bad
-returns-in-Err-Bad-clause-bad c = λ kind line e s accepted spelled. no_script c.args.bytes.now (c.in-Err-Bad.ensures.bad (ap Err c.in-Err-Bad.field-0-is)) s accepted spelled
+pub returns-in-Err-Bad-clause-refused : goal.returns-in-Err-Bad-clause-refused
+returns-in-Err-Bad-clause-refused c = λ kind line e.
+    let same : c.fault.result ≡ Bad kind line = cc in
+    inl (no_script c.args.bytes.now (c.in-Err-Bad.ensures.bad (ap Err c.in-Err-Bad.field-0-is)), subst (TellsFault c.args.bytes.now) same c.fault.ensures)

@@ -19,14 +19,14 @@ begun-progress-requires-clause-calls c =
     let at : slice_get s.programs c.args.mutator ≡ Some program = slice_get_read s.programs (length s.programs) c.args.mutator program refl small c.index-program.ensures in
     let calls_are : c.as_slice-2.result.now ≡ program.calls =
     c.as_slice-2.ensures.value ∙ c.in-Ok.ensures.items ∙ c.as_slice.ensures.value ∙ ap (λ (p : ProgramView). p.calls) c.program.view_is in
-    subst (λ (calls : List Call). AreFitting s.numbers calls) (sym calls_are) (program_fits s c.args.mutator program c.script.invariant.proper at)
+    subst (λ (calls : List Call). AreFitting s.numbers calls) (sym calls_are) (program_fits s c.args.mutator program c.script.invariant at)
 
 pub invariant_of-result : goal.invariant_of-result
 invariant_of-result c =
     let s : ScriptView = record { numbers = c.script.inside.shape; board = c.script.inside.board; programs = c.script.inside.programs.items } in
     let k : Caller = record { shape = s.numbers; mutator = c.args.mutator } in
     let program = c.index-program.result.now in
-    let proper = c.script.invariant.proper in
+    let proper = c.script.invariant in
     let small : c.args.mutator < length s.programs = subst (λ (t : ScriptView). c.args.mutator < length t.programs) (sym c.script.view_is) c.requires in
     let at : slice_get s.programs c.args.mutator ≡ Some program = slice_get_read s.programs (length s.programs) c.args.mutator program refl small c.index-program.ensures in
     let calls_are : c.in-Ok.calls.items ≡ program.calls = c.in-Ok.ensures.items ∙ c.as_slice.ensures.value ∙ ap (λ (p : ProgramView). p.calls) c.program.view_is in

@@ -1,0 +1,5 @@
+use Rattle.mako_script.proofs.Again.{same_script}
+use Rattle.mako_script.proofs.laws.a_text_is_of_one_script.Goals as goal
+
+pub returns : goal.returns
+returns c = same_script
