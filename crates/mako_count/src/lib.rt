@@ -1,0 +1,16 @@
+//! The end of work that spreads by messages, told by counting twice.
+#![tactic(auto)]
+
+mod count;
+mod opening;
+mod passes;
+mod poller;
+mod rule;
+mod setup;
+mod steps;
+mod views;
+mod worker;
+
+pub use count::{Count, Counted};
+pub use poller::{CountPoller, Counting};
+pub use worker::{Sent, Taken, Worker};
