@@ -10,3 +10,5 @@ pub mod Meets
 pub mod Opens
 pub mod Dealing
 pub mod Passing
+pub mod Meeting
+pub mod Starting

@@ -84,7 +84,7 @@ their_words c (w ∷ ws) fits =
     let f = All-head (FitsWorker c) w ws fits in let sent = f.sent in let rest = their_words c ws (All-tail (FitsWorker c) w ws fits) in
     let a = sum_by-cons (λ (y : WorkerView). y.seeds + y.sends) w ws in let b = sum_by-cons (λ (y : WorkerView). get_or c.sent y.number 0) w ws in omega (arith, sent, rest, a, b)
 
-pub tells_of : (n : ℕ) (c : Counters) (views : List View) (id : ℕ) (ws : List WorkerView) (p : PollView) → Counts n c views → get_elem? views id ≡ some (gathering ws p) → MeetingTells ws p
+pub tells_of : (n : ℕ) (c : Counters) (views : List View) (id : ℕ) (ws : List WorkerView) (p : PollView) → Counts n c views → get_elem? views id ≡ some (gathering ws p) → MeetingTells p.count ws p
 tells_of n c views id ws p h at m told =
     let v : View = gathering ws p in let f = h.fits id v at in let fits = f.0 in let poll : FitsPoll c (pieces views) p = f.1 in
     let quiet : IsQuietAfter c (pieces views) m = poll.told m told in (

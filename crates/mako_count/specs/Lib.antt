@@ -6,3 +6,4 @@ pub mod States
 pub mod Passes
 pub mod Answering
 pub mod Tables
+pub mod Running

@@ -6,6 +6,7 @@ mod opening;
 mod passes;
 mod poller;
 mod rule;
+mod run;
 mod setup;
 mod steps;
 mod views;
@@ -13,4 +14,5 @@ mod worker;
 
 pub use count::{Count, Counted};
 pub use poller::{CountPoller, Counting};
+pub use run::count_pieces;
 pub use worker::{Sent, Taken, Worker};

@@ -87,7 +87,7 @@ impl CountPoller {
         ensures same { (self.new.table ≡ self.old.table) × (self.new.poll ≡ self.old.poll) }
         ensures met { self.new.met ≡ self.old.met ++ worker.known ∷ [] }
         // A poller that was told knows what the workers that it has met have done.
-        ensures tells { MeetingTells self.new.met self.new.poll }
+        ensures tells { MeetingTells (crew_of count.now) self.new.met self.new.poll }
     {
         count.take_in(&mut self.seat, worker.into_seat());
     }

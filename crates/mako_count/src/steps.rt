@@ -121,7 +121,7 @@ impl Count {
         requires worker { IsSeatOf (worker_of other.me.0) other.me }
         ensures table { seat.new.table_id ≡ seat.old.table_id }
         ensures met { seat.new.me ≡ (met_with seat.old.me.0 other.me.0, []) }
-        ensures tells { MeetingTells seat.new.me.0.workers (poll_of seat.new.me.0) }
+        ensures tells { MeetingTells (poll_of seat.new.me.0).count seat.new.me.0.workers (poll_of seat.new.me.0) }
     {
         self.table.shared.join_seat::<TakesIn>(seat, other);
         self.table.shared.load::<Meets>(seat, 0);
