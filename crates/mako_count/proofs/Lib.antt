@@ -12,3 +12,4 @@ pub mod Dealing
 pub mod Passing
 pub mod Meeting
 pub mod Starting
+pub mod Over

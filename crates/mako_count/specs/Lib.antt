@@ -7,3 +7,4 @@ pub mod Passes
 pub mod Answering
 pub mod Tables
 pub mod Running
+pub mod Ends

@@ -2,6 +2,7 @@
 #![tactic(auto)]
 
 mod count;
+pub mod laws;
 mod opening;
 mod passes;
 mod poller;
@@ -16,3 +17,6 @@ pub use count::{Count, Counted};
 pub use poller::{CountPoller, Counting};
 pub use run::count_pieces;
 pub use worker::{Sent, Taken, Worker};
+
+#[cfg(test)]
+mod tests;
