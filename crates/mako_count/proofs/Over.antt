@@ -48,7 +48,7 @@ abbrev now : Counters
 now = record { sent = 2 ∷ 0 ∷ []; handled = 0 ∷ 0 ∷ []; waiting = 0 ∷ 0 ∷ [] }
 
 abbrev poll : PollView
-poll = record { count = 2; first = record { sent = 1 ∷ 0 ∷ []; handled = 0 ∷ 0 ∷ [] }; later = record { sent = 2 ∷ []; handled = [] }; again = true; told = None }
+poll = record { count = 2; first = record { sent = 1 ∷ 0 ∷ []; handled = 0 ∷ 0 ∷ [] }; later = record { sent = 2 ∷ []; handled = [] }; passes = 2; again = true; told = None }
 
 abbrev first : WorkerView
 first = record { number = 0; seeds = 1; sends = 1; handled = 0; looked = 1; filled = 0; hand = Sending }

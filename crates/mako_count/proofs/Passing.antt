@@ -16,6 +16,7 @@ record Judged (p q : PollView) : Type 0 where
   first : q.first ≡ p.first
   later : q.later ≡ p.later
   count : q.count ≡ p.count
+  passes : q.passes ≡ p.passes
   again : q.again ≡ p.again
   told : q.told ≡ told_after p.told p
   after : (o : Option ℕ) → told_after o q ≡ told_after o p
@@ -24,8 +25,8 @@ is_judged : (p : PollView) → Judged p (judged p)
 is_judged p = go (tells p) refl
   where
     go : (b : Bool) → tells p ≡ b → Judged p (if b then record p { told = Some (sum p.first.sent) } else p)
-    go true e = record { first = refl; later = refl; count = refl; again = refl; told = sym (ap (λ (b : Bool). if b then Some (sum p.first.sent) else p.told) e); after = λ o. refl }
-    go false e = record { first = refl; later = refl; count = refl; again = refl; told = sym (ap (λ (b : Bool). if b then Some (sum p.first.sent) else p.told) e); after = λ o. refl }
+    go true e = record { first = refl; later = refl; count = refl; passes = refl; again = refl; told = sym (ap (λ (b : Bool). if b then Some (sum p.first.sent) else p.told) e); after = λ o. refl }
+    go false e = record { first = refl; later = refl; count = refl; passes = refl; again = refl; told = sym (ap (λ (b : Bool). if b then Some (sum p.first.sent) else p.told) e); after = λ o. refl }
 
 not_telling : (p : PollView) → (Telling p → ⊥) → tells p ≡ false
 not_telling p none = go (tells p) refl
@@ -49,6 +50,7 @@ first_pass p sent handled a b =
     let r : PollView = judged q in let later = j.later in record {
       first = j.first;
       count = j.count;
+      passes = j.passes;
       again = j.again;
       sent_length = ap (λ (l : Reading). length l.sent) later;
       handled_length = ap (λ (l : Reading). length l.handled) later;
@@ -67,6 +69,7 @@ next_pass i p q r sent handled x y before t s =
     subst (λ (z : PollView). IsPassTo (i + 1) p z (sent + x) (handled + y)) (sym is) record {
       first = j.first ∙ t.first;
       count = j.count ∙ t.count;
+      passes = j.passes ∙ t.passes;
       again = j.again ∙ t.again;
       sent_length = ap (λ (l : Reading). length l.sent) j.later ∙ length-append q.later.sent (x ∷ []) ∙ ap (λ n. n + 1) t.sent_length;
       handled_length = ap (λ (l : Reading). length l.handled) j.later ∙ length-append q.later.handled (y ∷ []) ∙ ap (λ n. n + 1) t.handled_length;

@@ -35,6 +35,7 @@ example told = record {
     count = 2;
     first = record { sent = 1 ∷ 0 ∷ []; handled = 0 ∷ 0 ∷ [] };
     later = record { sent = 2 ∷ []; handled = [] };
+    passes = 2;
     again = true;
     told = told;
   }

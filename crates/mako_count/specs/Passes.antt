@@ -12,6 +12,7 @@ told_after o p = if tells p then Some (sum p.first.sent) else o
 pub record IsPassTo (i : ℕ) (p q : PollView) (sent handled : ℕ) : Type 0 where
   pub first : q.first ≡ p.later
   pub count : q.count ≡ p.count
+  pub passes : q.passes ≡ p.passes + 1
   pub again : q.again ≡ not p.again
   pub sent_length : length q.later.sent ≡ i
   pub handled_length : length q.later.handled ≡ i

@@ -21,7 +21,7 @@ abbrev pub nothing_read : Reading
 nothing_read = record { sent = []; handled = [] }
 
 abbrev pub opening_poll : ℕ → PollView
-opening_poll n = record { count = n; first = nothing_read; later = nothing_read; again = true; told = None }
+opening_poll n = record { count = n; first = nothing_read; later = nothing_read; passes = 0; again = true; told = None }
 
 -- a worker's seat
 abbrev pub alone : WorkerView → View

@@ -1,6 +1,6 @@
 //! The poller, which counts twice.
 
-ghost use Rattle.std.specs.Prelude.{◌≡◌, ◌++◌, ◌∷◌, []};
+ghost use Rattle.std.specs.Prelude.{◌≡◌, ◌+◌, ◌++◌, ◌∷◌, []};
 ghost use Rattle.mako_count.specs.States.{PollerState, poller_state, IsPollerHeld};
 ghost use Rattle.mako_count.specs.Passes.{IsWholeReading};
 ghost use Rattle.mako_count.specs.Answering.{IsAnswer, IsVerdict};
@@ -71,7 +71,8 @@ impl CountPoller {
     pub fn poll(&mut self, count: &Count) -> Counting
         requires table { self.old.table ≡ table_of count.now }
         ensures same { (self.new.table ≡ self.old.table) × (self.new.met ≡ self.old.met) }
-        // Each word was read twice, and the sums are those of the words found.
+        // Two passes were made, in each of which each word was read, and the sums are those of the words found.
+        ensures passes { self.new.poll.passes ≡ self.old.poll.passes + 2 }
         ensures whole { IsWholeReading (crew_of count.now) self.new.poll.first × IsWholeReading (crew_of count.now) self.new.poll.later }
         ensures answer { IsAnswer self.old.poll self.new.poll result }
     {

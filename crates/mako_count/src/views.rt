@@ -34,11 +34,13 @@ pub struct Reading {
 }
 
 /// What the poller's seat knows: how many workers there are, what the pass before the last found, what the last one
-/// found, whether that is the second pass of its poll, and what the last poll that told anything told.
+/// found, how many passes were begun, whether that is the second one of its poll, and what the last poll that told
+/// anything told.
 pub struct PollView {
     pub count: u64,
     pub first: Reading,
     pub later: Reading,
+    pub passes: u64,
     pub again: bool,
     pub told: Option<u64>,
 }
