@@ -2,13 +2,17 @@
 #![tactic(auto)]
 
 mod commands;
+mod count;
 mod ended;
 mod run;
 mod settled;
 
 pub use commands::{replay_top, top};
+pub use count::count_top;
 pub use ended::Ended;
 pub use settled::Settled;
 
+#[cfg(test)]
+mod count_tests;
 #[cfg(test)]
 mod tests;
