@@ -1,5 +1,5 @@
 -- The words are three lists one after another: what is read and written in one of them.
-use Rattle.std.proofs.Common.{◌≡◌, ℕ, ◌+◌, ◌-◌, ◌*◌, ◌<◌, ◌≤◌, List, ◌++◌, length, length-append, set, get_or, sym, refl, ap, ◌∙◌, subst, arith, get_or-append-add}
+use Rattle.std.proofs.Common.{◌≡◌, ℕ, ◌+◌, ◌-◌, ◌*◌, ◌<◌, ◌≤◌, List, ◌++◌, length, set, get_or, ap, ◌∙◌, subst, arith, get_or-append-add}
 use lib.ListN.{get_or-append}
 use Rattle.std.proofs.lemmas.List.{set-append_left, set-append_right}
 use Rattle.mako_count.specs.Counting.{Counters, words_of}

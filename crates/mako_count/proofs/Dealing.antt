@@ -4,7 +4,6 @@ use Rattle.std.proofs.lemmas.List.{take_all}
 use Rattle.atomic_table.specs.Seated.{TableId}
 use Rattle.std.proofs.lemmas.List.Elements.{All-push}
 use Rattle.mako_count.specs.declared.views.WorkerView.{WorkerView}
-use Rattle.mako_count.specs.declared.views.View.{View}
 use Rattle.mako_count.specs.Views.{alone, gathering, openings, opening_worker, opening_poll, first_of, rest_of, worker_of, IsPollers, Seated}
 use Rattle.mako_count.specs.States.{WorkerState, worker_state, Desk, IsWorkerHeld, AreStarting}
 

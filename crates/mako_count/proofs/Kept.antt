@@ -1,8 +1,8 @@
 -- A step of one worker keeps the rule.
-use Rattle.std.proofs.Common.{◌≡◌, ◌≢◌, ◌⊎◌, ℕ, zero, suc, ◌+◌, ◌*◌, ◌^◌, ◌<◌, ◌≤◌, List, [], ◌∷◌, ◌++◌, length, set, get_or, sum, sum_by, All, MatchOption, Option, Some, None, sym, refl, ap, ◌∙◌, subst, arith, inl, inr, ⊎_elim, le_trans}
-use mathlib.Core.Option.{some, some-injective, some-ne-none}
+use Rattle.std.proofs.Common.{◌≡◌, ◌≢◌, ℕ, zero, suc, ◌+◌, ◌^◌, ◌<◌, ◌≤◌, List, [], ◌∷◌, length, set, get_or, sum, sum_by, All, MatchOption, Option, Some, None, sym, refl, ap, ◌∙◌, subst, arith, ⊎_elim, le_trans}
+use mathlib.Core.Option.{some}
 use lib.ListN.{get_elem?}
-use Rattle.atomic_table.specs.Table.{State, Me, keeps, stepped, Allows}
+use Rattle.atomic_table.specs.Table.{keeps, Allows}
 use Rattle.atomic_table.proofs.Lists.{at_set}
 use Rattle.std.proofs.lemmas.List.Sums.{get_or-le-sum_by}
 use Rattle.mako_count.specs.declared.views.WorkerView.{WorkerView}
@@ -10,9 +10,9 @@ use Rattle.mako_count.specs.declared.views.PollView.{PollView}
 use Rattle.mako_count.specs.declared.views.View.{View}
 use Rattle.mako_count.specs.declared.setup.Setup.{Setup}
 use Rattle.mako_count.specs.Views.{alone, spent, Seated}
-use Rattle.mako_count.specs.Counting.{Counters, words_of, in_hand, pieces_at, pieces_with, pieces, IsQuiet, IsQuietAfter, FitsWorker, IsBelow, IsUnchanged, FitsPoll, FitsView, below, weights, Counts, CountingHolds}
+use Rattle.mako_count.specs.Counting.{Counters, words_of, pieces_at, pieces_with, pieces, IsQuiet, FitsWorker, IsBelow, FitsPoll, FitsView, below, weights, Counts, CountingHolds}
 use Rattle.mako_count.proofs.Numbers.{still_unchanged}
-use Rattle.mako_count.proofs.Lists.{there_below, sum_by-set_at, at_most_sum_by, two_of_sum_by}
+use Rattle.mako_count.proofs.Lists.{sum_by-set_at, at_most_sum_by, two_of_sum_by}
 
 -- 1 where the numbers are equal, else 0
 abbrev same : ℕ → ℕ → ℕ

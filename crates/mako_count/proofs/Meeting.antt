@@ -1,5 +1,5 @@
 -- The poller meets the workers one after another.
-use Rattle.std.proofs.Common.{◌≡◌, ℕ, zero, suc, ◌+◌, ◌*◌, ◌<◌, ◌≤◌, min, List, [], ◌∷◌, ◌++◌, length, length-append, sum_by, All, Some, sym, refl, ap, ◌∙◌, subst, arith, suc-mul, mul_comm}
+use Rattle.std.proofs.Common.{◌≡◌, ℕ, ◌+◌, ◌*◌, ◌<◌, ◌≤◌, List, [], ◌∷◌, ◌++◌, length, length-append, sum_by, All, Some, sym, ap, ◌∙◌, subst, arith, suc-mul, mul_comm}
 use lib.ListN.{get_or-append}
 use lib.Seq.{get_or-append_seam}
 use Rattle.atomic_table.specs.Seated.{TableId}

@@ -1,10 +1,10 @@
 -- What a told poller knows of the workers that it has met.
-use Rattle.std.proofs.Common.{◌≡◌, ℕ, zero, suc, ◌+◌, ◌<◌, ◌≤◌, List, [], ◌∷◌, length, set, get_or, sum, sum_by, All, Some, sym, refl, ap, ◌∙◌, subst, arith}
+use Rattle.std.proofs.Common.{◌≡◌, ℕ, zero, suc, ◌+◌, ◌<◌, ◌≤◌, List, [], ◌∷◌, length, set, get_or, sum, sum_by, All, sym, refl, ◌∙◌, subst, arith}
 use mathlib.Core.Option.{some}
 use lib.ListN.{get_elem?}
 use Rattle.std.proofs.lemmas.List.Sums.{sum_by-cons, get_or-le-sum_by}
 use Rattle.std.proofs.lemmas.List.Elements.{All-head, All-tail}
-use Rattle.atomic_table.specs.Table.{State, keeps, Allows}
+use Rattle.atomic_table.specs.Table.{keeps, Allows}
 use Rattle.atomic_table.proofs.Lists.{set_again}
 use Rattle.mako_count.specs.declared.views.Hand.{Hand}
 use Rattle.mako_count.specs.declared.views.Hand.TheVariants.{Free, Reaching, Holding, Sending}

@@ -1,5 +1,5 @@
 -- Lists of numbers: one of them changes, and two lists compared place by place.
-use Rattle.std.proofs.Common.{◌≡◌, ◌≢◌, ℕ, zero, suc, ◌+◌, ◌-◌, ◌*◌, ◌<◌, ◌≤◌, List, [], ◌∷◌, ◌++◌, length, set, get_or, drop, sum, sum_by, sym, refl, ap, ◌∙◌, subst, arith, suc-mul, get_or-set_same, get_or-set_other, length-set, ext_get_or}
+use Rattle.std.proofs.Common.{◌≡◌, ℕ, suc, ◌+◌, ◌-◌, ◌*◌, ◌<◌, ◌≤◌, List, [], ◌∷◌, ◌++◌, length, set, get_or, drop, sum, sym, refl, ap, ◌∙◌, subst, arith, suc-mul, get_or-set_same, get_or-set_other, ext_get_or}
 use mathlib.Core.Logic.{dite}
 use native.Mathlib.Decide.{ℕ_discrete}
 use Rattle.std.proofs.lemmas.List.Sums.{sum_by-set, sum_by-cons, get_or-le-sum_by}

@@ -1,16 +1,15 @@
 -- The words at the start meet the rule.
-use Rattle.std.proofs.Common.{◌≡◌, ℕ, zero, suc, ◌+◌, ◌*◌, ◌^◌, ◌<◌, ◌≤◌, List, [], ◌∷◌, ◌++◌, length, get_or, replicate, sum, sum_by, All, sym, refl, ap, ◌∙◌, subst, arith}
+use Rattle.std.proofs.Common.{◌≡◌, ℕ, zero, suc, ◌+◌, ◌^◌, ◌<◌, ◌≤◌, List, [], ◌∷◌, ◌++◌, length, get_or, replicate, sum, sum_by, sym, refl, ap, ◌∙◌, subst, arith}
 use mathlib.Core.Option.{some, some-injective, some-ne-none}
 use lib.ListN.{get_elem?, length-replicate}
 use Rattle.std.proofs.lemmas.List.Sums.{sum_by-cons}
-use Rattle.atomic_table.specs.Table.{State, opening}
+use Rattle.atomic_table.specs.Table.{opening}
 use Rattle.mako_count.specs.declared.views.Hand.TheVariants.{Free, Reaching}
 use Rattle.mako_count.specs.declared.views.WorkerView.{WorkerView}
-use Rattle.mako_count.specs.declared.views.PollView.{PollView}
 use Rattle.mako_count.specs.declared.views.View.{View}
 use Rattle.mako_count.specs.declared.setup.Setup.{Setup}
-use Rattle.mako_count.specs.Views.{openings, opening_worker, opening_poll, gathering, nothing_read}
-use Rattle.mako_count.specs.Counting.{Counters, words_of, pieces_at, pieces_with, pieces, FitsWorker, FitsPoll, FitsView, below, weights, Counts, CountingHolds, opening_view}
+use Rattle.mako_count.specs.Views.{openings, opening_worker, opening_poll, nothing_read}
+use Rattle.mako_count.specs.Counting.{Counters, pieces_at, pieces, FitsWorker, FitsPoll, FitsView, below, CountingHolds, opening_view}
 use Rattle.mako_count.proofs.Numbers.{sum-cons}
 use Rattle.mako_count.proofs.PollReads.{all_quiet}
 

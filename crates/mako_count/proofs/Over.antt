@@ -1,19 +1,17 @@
 -- Once a poller was told, nothing is left to do.
-use Rattle.std.proofs.Common.{◌≡◌, ℕ, zero, suc, ◌+◌, ◌<◌, ◌≤◌, true, List, [], ◌∷◌, length, get_or, sum, sum_by, All, MatchOption, Option, Some, None, sym, refl, ap, ◌∙◌, subst, arith}
+use Rattle.std.proofs.Common.{◌≡◌, ℕ, zero, suc, ◌<◌, ◌≤◌, true, List, [], ◌∷◌, length, get_or, sum, MatchOption, Option, Some, None, sym, refl, ap, ◌∙◌, subst, arith}
 use mathlib.Core.Option.{some, some-injective, some-ne-none}
 use mathlib.Core.Logic.{dite}
 use native.Mathlib.Decide.{dec_lt}
 use lib.ListN.{get_elem?}
-use Rattle.std.proofs.lemmas.List.Sums.{sum_by-cons, get_or-le-sum_by}
-use Rattle.atomic_table.specs.Table.{State}
+use Rattle.std.proofs.lemmas.List.Sums.{get_or-le-sum_by}
 use Rattle.mako_count.specs.declared.views.Hand.TheVariants.{Free, Reaching, Sending}
 use Rattle.mako_count.specs.declared.views.WorkerView.{WorkerView}
 use Rattle.mako_count.specs.declared.views.PollView.{PollView}
 use Rattle.mako_count.specs.declared.views.View.{View}
-use Rattle.mako_count.specs.declared.setup.Setup.{Setup}
 use Rattle.mako_count.specs.Views.{alone, gathering, opening_worker}
-use Rattle.mako_count.specs.Counting.{Counters, words_of, pieces_at, pieces_with, pieces, IsQuietAfter, FitsWorker, FitsPoll, FitsView, Counts, CountingHolds}
-use Rattle.mako_count.specs.Ends.{IsOver, ToldIsOver, example, WorkedExample}
+use Rattle.mako_count.specs.Counting.{Counters, pieces_at, pieces_with, pieces, IsQuietAfter, FitsWorker, FitsPoll, FitsView, Counts}
+use Rattle.mako_count.specs.Ends.{ToldIsOver, example, WorkedExample}
 use Rattle.mako_count.proofs.Numbers.{at_most_sum}
 use Rattle.mako_count.proofs.Lists.{at_most_sum_by}
 use Rattle.mako_count.proofs.Kept.{one_worker}

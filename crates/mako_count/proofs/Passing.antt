@@ -1,14 +1,14 @@
 -- What the passes of a poll come to.
-use Rattle.std.proofs.Common.{◌≡◌, ℕ, ◌+◌, ◌*◌, ◌^◌, ◌<◌, ◌≤◌, Bool, true, false, not, if◌then◌else◌, List, [], ◌∷◌, ◌++◌, length, length-append, sum, Option, Some, sym, refl, ap, ◌∙◌, subst, arith}
+use Rattle.std.proofs.Common.{◌≡◌, ℕ, ◌+◌, ◌^◌, ◌<◌, Bool, true, false, not, if◌then◌else◌, List, [], ◌∷◌, ◌++◌, length, length-append, sum, Option, Some, sym, refl, ap, ◌∙◌, subst, arith}
 use Rattle.std.proofs.lemmas.List.Sums.{sum_by_push}
 use Rattle.mako_count.specs.declared.views.Reading.{Reading}
 use Rattle.mako_count.specs.declared.views.PollView.{PollView}
 use Rattle.mako_count.specs.declared.passes.Sums.{Sums}
 use Rattle.mako_count.specs.declared.poller.Counting.{Counting}
 use Rattle.mako_count.specs.declared.poller.Counting.TheVariants.{Told, NotYet}
-use Rattle.mako_count.specs.Changes.{tells, judged, begun, sent_read, handled_read}
+use Rattle.mako_count.specs.Changes.{tells, judged, begun, handled_read}
 use Rattle.mako_count.specs.Passes.{told_after, IsPassTo, IsNumbersOf}
-use Rattle.mako_count.specs.Answering.{HasSums, AreEqual, IsAnswer, IsVerdict}
+use Rattle.mako_count.specs.Answering.{IsAnswer, IsVerdict}
 use Rattle.mako_count.proofs.Telling.{Telling, telling, tells_so}
 
 -- a judgement changes what is told alone

@@ -1,11 +1,11 @@
 -- Each kind of the poller's reads keeps the rule.
-use Rattle.std.proofs.Common.{◌≡◌, ◌≢◌, ◌⊎◌, ℕ, zero, suc, ◌+◌, ◌-◌, ◌*◌, ◌^◌, ◌<◌, ◌≤◌, Bool, true, false, not, if◌then◌else◌, List, [], ◌∷◌, ◌++◌, length, length-append, set, get_or, drop, sum, sum_by, Some, sym, refl, ap, ◌∙◌, subst, arith, ⊎_elim, append_assoc, append-nil, drop-cons, drop_of_length-le, le_refl}
+use Rattle.std.proofs.Common.{◌≡◌, ◌≢◌, ℕ, zero, suc, ◌+◌, ◌^◌, ◌<◌, ◌≤◌, Bool, true, false, if◌then◌else◌, List, [], ◌∷◌, ◌++◌, length, length-append, set, get_or, drop, sum, sum_by, Some, sym, refl, ap, ◌∙◌, subst, arith, ⊎_elim, append_assoc, append-nil, drop-cons, drop_of_length-le, le_refl}
 use mathlib.Core.Option.{some}
 use mathlib.Core.Logic.{dite}
 use native.Mathlib.Decide.{dec_lt}
 use lib.ListN.{get_elem?, get_or-append}
 use lib.Seq.{get_or-append_seam}
-use Rattle.atomic_table.specs.Table.{State, keeps, Allows}
+use Rattle.atomic_table.specs.Table.{keeps, Allows}
 use Rattle.atomic_table.proofs.Lists.{at_set}
 use Rattle.mako_count.specs.declared.views.WorkerView.{WorkerView}
 use Rattle.mako_count.specs.declared.views.Reading.{Reading}
@@ -14,7 +14,7 @@ use Rattle.mako_count.specs.declared.views.View.{View}
 use Rattle.mako_count.specs.declared.setup.Setup.{Setup}
 use Rattle.mako_count.specs.Views.{gathering, poll_of, IsPollersSeat, IsPollers, Seated}
 use Rattle.mako_count.specs.Changes.{tells, judged, begun, sent_read, handled_read}
-use Rattle.mako_count.specs.Counting.{Counters, words_of, pieces_with, pieces, IsQuietAfter, IsBelow, HasRisen, IsUnchanged, FitsPoll, FitsView, weights, Counts, CountingHolds}
+use Rattle.mako_count.specs.Counting.{Counters, words_of, pieces, IsQuietAfter, IsBelow, HasRisen, IsUnchanged, FitsPoll, FitsView, Counts, CountingHolds}
 use Rattle.mako_count.proofs.Numbers.{same_by_sum}
 use Rattle.mako_count.proofs.Lists.{sum_by-set_at, set_get}
 use Rattle.mako_count.proofs.Areas.{sent_at, handled_at}

@@ -1,11 +1,11 @@
 -- Workers at their start stand between pieces.
-use Rattle.std.proofs.Common.{◌≡◌, ℕ, zero, suc, ◌+◌, ◌<◌, List, [], ◌∷◌, length, map, get_or, replicate, All, sym, refl, ap, ◌∙◌, subst, arith}
+use Rattle.std.proofs.Common.{◌≡◌, ℕ, ◌+◌, ◌<◌, List, length, get_or, replicate, sym, ap, ◌∙◌, arith}
 use lib.ListN.{get_or-map, get_or-replicate, length-replicate, length-map}
 use Rattle.atomic_table.specs.Seated.{TableId}
 use Rattle.mako_count.specs.declared.views.WorkerView.{WorkerView}
-use Rattle.mako_count.specs.Views.{openings, opening_worker}
+use Rattle.mako_count.specs.Views.{opening_worker}
 use Rattle.mako_count.specs.States.{WorkerState, AreStarting}
-use Rattle.mako_count.specs.Running.{IsBetweenPieces, AreBetweenPieces}
+use Rattle.mako_count.specs.Running.{AreBetweenPieces}
 use Rattle.mako_count.proofs.Opens.{openings_at, openings_length}
 
 abbrev known_of : WorkerState → WorkerView

@@ -1,5 +1,5 @@
 -- When two passes tell.
-use Rattle.std.proofs.Common.{◌≡◌, ℕ, Bool, true, false, ◌&&◌, ◌==◌, length, sum, sym, refl, ap, ◌∙◌, eq-eqb, eqb-true}
+use Rattle.std.proofs.Common.{◌≡◌, ℕ, true, ◌&&◌, ◌==◌, length, sum, eq-eqb, eqb-true}
 use Rattle.std.proofs.lemmas.Bool.{and_parts, and_from}
 use Rattle.mako_count.specs.declared.views.Reading.{Reading}
 use Rattle.mako_count.specs.declared.views.PollView.{PollView}

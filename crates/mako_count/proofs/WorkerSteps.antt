@@ -1,17 +1,16 @@
 -- Each kind of step of a worker keeps the rule.
-use Rattle.std.proofs.Common.{◌≡◌, ◌≢◌, ◌⊎◌, ℕ, zero, suc, ◌+◌, ◌-◌, ◌*◌, ◌%◌, ◌^◌, ◌<◌, ◌≤◌, ◌==◌, Bool, true, false, if◌then◌else◌, List, [], ◌∷◌, length, set, get_or, sum, sym, refl, ap, ◌∙◌, subst, arith, inl, inr, ⊎_elim, length-set, get_or-set_same, get_or-set_other, eq-eqb, ne_eqb}
+use Rattle.std.proofs.Common.{◌≡◌, ◌≢◌, ◌⊎◌, ℕ, ◌+◌, ◌-◌, ◌*◌, ◌%◌, ◌^◌, ◌<◌, ◌==◌, Bool, if◌then◌else◌, List, [], length, set, get_or, sum, sym, refl, ap, ◌∙◌, subst, arith, inl, inr, ⊎_elim, length-set, get_or-set_same, get_or-set_other, eq-eqb, ne_eqb}
 use mathlib.Core.Logic.{dite}
 use native.Mathlib.Decide.{ℕ_discrete}
 use Rattle.atomic_table.specs.Table.{Allows}
 use Rattle.mako_count.specs.declared.views.Hand.{Hand}
 use Rattle.mako_count.specs.declared.views.Hand.TheVariants.{Free, Reaching, Holding, Sending}
 use Rattle.mako_count.specs.declared.views.WorkerView.{WorkerView}
-use Rattle.mako_count.specs.declared.views.PollView.{PollView}
 use Rattle.mako_count.specs.declared.views.View.{View}
 use Rattle.mako_count.specs.declared.setup.Setup.{Setup}
 use Rattle.mako_count.specs.Views.{alone, worker_of, IsSeatOf, Seated}
 use Rattle.mako_count.specs.Changes.{raised, filling, looking, grasped, rested}
-use Rattle.mako_count.specs.Counting.{Counters, words_of, in_hand, on_way, pieces_at, FitsWorker, FitsPoll, Counts, CountingHolds}
+use Rattle.mako_count.specs.Counting.{Counters, words_of, in_hand, pieces_at, FitsWorker, Counts, CountingHolds}
 use Rattle.mako_count.proofs.Numbers.{up, down, sum-up, sum-down, below-up, at_most_sum, sum_bound}
 use Rattle.mako_count.proofs.Lists.{set_get}
 use Rattle.mako_count.proofs.Areas.{sent_at, sent_set, handled_at, handled_set, waiting_at, waiting_set}

@@ -1,6 +1,6 @@
 -- The counting rule: pieces are counted when they are sent and when they are handled, and whoever counts twice and finds
 -- all four sums equal knows that none is left.
-use Rattle.std.specs.Prelude.{◌≡◌, ℕ, zero, suc, ◌+◌, ◌^◌, ◌<◌, ◌≤◌, List, [], ◌∷◌, ◌++◌, length, drop, sum, sum_by, slice_index, All, MatchOption, Some}
+use Rattle.std.specs.Prelude.{◌≡◌, ℕ, zero, suc, ◌+◌, ◌^◌, ◌<◌, ◌≤◌, List, ◌++◌, length, drop, sum, sum_by, slice_index, All, MatchOption, Some}
 use mathlib.Core.Option.{some}
 use lib.ListN.{get_elem?}
 use Rattle.atomic_table.specs.Table.{State}

@@ -1,5 +1,5 @@
 -- What a pass of the poller reads.
-use Rattle.std.specs.Prelude.{◌≡◌, ℕ, ◌+◌, ◌*◌, ◌^◌, ◌<◌, ◌≤◌, not, [], ◌∷◌, ◌++◌, length, sum, Option, Some, if◌then◌else◌}
+use Rattle.std.specs.Prelude.{◌≡◌, ℕ, ◌+◌, ◌*◌, ◌^◌, ◌<◌, ◌≤◌, not, length, sum, Option, Some, if◌then◌else◌}
 use Rattle.mako_count.specs.declared.views.Reading.{Reading}
 use Rattle.mako_count.specs.declared.views.PollView.{PollView}
 use Rattle.mako_count.specs.Changes.{tells, sent_read, handled_read}

@@ -1,5 +1,5 @@
 -- What workers on threads do.
-use Rattle.std.specs.Prelude.{◌≡◌, ℕ, ◌<◌, List, length, min, slice_index_or, All}
+use Rattle.std.specs.Prelude.{◌≡◌, ℕ, List, min, All}
 use Rattle.atomic_table.specs.Seated.{TableId}
 use Rattle.mako_count.specs.declared.views.Hand.TheVariants.{Free}
 use Rattle.mako_count.specs.declared.views.WorkerView.{WorkerView}

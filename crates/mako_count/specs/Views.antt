@@ -2,7 +2,7 @@
 use Rattle.std.specs.Prelude.{◌≡◌, ℕ, suc, true, List, [], ◌∷◌, ◌++◌, Option, Some, None}
 use Rattle.atomic_table.specs.Table.{Me}
 use Rattle.mako_count.specs.declared.views.Hand.{Hand}
-use Rattle.mako_count.specs.declared.views.Hand.TheVariants.{Free, Reaching, Holding, Sending}
+use Rattle.mako_count.specs.declared.views.Hand.TheVariants.{Free}
 use Rattle.mako_count.specs.declared.views.WorkerView.{WorkerView}
 use Rattle.mako_count.specs.declared.views.Reading.{Reading}
 use Rattle.mako_count.specs.declared.views.PollView.{PollView}

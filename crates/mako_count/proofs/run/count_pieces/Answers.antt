@@ -1,5 +1,4 @@
-use Rattle.std.proofs.Common.{◌≡◌, ◌∙◌, ap, sym, subst, ℕ, List, length, replicate}
-use lib.ListN.{length-replicate}
+use Rattle.std.proofs.Common.{◌≡◌, ◌∙◌, sym, subst, ℕ, List, replicate}
 use Rattle.mako_count.specs.Tables.{table_of}
 use Rattle.mako_count.specs.States.{AreStarting}
 use Rattle.mako_count.proofs.Starting.{starting_length, starting_between}

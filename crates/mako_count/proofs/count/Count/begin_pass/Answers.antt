@@ -1,4 +1,4 @@
-use Rattle.std.proofs.Common.{arith, refl}
+use Rattle.std.proofs.Common.{arith}
 use Rattle.mako_count.proofs.PollReads.{begins_pass}
 use Rattle.mako_count.proofs.count.Count.begin_pass.Goals as goal
 

@@ -1,4 +1,4 @@
-use Rattle.std.proofs.Common.{◌≡◌, ◌∙◌, ap, sym, subst, arith, ◌*◌, ◌<◌, ℕ}
+use Rattle.std.proofs.Common.{◌≡◌, ◌∙◌, ap, arith, ◌*◌, ◌<◌}
 use Rattle.atomic_table.specs.Seated.{TableId}
 use Rattle.mako_count.proofs.Dealing.{deal_more, dealt_held, dealt_on}
 use Rattle.mako_count.proofs.count.Count.deal_all.Goals as goal

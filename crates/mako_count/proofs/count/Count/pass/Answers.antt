@@ -1,6 +1,5 @@
-use Rattle.std.proofs.Common.{◌≡◌, ◌∙◌, ◌+◌, ap, sym, subst, arith, ◌<◌, ℕ}
+use Rattle.std.proofs.Common.{◌∙◌, arith, ◌<◌}
 use Rattle.mako_count.specs.Views.{poll_of}
-use Rattle.mako_count.specs.Passes.{IsPassTo}
 use Rattle.mako_count.proofs.Passing.{next_pass}
 use Rattle.mako_count.proofs.count.Count.pass.Goals as goal
 

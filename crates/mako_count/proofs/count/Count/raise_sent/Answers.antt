@@ -1,4 +1,4 @@
-use Rattle.std.proofs.Common.{arith, refl}
+use Rattle.std.proofs.Common.{arith}
 use Rattle.mako_count.proofs.WorkerSteps.{raises_sent}
 use Rattle.mako_count.proofs.count.Count.raise_sent.Goals as goal
 

@@ -1,4 +1,4 @@
-use Rattle.std.proofs.Common.{◌≡◌, ◌∙◌, ◌^◌, ap, sym, subst, arith, ◌<◌, ℕ, List, get_or, length, ◌≤◌, ◌++◌, replicate}
+use Rattle.std.proofs.Common.{◌∙◌, ◌^◌, ap, sym, subst, arith, ◌<◌, ℕ, List, get_or, length, ◌≤◌, ◌++◌, replicate}
 use Rattle.mako_count.proofs.Opens.{opens}
 use Rattle.mako_count.proofs.count.Count.start.Goals as goal
 
