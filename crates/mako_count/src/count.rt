@@ -12,8 +12,8 @@ use atomic_table::Table;
 use mako_words::Memory;
 use std::alloc::{AllocError, Global};
 
-/// The words of a count under its rule: for each worker the pieces that it sent, for each those that it handled, and for
-/// each its box, which counts the pieces that wait for it.
+/// The words of a count under its rule: for each worker the pieces that it sent, for each those that it handled, and
+/// for each its box, which counts the pieces that wait for it.
 #[derive(Drop)]
 pub struct Count {
     pub(crate) table: Table<(), View, Setup, CountingRule, Global>,

@@ -67,7 +67,8 @@ impl CountPoller {
         CountPoller { seat }
     }
 
-    /// Reads what each worker has sent and handled, and then all again. Where the four sums are equal, no piece is left.
+    /// Reads what each worker has sent and handled, and then all again. Where the four sums are equal, no piece is
+    /// left.
     pub fn poll(&mut self, count: &Count) -> Counting
         requires table { self.old.table ≡ table_of count.now }
         ensures same { (self.new.table ≡ self.old.table) × (self.new.met ≡ self.old.met) }

@@ -83,7 +83,8 @@ fn work_all<R: Threads + Wait + Sync>(
         workers.as_mut_slice(),
         crew,
         &|number, worker: &mut Worker|
-            requires { (number < crew) × (crew ≡ crew_of count.now) × (crew ≤ 64) × (worker.now.table ≡ table_of count.now) × IsBetweenPieces worker.now }
+            requires { (number < crew) × (crew ≡ crew_of count.now) × (crew ≤ 64)
+                × (worker.now.table ≡ table_of count.now) × IsBetweenPieces worker.now }
             ensures { IsSameWorker worker.entry.now worker.exit.now × IsBetweenPieces worker.exit.now }
         { work(rt, count, worker, after(number, crew), over) },
     );
@@ -154,11 +155,14 @@ fn count_all<R: Threads + Wait + Sync>(
         rt,
         || -> Answered
             requires { (poller.table ≡ table_of count.now) × (poller.met ≡ []) }
-            ensures { (result.poller.table ≡ table_of count.entry.now) × (result.poller.met ≡ []) × (result.poller.poll.told ≡ Some result.pieces) }
+            ensures { (result.poller.table ≡ table_of count.entry.now) × (result.poller.met ≡ [])
+                × (result.poller.poll.told ≡ Some result.pieces) }
         { poll_to_end(rt, count, poller, over) },
         || -> Vec<Worker>
-            requires { IsSync R.row × (length workers.items ≡ crew_of count.now) × AreBetweenPieces (table_of count.now) most most workers.items }
-            ensures { (length result.items ≡ crew_of count.entry.now) × AreBetweenPieces (table_of count.entry.now) most most result.items }
+            requires { IsSync R.row × (length workers.items ≡ crew_of count.now)
+                × AreBetweenPieces (table_of count.now) most most workers.items }
+            ensures { (length result.items ≡ crew_of count.entry.now)
+                × AreBetweenPieces (table_of count.entry.now) most most result.items }
         { work_all(rt, count, workers, most, over) },
     );
     meet_all(count, answered, workers, most)

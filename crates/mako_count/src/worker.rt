@@ -64,7 +64,8 @@ impl Worker {
         requires free { self.old.known.hand ≡ Free }
         ensures same { (self.new.table ≡ self.old.table) × (self.new.most ≡ self.old.most) }
         // Which it is depends on the number that the look at the box found, which stays known.
-        ensures got { result ≡ Taken.Got → (0 < self.new.known.looked) × (self.new.known ≡ record self.old.known { looked = self.new.known.looked; hand = Holding }) }
+        ensures got { result ≡ Taken.Got → (0 < self.new.known.looked)
+            × (self.new.known ≡ record self.old.known { looked = self.new.known.looked; hand = Holding }) }
         ensures empty { result ≡ Taken.Empty → self.new.known ≡ record self.old.known { looked = 0 } }
     {
         if count.look_at_box(&mut self.seat, self.number) == 0 {
