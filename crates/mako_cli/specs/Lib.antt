@@ -1,2 +1,3 @@
 pub mod CommandLines
 pub mod Settling
+pub mod Counts

@@ -53,7 +53,7 @@ fn settle<S: Source>(alloc: Global, source: &mut S) -> Settled
 }
 
 /// Writes the one line of a command that carried out no script.
-fn tell_line<K: Sink>(alloc: Global, sink: &mut K, text: &[u8], status: u8) -> Ended
+pub(crate) fn tell_line<K: Sink>(alloc: Global, sink: &mut K, text: &[u8], status: u8) -> Ended
     ensures written { IsWritten text.now status (K.taken sink.old) (K.taken sink.new) (Rose (K.faults sink.old) (K.faults sink.new)) result.status }
     ensures front { result.front ≡ record { history = []; finished = [] } }
     ensures counted { K.faults sink.old ≤ K.faults sink.new }

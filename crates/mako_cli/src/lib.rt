@@ -3,14 +3,18 @@
 
 mod command_line;
 mod commands;
+mod count;
 mod ended;
 mod run;
 mod settled;
 
 pub use command_line::CommandLine;
 pub use commands::{gen_top, replay_top, top};
+pub use count::count_top;
 pub use ended::Ended;
 pub use settled::Settled;
 
+#[cfg(test)]
+mod count_tests;
 #[cfg(test)]
 mod tests;

@@ -1,0 +1,15 @@
+pub mod Numbers
+pub mod Lists
+pub mod Areas
+pub mod Kept
+pub mod WorkerSteps
+pub mod Telling
+pub mod PollReads
+pub mod Seats
+pub mod Meets
+pub mod Opens
+pub mod Dealing
+pub mod Passing
+pub mod Meeting
+pub mod Starting
+pub mod Over
