@@ -82,24 +82,34 @@ within kind a b c =
   where
     new : IsWithin (New (variable a) (b % 6))
     new = record { is = (omega arith, omega arith); after = omega arith }
+
     get : IsWithin (Get (variable a) (variable b) (c % 3))
     get = record { is = (omega arith, omega arith, omega arith); after = omega arith }
+
     put : IsWithin (Put (variable a) (b % 3) (variable c))
     put = record { is = (omega arith, omega arith, omega arith); after = refl }
+
     copied : IsWithin (CopyRoot (variable a) (variable b))
     copied = record { is = (omega arith, omega arith); after = omega arith }
+
     dropped : IsWithin (DropRoot (variable a))
     dropped = record { is = omega arith; after = refl }
+
     board_put : IsWithin (Put 0 (a % 8) (variable b))
     board_put = record { is = (omega arith, omega arith, omega arith); after = refl }
+
     board_get : IsWithin (Get (variable a) 0 (b % 8))
     board_get = record { is = (omega arith, omega arith, omega arith); after = omega arith }
+
     num : IsWithin (Num (variable a) (b % 1000))
     num = record { is = (omega arith, omega arith); after = omega arith }
+
     shown : IsWithin (Show (variable a))
     shown = record { is = omega arith; after = refl }
+
     collected : IsWithin Collect
     collected = record { is = tt; after = refl }
+
     other_shown : IsWithin (Show (variable b))
     other_shown = record { is = omega arith; after = refl }
 
@@ -139,4 +149,3 @@ is_proper seed size s few w =
       commands = omega (arith, all);
       programs = subst (λ (n : Numbers). AllByRecursion (IsProgram n.roots) s.programs) (sym w.geometry) each.0;
     }
-

@@ -1,0 +1,90 @@
+-- Words after an act, and what a store at one place leaves alone.
+use Rattle.std.proofs.Common.{◌≡◌, ◌≢◌, ℕ, ◌<◌, List, length, set, sym, ap, refl}
+use Rattle.std.proofs.lemmas.List.{set-get_or}
+use Rattle.mako_shape.specs.declared.numbers.Numbers.{Numbers}
+use Rattle.mako_shape.specs.Places.{Place, phase, demand, finished, mutator_gate, root, tablet_gate, turn, home, top, leaving, entry, region_word, rank, index, total, Within, word_at}
+use Rattle.mako_shape.proofs.PlaceLaws.{word_same, word_other}
+use Rattle.mako_step.specs.Acts.{words_after}
+use Rattle.mako_step.specs.declared.act.Op.TheVariants.{Load}
+use Rattle.mako_names.specs.Uses.{IsUseSlot, IsNamePlace}
+use Rattle.mako_state.proofs.Onward.{SameTables}
+use Rattle.mako_gate.specs.Changes.{Sets, LeavesGates}
+use Rattle.mako_layout.specs.Frames.{LeavesLayout}
+use Rattle.mako_names.proofs.StepsKept.{leaves_all, leaves_others}
+
+-- a load leaves the words
+pub load_back : (ws : List ℕ) (i : ℕ) → words_after (record { word = i; op = Load }) ws ≡ ws
+load_back ws i = set-get_or ws i 0
+
+-- a store sets the word at one place
+pub sets_words : (n : Numbers) (ws : List ℕ) → length ws ≡ total n → (p : Place) (x : ℕ) → Within n p →
+    Sets n (word_at n ws) (word_at n (set ws (index n p) x)) p x
+sets_words n ws size p x h = record { here = word_same n ws p x size h; others = λ q k d. word_other n ws p q x h k d }
+
+-- ---- a store at a place that neither the table nor the slots of names read
+pub record IsApart (p : Place) : Type 0 where
+  pub not_phase : rank p ≢ 0
+  pub not_demand : rank p ≢ 1
+  pub not_finished : rank p ≢ 2
+  pub not_home : rank p ≢ 12
+  pub not_entry : rank p ≢ 16
+  pub no_slot : IsUseSlot p → ⊥
+
+no_name : (p : Place) → IsApart p → IsNamePlace p → ⊥
+no_name phase apart is = apart.not_phase refl
+no_name (entry x) apart is = apart.not_entry refl
+no_name p apart is = apart.no_slot is
+
+pub same_tables : (n : Numbers) (ws : List ℕ) → length ws ≡ total n → SameTables n ws ws
+same_tables n ws size = record {
+  leaves = leaves_all n ws size;
+  homes = λ t low. refl;
+  demand = refl;
+  finished = refl;
+}
+
+pub stored_apart : (n : Numbers) (ws : List ℕ) (p : Place) (v : ℕ) → length ws ≡ total n → Within n p → IsApart p →
+    SameTables n ws (set ws (index n p) v)
+stored_apart n ws p v size within apart = record {
+  leaves = leaves_others n ws p v size within (no_name p apart);
+  homes = λ t low. word_other n ws p (home t) v within low (λ e. apart.not_home (sym (ap rank e)));
+  demand = word_other n ws p demand v within tt (λ e. apart.not_demand (sym (ap rank e)));
+  finished = word_other n ws p finished v within tt (λ e. apart.not_finished (sym (ap rank e)));
+}
+
+-- and the roots, where the place is none
+pub same_roots : (n : Numbers) (ws : List ℕ) (p : Place) (v : ℕ) → Within n p → rank p ≢ 4 → (m q : ℕ) → m < n.mutators → q < n.roots →
+    word_at n (set ws (index n p) v) (root m q) ≡ word_at n ws (root m q)
+same_roots n ws p v within other m q low in_row = word_other n ws p (root m q) v within (low, in_row) (λ e. other (sym (ap rank e)))
+
+-- ---- what layouts and gates read
+
+-- a store that changes neither where records lie, nor tops and leavings, nor a record
+pub record IsOffLayout (p : Place) : Type 0 where
+  pub not_phase : rank p ≢ 0
+  pub not_home : rank p ≢ 12
+  pub not_top : rank p ≢ 13
+  pub not_leaving : rank p ≢ 14
+  pub not_entry : rank p ≢ 16
+  pub not_region : rank p ≢ 17
+
+pub stored_off_layout : (n : Numbers) (ws : List ℕ) (p : Place) (v : ℕ) → Within n p → IsOffLayout p →
+    LeavesLayout n (λ q. word_at n ws q) (λ q. word_at n (set ws (index n p) v) q)
+stored_off_layout n ws p v within off = record {
+  table = record {
+    phase = word_other n ws p phase v within tt (λ e. off.not_phase (sym (ap rank e)));
+    entries = λ x l. word_other n ws p (entry x) v within l (λ e. off.not_entry (sym (ap rank e)));
+    homes = λ t l. word_other n ws p (home t) v within l (λ e. off.not_home (sym (ap rank e)));
+    tops = λ t l. word_other n ws p (top t) v within l (λ e. off.not_top (sym (ap rank e)));
+    leavings = λ t l. word_other n ws p (leaving t) v within l (λ e. off.not_leaving (sym (ap rank e)));
+  };
+  regions = λ r a l k. word_other n ws p (region_word r a) v within (l, k) (λ e. off.not_region (sym (ap rank e)));
+}
+
+pub stored_off_gates : (n : Numbers) (ws : List ℕ) (p : Place) (v : ℕ) → Within n p → rank p ≢ 3 → rank p ≢ 10 → rank p ≢ 11 →
+    LeavesGates n (λ q. word_at n ws q) (λ q. word_at n (set ws (index n p) v) q)
+stored_off_gates n ws p v within not_own not_tablet not_turn = record {
+  tablets = λ t l. word_other n ws p (tablet_gate t) v within l (λ e. not_tablet (sym (ap rank e)));
+  owns = λ m l. word_other n ws p (mutator_gate m) v within l (λ e. not_own (sym (ap rank e)));
+  turns = λ t l. word_other n ws p (turn t) v within l (λ e. not_turn (sym (ap rank e)));
+}

@@ -1,0 +1,11 @@
+pub mod Standings
+pub mod Works
+pub mod Says
+pub mod Carried
+pub mod Sought
+pub mod CoreStates
+pub mod Rests
+pub mod Forms
+pub mod Invariants
+pub mod Openings
+pub mod Runs
