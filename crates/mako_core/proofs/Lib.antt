@@ -1,9 +1,3 @@
-mod AnswerLaws
-mod AreaOrder
-mod Frames
-mod HeapLaws
-mod Laws
-mod MadeLaws
-mod Openings
-mod RunLaws
-mod StepLaws
+pub mod Laws
+pub mod Starting
+pub mod Finishing

@@ -1,23 +1,50 @@
--- What a core keeps, beside what contracts see of it.
-use Rattle.std.specs.Prelude.{◌≡◌, ◌≤◌, [], length, vec_capacity}
-use Rattle.mako_model.specs.Fronts.{replies_to}
-use Rattle.mako_script.specs.Forms.{all_calls, IsAccepted}
-use Rattle.mako_core.specs.Runs.{CoreState, IsRun}
-use Rattle.mako_core.specs.declared.core_state.Core.TheInside.{Inside}
+-- A core as contracts see it, and what it keeps beside.
+use Rattle.std.specs.Prelude.{◌≡◌, ℕ, ◌+◌, ◌-◌, ◌≤◌, List, [], length, sum_by, Option, Some, None, slice_get}
+use Rattle.mako_words.specs.declared.name.Name.{Name}
+use Rattle.mako_shape.specs.declared.numbers.Numbers.{Numbers}
+use Rattle.mako_model.specs.declared.point.Point.{Point}
+use Rattle.mako_script.specs.Scripts.{ScriptView}
+use Rattle.mako_script.specs.ScriptFacts.{facts_of}
+use Rattle.mako_seat.specs.declared.seat.Seat.{Seat}
+use Rattle.mako_seat.specs.declared.seat.Seat.TheVariants.{Mutator, Server, Collector}
+use Rattle.mako_state.specs.CoreStates.{CoreState}
+use Rattle.mako_state.specs.Invariants.{WholeInvariant, left_facet}
 
-abbrev pub state_in : Inside → CoreState
-state_in c = record { script = c.script.value; words = c.words; history = c.journal.points }
+-- a core: its script, and its core state
+pub record CoreView : Type 0 where
+  pub script : ScriptView
+  pub state : CoreState
 
--- the core has got so far with its script, and has room for all that is still to come
-pub record CoreHolds (c : Inside) : Type 0 where
-  pub accepted : IsAccepted c.script.value
-  pub shape : c.shape ≡ c.script.value.numbers
-  pub calls : c.calls.items ≡ all_calls c.script.value
-  pub run : IsRun (state_in c)
-  pub replies : c.replies.items ≡ replies_to 0 c.journal.points
-  pub answered : length c.replies.items ≡ length c.journal.points
-  pub journal_room : length c.calls.items ≤ c.journal.room
-  pub replies_room : length c.calls.items ≤ vec_capacity c.replies
-  pub lists : c.lists.items ≡ []
-  pub lists_room : 1 ≤ vec_capacity c.lists
-  pub cycles : c.cycles.lists ≡ []
+-- the finished cycles that a seat keeps
+abbrev pub cycles_kept : Option Seat → List (List Name)
+cycles_kept None = []
+cycles_kept (Some (Mutator d)) = []
+cycles_kept (Some (Server v)) = []
+cycles_kept (Some (Collector c)) = c.kept.cycles.lists
+
+-- those of the collector, which is the last seat
+abbrev pub cycles_in : List Seat → List (List Name)
+cycles_in seats = cycles_kept (slice_get seats (length seats - 1))
+
+abbrev pub core_view : ScriptView → List ℕ → List Seat → List Point → CoreView
+core_view s words seats points = record {
+  script = s;
+  state = record { words = words; seats = seats; front = record { history = points; finished = cycles_in seats } };
+}
+
+-- how many of a seat's calls are not answered yet
+abbrev pub unanswered : Seat → ℕ
+unanswered v = length (left_facet v)
+
+-- there is room for the points that are there, and for one for each call that is not answered yet
+pub record HasRoom (room : ℕ) (st : CoreState) : Type 0 where
+  pub fits : length st.front.history + sum_by unanswered st.seats ≤ room
+
+-- The core has got somewhere with its script, and there is room for all that is still to come: its points, and in the
+-- end a list of replies for each mutator.
+pub record CoreHolds {A : Type 0} (shape : Numbers) (c : CoreView) (room : ℕ) (lists : List A) (lists_room : ℕ) : Type 0 where
+  pub shape_is : shape ≡ c.script.numbers
+  pub whole : WholeInvariant c.script.numbers (facts_of c.script) c.state
+  pub room_is : HasRoom room c.state
+  pub lists_are : lists ≡ []
+  pub lists_fit : length c.script.programs ≤ lists_room

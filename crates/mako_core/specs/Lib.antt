@@ -1,4 +1,4 @@
-pub mod Commands
+pub mod Histories
+pub mod Turns
 pub mod Cores
-pub mod Runs
-pub mod StandsFor
+pub mod Endings

@@ -1,137 +1,200 @@
-//! The core of a run: the words of the heap, and the script that is carried out on them.
+//! The core of a run.
 
-ghost use Rattle.std.specs.Prelude.{◌≡◌, ◌<◌, ◌≤◌, ◌++◌, ◌∷◌, ◌↔◌, [], length, slice_get, IfOk, IsTrue, Some};
-ghost use Rattle.std.specs.Bool.{OnTrue, OnFalse};
-ghost use Rattle.mako_model.specs.Answering.{Answers, AnswersToEnd};
-ghost use Rattle.mako_script.specs.Forms.{all_calls, IsFirstForm};
-ghost use Rattle.mako_script.specs.ScriptFacts.{facts_of};
+ghost use Rattle.std.specs.Prelude.{◌≡◌, ◌<◌, ◌≤◌, ◌++◌, ◌∷◌, [], length, slice_get, slice_index, Some, IfOk};
+ghost use Rattle.mako_core.specs.Histories.{history_after};
 
-use crate::commands::{carry_out, make};
-use mako_model::{Call, Cycles, Front, Journal, Outcome, Point, Reply};
+use crate::opening_seats::{count_points, opening_seats};
+use crate::opening_words::opening_words;
+use crate::replies::{take_collector, with_replies};
+use crate::turn::Turn;
+use mako_model::{Cycles, Event, Front, Journal, Outcome, Point, Reply};
+use mako_mutator::Place;
 use mako_script::Script;
+use mako_seat::Seat;
 use mako_shape::Shape;
-use mako_step::{FlatWords, Words};
+use mako_step::{Stepped, Words, make_step};
 use mako_words::Memory;
 use std::alloc::Global;
 use std::marker::Model;
 use std::snapshot::Snapshot;
 
-/// The words of the heap, and how far a script has been carried out on them. All memory is taken at the start.
+/// What a step told goes behind the points before it.
+fn keep_point(journal: &mut Journal, event: Event)
+    requires { length (history_after journal.old.points event) ≤ journal.old.room }
+    ensures points { journal.new.points ≡ history_after journal.old.points event }
+    ensures room { journal.new.room ≡ journal.old.room }
+{
+    match event {
+        Event::Answered(point) => journal.push(point),
+        Event::Snapped(cycle) => journal.push(Point::Snap { cycle }),
+        Event::Nothing | Event::Finished(_) => {}
+    }
+}
+
+/// The words of a heap, the machine of each seat, and the journal. The seats are the mutators, then the servers, then
+/// the collector.
 #[derive(Drop)]
-pub struct Core {
+pub struct Core<W: Words> {
     script: Snapshot<Script>,
     shape: Shape,
-    words: FlatWords,
-    calls: Vec<Call>,
-    replies: Vec<Reply>,
-    /// The list of the mutators' lists of replies, empty until the end.
-    lists: Vec<Vec<Reply>>,
+    words: W,
+    seats: Vec<Seat>,
     journal: Journal,
-    cycles: Cycles,
+    /// The mutators' lists of replies, empty until the end.
+    lists: Vec<Vec<Reply>>,
 }
 
-impl Model for Core {
-    ghost use Rattle.mako_core.specs.Runs.{CoreState};
-    ghost use Rattle.mako_core.specs.Cores.{state_in, CoreHolds};
+impl<W: Words> Model for Core<W> {
+    ghost use Rattle.std.specs.Prelude.{vec_capacity};
+    ghost use Rattle.mako_core.specs.Cores.{CoreView, core_view, CoreHolds};
 
-    ghost Value = { CoreState };
+    ghost Value = { CoreView };
 
-    ghost view = { state_in };
+    ghost view = { λ c. core_view c.script.value (W.words c.words) c.seats.items c.journal.points };
 
-    ghost invariant = { CoreHolds };
+    ghost invariant = { λ c. CoreHolds c.shape (core_view c.script.value (W.words c.words) c.seats.items c.journal.points)
+        c.journal.room c.lists.items (vec_capacity c.lists) };
 }
 
-impl Core {
-    ghost use Rattle.mako_model.specs.declared.outcome.Outcome.{Outcome};
-    ghost use Rattle.mako_model.specs.Outcomes.{IsWhole, AreCyclesOfFront, reply_lists};
-    ghost use Rattle.mako_core.specs.Runs.{CoreState, AddsAnswer};
+impl<W: Words> Core<W> {
+    ghost use Rattle.mako_script.specs.ScriptFacts.{facts_of};
+    ghost use Rattle.mako_seat.specs.Seats.{place_of};
+    ghost use Rattle.mako_seat.specs.declared.seat.Seat.{Seat};
+    ghost use Rattle.mako_state.specs.CoreStates.{step_of};
+    ghost use Rattle.mako_state.specs.Invariants.{WholeInvariant};
+    ghost use Rattle.mako_core.specs.Cores.{CoreView};
+    ghost use Rattle.mako_core.specs.Turns.{turn_at};
+    ghost use Rattle.mako_shape.specs.Places.{total};
+    ghost use Rattle.mako_state.specs.Forms.{NeedsNoCycle};
+    ghost use Rattle.mako_state.specs.Openings.{opening_core};
 
-    /// The core of a script before its first command: the board is made, and nothing is answered.
-    pub fn start(alloc: Global, script: &Script) -> Result<Core, Memory>
-        requires { IsFirstForm script.now }
+    /// The core of a script before the first step. It takes all memory that it ever takes.
+    pub fn start(alloc: Global, script: &Script) -> Result<Core<W>, Memory>
+        requires { NeedsNoCycle (facts_of script.now) }
         ensures script { IfOk result (λ c. c.script ≡ script.now) }
-        ensures opening { IfOk result (λ c. c.history ≡ []) }
+        ensures opening { IfOk result (λ c. c.state ≡ opening_core script.now) }
+        ensures holds { IfOk result (λ c. WholeInvariant c.script.numbers (facts_of c.script) c.state) }
     {
-        let program = &script.programs[0];
-        let Ok(calls) = Vec::from_slice(alloc, program.calls.as_slice()) else {
+        let programs = script.programs.as_slice();
+        let seats = opening_seats(alloc, script)?;
+        let points = count_points(programs, script.shape.numbers().cycles);
+        let journal = Journal::with_room(alloc, points)?;
+        let Ok(lists) = Vec::with_capacity(alloc, programs.len()) else {
             return Err(Memory);
         };
-        let Ok(replies) = Vec::with_capacity(alloc, calls.len()) else {
-            return Err(Memory);
-        };
-        let Ok(lists) = Vec::with_capacity(alloc, 1) else {
-            return Err(Memory);
-        };
-        let journal = Journal::with_room(alloc, calls.len())?;
-        let cycles = Cycles::with_room(alloc, 0, 0)?;
-        let mut words = FlatWords::zeros(alloc, script.shape.words())?;
-        let _board = make(&script.shape, &mut words, 0, script.board);
+        let words = opening_words(alloc, script)?;
         Ok(Core {
             script: Snapshot::of(script),
             shape: script.shape,
             words,
-            calls,
-            replies,
-            lists,
+            seats,
             journal,
-            cycles,
+            lists,
         })
     }
 
-    /// Carries out the next command, and answers false where none is left.
-    pub fn step(&mut self) -> bool
-        ensures more { IsTrue result ↔ (length self.old.history < length (all_calls self.old.script)) }
-        ensures script { self.new.script ≡ self.old.script }
-        ensures within { length self.new.history ≤ length (all_calls self.new.script) }
-        ensures answer { OnTrue result (AddsAnswer self.old self.new) }
-        ensures still { OnFalse result (self.new ≡ self.old) }
+    /// The number of seats.
+    pub fn seats(&self) -> u32
+        ensures { result ≡ length self.now.state.seats }
     {
-        let answered = self.replies.len();
-        if answered >= self.calls.len() {
-            return false;
-        }
-        let call = self.calls[answered];
-        let reply = carry_out(
-            &self.script,
-            &self.journal,
-            &self.shape,
-            &mut self.words,
-            call,
-        );
-        self.journal.push(Point::Did {
-            mutator: 0,
-            call,
-            reply,
-        });
-        self.replies.push_reserved(reply);
-        true
+        let numbers = self.shape.numbers();
+        numbers.mutators + numbers.servers + 1
     }
 
-    /// What the run came to so far: the replies, and the front.
+    /// The geometry of the script.
+    pub fn shape(&self) -> Shape
+        ensures { result ≡ self.now.script.numbers }
+    {
+        self.shape
+    }
+
+    /// How far the seat has come.
+    pub fn place(&self, seat: u32) -> Place
+        requires { seat < length self.now.state.seats }
+        ensures { (v : Seat) → slice_get self.now.state.seats seat ≡ Some v → result ≡ place_of v }
+    {
+        self.seats[seat as usize].place()
+    }
+
+    /// The word with this index.
+    pub fn word(&self, index: u32) -> u64
+        requires { index < total self.now.script.numbers }
+        ensures { result ≡ slice_index self.now.state.words index }
+    {
+        self.words.word(index)
+    }
+
+    /// The history so far.
+    pub fn journal(&self) -> &Journal
+        ensures { result.now.points ≡ self.now.state.front.history }
+    {
+        &self.journal
+    }
+
+    /// The finished cycles, each with the names that it freed.
+    pub fn cycles(&self) -> &Cycles
+        ensures { result.now.lists ≡ self.now.state.front.finished }
+    {
+        let last = self.seats.len() - 1;
+        match &self.seats[last] {
+            Seat::Collector(collector) => collector.cycles(),
+            _ => unreachable!(),
+        }
+    }
+
+    /// Makes one atomic step of the seat.
+    pub fn step(&mut self, seat: u32) -> Turn
+        requires { seat < length self.old.state.seats }
+        ensures script { self.new.script ≡ self.old.script }
+        ensures state { self.new.state ≡ step_of self.old.state seat }
+        ensures seats { length self.new.state.seats ≡ length self.old.state.seats }
+        ensures turn { result ≡ turn_at self.old.state (slice_get self.old.state.seats seat) }
+        ensures holds { WholeInvariant self.new.script.numbers (facts_of self.new.script) self.new.state }
+    {
+        let machine = &mut self.seats[seat as usize];
+        match make_step(machine, &mut self.words) {
+            Stepped::Ended => Turn::Ended,
+            Stepped::Waiting(word) => Turn::Waiting(word),
+            Stepped::Moved(event) => {
+                keep_point(&mut self.journal, event);
+                Turn::Moved
+            }
+        }
+    }
+}
+
+impl<W: Words + Drop> Core<W> {
+    ghost use Rattle.mako_model.specs.declared.outcome.Outcome.{Outcome};
+    ghost use Rattle.mako_model.specs.Answering.{Answers, AnswersToEnd};
+    ghost use Rattle.mako_model.specs.Outcomes.{IsWhole, AreCyclesOfFront, reply_lists};
+    ghost use Rattle.mako_script.specs.ScriptFacts.{facts_of};
+    ghost use Rattle.mako_state.specs.Invariants.{WholeInvariant};
+    ghost use Rattle.mako_core.specs.Cores.{CoreView};
+    ghost use Rattle.mako_core.specs.Endings.{AllAtEnd};
+
+    /// What the run came to so far: the replies, the finished cycles, and the front. No memory is taken.
     pub fn finish(self) -> Outcome
         ensures whole { IsWhole result }
         ensures freed { AreCyclesOfFront result }
         ensures lists { length (reply_lists result) ≡ length self.script.programs }
-        ensures history { result.front.history ≡ self.history }
-        ensures cycles { result.front.finished ≡ [] }
+        ensures front { result.front ≡ self.state.front }
         ensures answers { Answers (facts_of self.script) result.front }
-        ensures end { length self.history ≡ length (all_calls self.script) → AnswersToEnd (facts_of self.script) result.front }
+        ensures end { AllAtEnd self.script.numbers self.state.seats → AnswersToEnd (facts_of self.script) result.front }
+        ensures holds { WholeInvariant self.script.numbers (facts_of self.script) self.state }
     {
         let Core {
             script: _,
             shape: _,
             words: _,
-            calls: _,
-            replies,
-            mut lists,
+            mut seats,
             journal,
-            cycles,
+            lists,
         } = self;
-        lists.push_reserved(replies);
-        let front = Front::of(&journal, &cycles);
+        let collector = take_collector(&mut seats);
+        let front = Front::of(&journal, collector.cycles());
         Outcome {
-            replies: lists,
-            cycles,
+            replies: with_replies(lists, seats),
+            cycles: collector.into_cycles(),
             front,
         }
     }

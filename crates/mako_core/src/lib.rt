@@ -1,11 +1,11 @@
-//! The core: the words of the heap, and the commands of a script carried out on them.
+//! The core: the words of the heap, the machine of each seat and the journal, and one atomic step of one seat.
 #![tactic(auto)]
 
-mod access;
-mod commands;
 mod core_state;
-mod making;
-mod order;
+mod opening_seats;
+mod opening_words;
+mod replies;
+mod turn;
 
 pub use core_state::Core;
-pub use order::Order;
+pub use turn::Turn;

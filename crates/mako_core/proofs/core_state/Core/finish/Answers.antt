@@ -1,25 +1,117 @@
-use Rattle.std.proofs.Common.{◌≡◌, sym, subst, ◌∙◌, length}
-use Rattle.mako_model.specs.Fronts.{Seen}
+use Rattle.std.proofs.Common.{◌≡◌, ◌+◌, ◌-◌, ◌<◌, ◌≤◌, ◌++◌, ℕ, List, length, map, take, slice_get, Some, sym, ap, subst, refl, ◌∙◌, arith, Vec, Global}
+use Rattle.std.proofs.lemmas.List.{length-map}
 use Rattle.mako_model.specs.Answering.{Answers, AnswersToEnd}
-use Rattle.mako_script.specs.Forms.{all_calls}
+use Rattle.mako_model.specs.Fronts.{Seen, replies_to}
+use Rattle.mako_model.specs.declared.call.Call.{Call}
+use Rattle.mako_model.specs.declared.point.Point.{Point}
+use Rattle.mako_model.specs.declared.reply.Reply.{Reply}
+use Rattle.mako_script.specs.Programs.{ProgramView}
 use Rattle.mako_script.specs.ScriptFacts.{facts_of}
-use Rattle.mako_core.specs.Runs.{CoreState}
-use Rattle.mako_core.specs.Cores.{state_in}
-use Rattle.mako_core.proofs.AnswerLaws.{front_of, run_answers, run_answers_to_end}
+use Rattle.mako_state.specs.Invariants.{WholeInvariant}
+use Rattle.mako_core.specs.Cores.{CoreView, cycles_kept}
+use Rattle.mako_core.specs.Endings.{replies_in, AllAtEnd}
+use Rattle.mako_core.proofs.Finishing.{last_collector, replies_are, answers, answers_to_end}
 use Rattle.mako_core.proofs.core_state.Core.finish.Goals as goal
 
+pub take_collector-collector-requires : goal.take_collector-collector-requires
+take_collector-collector-requires g c =
+    let in_ = c.self.inside in
+    let s = in_.script.value in
+    let whole = c.self.invariant.whole in
+    let items = in_.seats.items in
+    last_collector s.numbers (facts_of s) _ whole
+
+pub with_replies-requires : goal.with_replies-requires
+with_replies-requires g c =
+    let in_ = c.self.inside in
+    let s = in_.script.value in
+    let whole = c.self.invariant.whole in
+    let items = in_.seats.items in
+    let listed = replies_are s.numbers (facts_of s) _ whole in
+    let rest = c.take_collector-collector.ensures.rest in
+    let count = listed.count in
+    let programs = length-map {A = ProgramView} {B = List Call} s.programs (λ p. p.calls) in
+    let mutators = whole.script.facts.mutators in
+    let kept = ap (λ l. length (replies_in l)) rest in
+    let none = ap length c.self.invariant.lists_are in
+    omega (arith, kept, count, programs, mutators, none, in_.lists.ok.0, c.self.invariant.lists_fit)
+
+pub returns-clause-whole : goal.returns-clause-whole
+returns-clause-whole g c =
+    let in_ = c.self.inside in
+    let s = in_.script.value in
+    let whole = c.self.invariant.whole in
+    let items = in_.seats.items in
+    let listed = replies_are s.numbers (facts_of s) _ whole in
+    let rest = c.take_collector-collector.ensures.rest in
+    let count = listed.count in
+    let lists_are : map (λ (v : Vec Reply Global). v.items) c.with_replies.result.items ≡ replies_in (take (length items - 1) items) =
+    c.with_replies.ensures ∙ ap (λ ls. map (λ (v : Vec Reply Global). v.items) ls ++ replies_in c.take_collector-collector.new.seats.items) c.self.invariant.lists_are ∙ ap replies_in rest in
+    let many = ap length lists_are in
+    record {
+      replies = λ m low. ap (λ (l : List (List Reply)). slice_get l m) lists_are ∙ listed.each m (omega (arith, low, many, count))
+          ∙ ap (λ (j : ℕ). Some (replies_to j in_.journal.points)) (let e : 0 + m ≡ m = omega arith in e)
+          ∙ ap (λ (h : List Point). Some (replies_to m h)) (sym c.of-front.ensures.history);
+    }
+
+pub returns-clause-freed : goal.returns-clause-freed
+returns-clause-freed g c =
+    ap (λ l. l.lists) c.into_cycles.ensures ∙ sym (c.of-front.ensures.finished ∙ ap (λ l. l.lists) c.cycles.ensures)
+
+pub returns-clause-lists : goal.returns-clause-lists
+returns-clause-lists g c =
+    let in_ = c.self.inside in
+    let s = in_.script.value in
+    let whole = c.self.invariant.whole in
+    let items = in_.seats.items in
+    let listed = replies_are s.numbers (facts_of s) _ whole in
+    let rest = c.take_collector-collector.ensures.rest in
+    let count = listed.count in
+    let lists_are : map (λ (v : Vec Reply Global). v.items) c.with_replies.result.items ≡ replies_in (take (length items - 1) items) =
+    c.with_replies.ensures ∙ ap (λ ls. map (λ (v : Vec Reply Global). v.items) ls ++ replies_in c.take_collector-collector.new.seats.items) c.self.invariant.lists_are ∙ ap replies_in rest in
+    let programs = length-map {A = ProgramView} {B = List Call} s.programs (λ p. p.calls) in
+    let mutators = whole.script.facts.mutators in
+    ap length lists_are ∙ count ∙ sym mutators ∙ programs ∙ ap (λ (q : CoreView). length q.script.programs) c.self.view_is
+
+pub returns-clause-front : goal.returns-clause-front
+returns-clause-front g c =
+    let in_ = c.self.inside in
+    let s = in_.script.value in
+    let whole = c.self.invariant.whole in
+    let items = in_.seats.items in
+    let finished = c.of-front.ensures.finished ∙ ap (λ l. l.lists) c.cycles.ensures ∙ sym (ap cycles_kept c.take_collector-collector.ensures.collector) in
+    let front : c.of-front.result ≡ record { history = in_.journal.points; finished = cycles_kept (slice_get items (length items - 1)) } =
+    λ k. record { history = c.of-front.ensures.history k; finished = finished k } in
+    front ∙ ap (λ (q : CoreView). q.state.front) c.self.view_is
+
 pub returns-clause-answers : goal.returns-clause-answers
-returns-clause-answers c =
-    let inside = c.self.inside in
-    let front : c.of-front.result ≡ front_of inside.journal.points = λ i. record { history = c.of-front.ensures.history i; finished = (c.of-front.ensures.finished ∙ c.self.invariant.cycles) i } in
-    let P : Seen → Type 0 = λ f. Answers (facts_of inside.script.value) f in
-    let Q : CoreState → Type 0 = λ s. Answers (facts_of s.script) c.of-front.result in
-    subst Q c.self.view_is (subst P (sym front) (run_answers (state_in inside) c.self.invariant.accepted c.self.invariant.run))
+returns-clause-answers g c =
+    let in_ = c.self.inside in
+    let s = in_.script.value in
+    let whole = c.self.invariant.whole in
+    let items = in_.seats.items in
+    let finished = c.of-front.ensures.finished ∙ ap (λ l. l.lists) c.cycles.ensures ∙ sym (ap cycles_kept c.take_collector-collector.ensures.collector) in
+    let front : c.of-front.result ≡ record { history = in_.journal.points; finished = cycles_kept (slice_get items (length items - 1)) } =
+    λ k. record { history = c.of-front.ensures.history k; finished = finished k } in
+    subst (λ (q : CoreView). Answers (facts_of q.script) c.of-front.result) c.self.view_is
+    (subst (λ (f : Seen). Answers (facts_of s) f) (sym front) (answers s.numbers (facts_of s) _ whole))
 
 pub returns-clause-end : goal.returns-clause-end
-returns-clause-end c =
-    let inside = c.self.inside in
-    let front : c.of-front.result ≡ front_of inside.journal.points = λ i. record { history = c.of-front.ensures.history i; finished = (c.of-front.ensures.finished ∙ c.self.invariant.cycles) i } in
-    let P : Seen → Type 0 = λ f. AnswersToEnd (facts_of inside.script.value) f in
-    let Q : CoreState → Type 0 = λ s. length s.history ≡ length (all_calls s.script) → AnswersToEnd (facts_of s.script) c.of-front.result in
-    subst Q c.self.view_is (λ end. subst P (sym front) (run_answers_to_end (state_in inside) c.self.invariant.accepted c.self.invariant.run end))
+returns-clause-end g c =
+    let in_ = c.self.inside in
+    let s = in_.script.value in
+    let whole = c.self.invariant.whole in
+    let items = in_.seats.items in
+    let finished = c.of-front.ensures.finished ∙ ap (λ l. l.lists) c.cycles.ensures ∙ sym (ap cycles_kept c.take_collector-collector.ensures.collector) in
+    let front : c.of-front.result ≡ record { history = in_.journal.points; finished = cycles_kept (slice_get items (length items - 1)) } =
+    λ k. record { history = c.of-front.ensures.history k; finished = finished k } in
+    subst (λ (q : CoreView). AllAtEnd q.script.numbers q.state.seats → AnswersToEnd (facts_of q.script) c.of-front.result) c.self.view_is
+    (λ end. subst (λ (f : Seen). AnswersToEnd (facts_of s) f) (sym front) (answers_to_end s.numbers (facts_of s) _ whole end))
+
+pub returns-clause-holds : goal.returns-clause-holds
+returns-clause-holds g c =
+    let in_ = c.self.inside in
+    let s = in_.script.value in
+    let whole = c.self.invariant.whole in
+    let items = in_.seats.items in
+    subst (λ (q : CoreView). WholeInvariant q.script.numbers (facts_of q.script) q.state) c.self.view_is whole

@@ -1,55 +1,150 @@
-use Rattle.std.proofs.Common.{◌≡◌, ◌<◌, ◌++◌, ◌∷◌, ap, sym, subst, ◌∙◌, List, [], length, length-append, arith}
-use Rattle.mako_model.specs.declared.point.Point.{Point}
-use Rattle.mako_model.specs.declared.point.Point.TheVariants.{Did}
-use Rattle.mako_model.specs.Fronts.{replies_to}
-use Rattle.mako_core.specs.Runs.{CoreState, IsRun, AddsAnswer}
-use Rattle.mako_core.proofs.RunLaws.{replies_push}
-use Rattle.mako_core.proofs.StepLaws.{next_call, step_ready, step_run}
+use Rattle.std.proofs.Common.{◌≡◌, ◌<◌, ◌++◌, ◌∷◌, [], length, slice_get, Some, ℕ, List, sym, ap, subst, refl, ◌∙◌, arith, length-set}
+use Rattle.std.proofs.lemmas.Option.{slice_get_read}
+use Rattle.mako_step.specs.declared.stepping.Stepped.TheVariants.{Ended as StepEnded, Waiting as StepWaiting, Moved as StepMoved}
+use Rattle.mako_core.specs.Cores.{CoreView}
+use Rattle.mako_core.specs.Turns.{turn_at}
+use Rattle.mako_state.specs.CoreStates.{step_of}
+use Rattle.mako_core.proofs.Laws.{asked, state_is, whole_after, holds_after, turn_is, has_place}
 use Rattle.mako_core.proofs.core_state.Core.step.Goals as goal
 
-pub carry_out-reply-requires : goal.carry_out-reply-requires
-carry_out-reply-requires c =
-    let answered : c.len-answered.result ≡ length c.self.inside.replies.items = omega (arith, c.len-answered.ensures, c.self.inside.replies.ok.0) in
-    let less : c.len-answered.result < length c.self.inside.calls.items = omega (arith, c.if-answered-len.false, c.len.ensures, c.self.inside.calls.ok.0) in
-    step_ready c.self.inside c.self.invariant c.index-call.result.now (next_call c.self.inside c.self.invariant c.index-call.result.now c.len-answered.result answered less c.index-call.ensures)
+pub make_step-requires : goal.make_step-requires
+make_step-requires g c =
+    let in_ = c.self.inside in
+    let v = c.index_mut-machine.result.now in
+    let within : c.args.seat < length in_.seats.items = rw (← c.self.view_is) at c.requires in
+    let here : slice_get in_.seats.items c.args.seat ≡ Some v = slice_get_read in_.seats.items (length in_.seats.items) c.args.seat v refl within c.index_mut-machine.ensures.value in
+    asked in_.shape in_.script.value (g.W.Words.words in_.words) in_.seats.items in_.journal.points in_.journal.room in_.lists.items _ c.self.invariant c.args.seat v here
 
 pub invariant_of-self : goal.invariant_of-self
-invariant_of-self c =
-    let inside = c.self.inside in
-    let call = c.index-call.result.now in
-    let reply = c.carry_out-reply.result in
-    let told = c.carry_out-reply.ensures in
-    let answered : c.len-answered.result ≡ length inside.replies.items = omega (arith, c.len-answered.ensures, inside.replies.ok.0) in
-    let less : c.len-answered.result < length inside.calls.items = omega (arith, c.if-answered-len.false, c.len.ensures, inside.calls.ok.0) in
-    let next = next_call inside c.self.invariant call c.len-answered.result answered less c.index-call.ensures in
-    let run = step_run inside c.self.invariant c.carry_out-reply.new.words call reply next told.lawful told.plain told.stands told.filled told.top in
-    let Run : List Point → Type 0 = λ points. IsRun (record { script = inside.script.value; words = c.carry_out-reply.new.words; history = points }) in
-    record {
-      accepted = c.self.invariant.accepted;
-      shape = c.self.invariant.shape;
-      calls = c.self.invariant.calls;
-      run = subst Run (sym c.push.ensures.points) run;
-      replies = c.push_reserved.ensures.items ∙ ap (λ rs. rs ++ reply ∷ []) c.self.invariant.replies ∙ sym (replies_push 0 inside.journal.points call reply) ∙ ap (replies_to 0) (sym c.push.ensures.points);
-      answered = omega (arith, ap length c.push_reserved.ensures.items, length-append inside.replies.items (reply ∷ []), ap length c.push.ensures.points, length-append inside.journal.points (Did 0 call reply ∷ []), c.self.invariant.answered);
-      journal_room = omega (arith, c.self.invariant.journal_room, c.push.ensures.room);
-      replies_room = omega (arith, c.self.invariant.replies_room, c.push_reserved.ensures.capacity);
-      lists = c.self.invariant.lists;
-      lists_room = c.self.invariant.lists_room;
-      cycles = c.self.invariant.cycles;
-    }
+invariant_of-self g c =
+    let in_ = c.self.inside in
+    let v = c.index_mut-machine.result.now in
+    let within : c.args.seat < length in_.seats.items = rw (← c.self.view_is) at c.requires in
+    let here : slice_get in_.seats.items c.args.seat ≡ Some v = slice_get_read in_.seats.items (length in_.seats.items) c.args.seat v refl within c.index_mut-machine.ensures.value in
+    holds_after in_.shape in_.script.value (g.W.Words.words in_.words) in_.seats.items in_.journal.points in_.journal.room in_.lists.items _ c.self.invariant c.args.seat v here
+    (g.W.Words.words c.make_step.new.words) c.in-Ended.ensures.words c.make_step.new.machine c.in-Ended.ensures.machine StepEnded c.in-Ended.ensures.result in_.journal.points refl
 
-pub returns-clause-answer : goal.returns-clause-answer
-returns-clause-answer c =
-    let inside = c.self.inside in
-    let call = c.index-call.result.now in
-    let answered : c.len-answered.result ≡ length inside.replies.items = omega (arith, c.len-answered.ensures, inside.replies.ok.0) in
-    let less : c.len-answered.result < length inside.calls.items = omega (arith, c.if-answered-len.false, c.len.ensures, inside.calls.ok.0) in
-    let after : CoreState = record { script = inside.script.value; words = c.carry_out-reply.new.words; history = c.push.new.self.points } in
-    let Adds : CoreState → Type 0 = λ before. AddsAnswer before after in
-    subst Adds c.self.view_is (record {
-      call = call;
-      reply = c.carry_out-reply.result;
-      next = next_call inside c.self.invariant call c.len-answered.result answered less c.index-call.ensures;
-      lawful = c.carry_out-reply.ensures.lawful;
-      history = c.push.ensures.points;
-    })
+pub returns-in-Ended-clause-state : goal.returns-in-Ended-clause-state
+returns-in-Ended-clause-state g c =
+    let in_ = c.self.inside in
+    let v = c.index_mut-machine.result.now in
+    let within : c.args.seat < length in_.seats.items = rw (← c.self.view_is) at c.requires in
+    let here : slice_get in_.seats.items c.args.seat ≡ Some v = slice_get_read in_.seats.items (length in_.seats.items) c.args.seat v refl within c.index_mut-machine.ensures.value in
+    state_is in_.shape in_.script.value (g.W.Words.words in_.words) in_.seats.items in_.journal.points in_.journal.room in_.lists.items _ c.self.invariant c.args.seat v here
+    (g.W.Words.words c.make_step.new.words) c.in-Ended.ensures.words c.make_step.new.machine c.in-Ended.ensures.machine StepEnded c.in-Ended.ensures.result in_.journal.points refl
+    ∙ ap (λ (q : CoreView). step_of q.state c.args.seat) c.self.view_is
+
+pub returns-in-Ended-clause-turn : goal.returns-in-Ended-clause-turn
+returns-in-Ended-clause-turn g c =
+    let in_ = c.self.inside in
+    let v = c.index_mut-machine.result.now in
+    let within : c.args.seat < length in_.seats.items = rw (← c.self.view_is) at c.requires in
+    let here : slice_get in_.seats.items c.args.seat ≡ Some v = slice_get_read in_.seats.items (length in_.seats.items) c.args.seat v refl within c.index_mut-machine.ensures.value in
+    turn_is in_.shape in_.script.value (g.W.Words.words in_.words) in_.seats.items in_.journal.points in_.journal.room in_.lists.items _ c.self.invariant c.args.seat v here
+    (g.W.Words.words c.make_step.new.words) c.in-Ended.ensures.words c.make_step.new.machine c.in-Ended.ensures.machine StepEnded c.in-Ended.ensures.result in_.journal.points refl
+    ∙ ap (λ (q : CoreView). turn_at q.state (slice_get q.state.seats c.args.seat)) c.self.view_is
+
+pub returns-in-Ended-clause-holds : goal.returns-in-Ended-clause-holds
+returns-in-Ended-clause-holds g c =
+    let in_ = c.self.inside in
+    let v = c.index_mut-machine.result.now in
+    let within : c.args.seat < length in_.seats.items = rw (← c.self.view_is) at c.requires in
+    let here : slice_get in_.seats.items c.args.seat ≡ Some v = slice_get_read in_.seats.items (length in_.seats.items) c.args.seat v refl within c.index_mut-machine.ensures.value in
+    whole_after in_.shape in_.script.value (g.W.Words.words in_.words) in_.seats.items in_.journal.points in_.journal.room in_.lists.items _ c.self.invariant c.args.seat v here
+    (g.W.Words.words c.make_step.new.words) c.in-Ended.ensures.words c.make_step.new.machine c.in-Ended.ensures.machine StepEnded c.in-Ended.ensures.result in_.journal.points refl
+
+pub invariant_of-self-in-Waiting : goal.invariant_of-self-in-Waiting
+invariant_of-self-in-Waiting g c =
+    let in_ = c.self.inside in
+    let v = c.index_mut-machine.result.now in
+    let within : c.args.seat < length in_.seats.items = rw (← c.self.view_is) at c.requires in
+    let here : slice_get in_.seats.items c.args.seat ≡ Some v = slice_get_read in_.seats.items (length in_.seats.items) c.args.seat v refl within c.index_mut-machine.ensures.value in
+    holds_after in_.shape in_.script.value (g.W.Words.words in_.words) in_.seats.items in_.journal.points in_.journal.room in_.lists.items _ c.self.invariant c.args.seat v here
+    (g.W.Words.words c.make_step.new.words) c.in-Waiting.ensures.words c.make_step.new.machine c.in-Waiting.ensures.machine (StepWaiting c.in-Waiting.word) c.in-Waiting.ensures.result in_.journal.points refl
+
+pub returns-in-Waiting-clause-state : goal.returns-in-Waiting-clause-state
+returns-in-Waiting-clause-state g c =
+    let in_ = c.self.inside in
+    let v = c.index_mut-machine.result.now in
+    let within : c.args.seat < length in_.seats.items = rw (← c.self.view_is) at c.requires in
+    let here : slice_get in_.seats.items c.args.seat ≡ Some v = slice_get_read in_.seats.items (length in_.seats.items) c.args.seat v refl within c.index_mut-machine.ensures.value in
+    state_is in_.shape in_.script.value (g.W.Words.words in_.words) in_.seats.items in_.journal.points in_.journal.room in_.lists.items _ c.self.invariant c.args.seat v here
+    (g.W.Words.words c.make_step.new.words) c.in-Waiting.ensures.words c.make_step.new.machine c.in-Waiting.ensures.machine (StepWaiting c.in-Waiting.word) c.in-Waiting.ensures.result in_.journal.points refl
+    ∙ ap (λ (q : CoreView). step_of q.state c.args.seat) c.self.view_is
+
+pub returns-in-Waiting-clause-turn : goal.returns-in-Waiting-clause-turn
+returns-in-Waiting-clause-turn g c =
+    let in_ = c.self.inside in
+    let v = c.index_mut-machine.result.now in
+    let within : c.args.seat < length in_.seats.items = rw (← c.self.view_is) at c.requires in
+    let here : slice_get in_.seats.items c.args.seat ≡ Some v = slice_get_read in_.seats.items (length in_.seats.items) c.args.seat v refl within c.index_mut-machine.ensures.value in
+    turn_is in_.shape in_.script.value (g.W.Words.words in_.words) in_.seats.items in_.journal.points in_.journal.room in_.lists.items _ c.self.invariant c.args.seat v here
+    (g.W.Words.words c.make_step.new.words) c.in-Waiting.ensures.words c.make_step.new.machine c.in-Waiting.ensures.machine (StepWaiting c.in-Waiting.word) c.in-Waiting.ensures.result in_.journal.points refl
+    ∙ ap (λ (q : CoreView). turn_at q.state (slice_get q.state.seats c.args.seat)) c.self.view_is
+
+pub returns-in-Waiting-clause-holds : goal.returns-in-Waiting-clause-holds
+returns-in-Waiting-clause-holds g c =
+    let in_ = c.self.inside in
+    let v = c.index_mut-machine.result.now in
+    let within : c.args.seat < length in_.seats.items = rw (← c.self.view_is) at c.requires in
+    let here : slice_get in_.seats.items c.args.seat ≡ Some v = slice_get_read in_.seats.items (length in_.seats.items) c.args.seat v refl within c.index_mut-machine.ensures.value in
+    whole_after in_.shape in_.script.value (g.W.Words.words in_.words) in_.seats.items in_.journal.points in_.journal.room in_.lists.items _ c.self.invariant c.args.seat v here
+    (g.W.Words.words c.make_step.new.words) c.in-Waiting.ensures.words c.make_step.new.machine c.in-Waiting.ensures.machine (StepWaiting c.in-Waiting.word) c.in-Waiting.ensures.result in_.journal.points refl
+
+pub keep_point-requires : goal.keep_point-requires
+keep_point-requires g c =
+    let in_ = c.self.inside in
+    let v = c.index_mut-machine.result.now in
+    let within : c.args.seat < length in_.seats.items = rw (← c.self.view_is) at c.requires in
+    let here : slice_get in_.seats.items c.args.seat ≡ Some v = slice_get_read in_.seats.items (length in_.seats.items) c.args.seat v refl within c.index_mut-machine.ensures.value in
+    has_place in_.shape in_.script.value (g.W.Words.words in_.words) in_.seats.items in_.journal.points in_.journal.room in_.lists.items _ c.self.invariant c.args.seat v here (g.W.Words.words c.make_step.new.words) c.in-Moved.ensures.words c.make_step.new.machine c.in-Moved.ensures.machine (StepMoved c.in-Moved.event) c.in-Moved.ensures.result _ refl
+
+pub invariant_of-self-in-Moved : goal.invariant_of-self-in-Moved
+invariant_of-self-in-Moved g c =
+    let in_ = c.self.inside in
+    let v = c.index_mut-machine.result.now in
+    let within : c.args.seat < length in_.seats.items = rw (← c.self.view_is) at c.requires in
+    let here : slice_get in_.seats.items c.args.seat ≡ Some v = slice_get_read in_.seats.items (length in_.seats.items) c.args.seat v refl within c.index_mut-machine.ensures.value in
+    rw c.keep_point.ensures.room (holds_after in_.shape in_.script.value (g.W.Words.words in_.words) in_.seats.items in_.journal.points in_.journal.room in_.lists.items _ c.self.invariant c.args.seat v here
+    (g.W.Words.words c.make_step.new.words) c.in-Moved.ensures.words c.make_step.new.machine c.in-Moved.ensures.machine (StepMoved c.in-Moved.event) c.in-Moved.ensures.result c.keep_point.new.journal.points c.keep_point.ensures.points)
+
+pub returns-in-Moved-clause-state : goal.returns-in-Moved-clause-state
+returns-in-Moved-clause-state g c =
+    let in_ = c.self.inside in
+    let v = c.index_mut-machine.result.now in
+    let within : c.args.seat < length in_.seats.items = rw (← c.self.view_is) at c.requires in
+    let here : slice_get in_.seats.items c.args.seat ≡ Some v = slice_get_read in_.seats.items (length in_.seats.items) c.args.seat v refl within c.index_mut-machine.ensures.value in
+    state_is in_.shape in_.script.value (g.W.Words.words in_.words) in_.seats.items in_.journal.points in_.journal.room in_.lists.items _ c.self.invariant c.args.seat v here
+    (g.W.Words.words c.make_step.new.words) c.in-Moved.ensures.words c.make_step.new.machine c.in-Moved.ensures.machine (StepMoved c.in-Moved.event) c.in-Moved.ensures.result c.keep_point.new.journal.points c.keep_point.ensures.points
+    ∙ ap (λ (q : CoreView). step_of q.state c.args.seat) c.self.view_is
+
+pub returns-in-Moved-clause-turn : goal.returns-in-Moved-clause-turn
+returns-in-Moved-clause-turn g c =
+    let in_ = c.self.inside in
+    let v = c.index_mut-machine.result.now in
+    let within : c.args.seat < length in_.seats.items = rw (← c.self.view_is) at c.requires in
+    let here : slice_get in_.seats.items c.args.seat ≡ Some v = slice_get_read in_.seats.items (length in_.seats.items) c.args.seat v refl within c.index_mut-machine.ensures.value in
+    turn_is in_.shape in_.script.value (g.W.Words.words in_.words) in_.seats.items in_.journal.points in_.journal.room in_.lists.items _ c.self.invariant c.args.seat v here
+    (g.W.Words.words c.make_step.new.words) c.in-Moved.ensures.words c.make_step.new.machine c.in-Moved.ensures.machine (StepMoved c.in-Moved.event) c.in-Moved.ensures.result c.keep_point.new.journal.points c.keep_point.ensures.points
+    ∙ ap (λ (q : CoreView). turn_at q.state (slice_get q.state.seats c.args.seat)) c.self.view_is
+
+pub returns-in-Moved-clause-holds : goal.returns-in-Moved-clause-holds
+returns-in-Moved-clause-holds g c =
+    let in_ = c.self.inside in
+    let v = c.index_mut-machine.result.now in
+    let within : c.args.seat < length in_.seats.items = rw (← c.self.view_is) at c.requires in
+    let here : slice_get in_.seats.items c.args.seat ≡ Some v = slice_get_read in_.seats.items (length in_.seats.items) c.args.seat v refl within c.index_mut-machine.ensures.value in
+    whole_after in_.shape in_.script.value (g.W.Words.words in_.words) in_.seats.items in_.journal.points in_.journal.room in_.lists.items _ c.self.invariant c.args.seat v here
+    (g.W.Words.words c.make_step.new.words) c.in-Moved.ensures.words c.make_step.new.machine c.in-Moved.ensures.machine (StepMoved c.in-Moved.event) c.in-Moved.ensures.result c.keep_point.new.journal.points c.keep_point.ensures.points
+
+pub returns-in-Ended-clause-seats : goal.returns-in-Ended-clause-seats
+returns-in-Ended-clause-seats g c =
+    length-set c.self.inside.seats.items c.args.seat c.make_step.new.machine ∙ ap (λ (q : CoreView). length q.state.seats) c.self.view_is
+
+pub returns-in-Waiting-clause-seats : goal.returns-in-Waiting-clause-seats
+returns-in-Waiting-clause-seats g c =
+    length-set c.self.inside.seats.items c.args.seat c.make_step.new.machine ∙ ap (λ (q : CoreView). length q.state.seats) c.self.view_is
+
+pub returns-in-Moved-clause-seats : goal.returns-in-Moved-clause-seats
+returns-in-Moved-clause-seats g c =
+    length-set c.self.inside.seats.items c.args.seat c.make_step.new.machine ∙ ap (λ (q : CoreView). length q.state.seats) c.self.view_is
