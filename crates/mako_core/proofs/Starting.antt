@@ -18,7 +18,7 @@ use Rattle.mako_state.specs.Openings.{Placed, board_roots, first_homes, board_pl
 use Rattle.mako_script.specs.ScriptFacts.{facts_of}
 use Rattle.mako_model.specs.declared.point.Point.{Point}
 use Rattle.mako_state.specs.CoreStates.{CoreState}
-use Rattle.mako_state.specs.Forms.{NeedsNoCycle}
+use Rattle.mako_script.specs.Forms.{NeedsNoCycle}
 use Rattle.mako_state.specs.Invariants.{WholeInvariant}
 use Rattle.mako_core.specs.Cores.{core_view, cycles_kept, cycles_in, unanswered, HasRoom}
 use Rattle.mako_state.proofs.Openings.{opening_holds}

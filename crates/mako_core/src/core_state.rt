@@ -65,7 +65,7 @@ impl<W: Words> Core<W> {
     ghost use Rattle.mako_core.specs.Cores.{CoreView};
     ghost use Rattle.mako_core.specs.Turns.{turn_at, told_at};
     ghost use Rattle.mako_shape.specs.Places.{total};
-    ghost use Rattle.mako_state.specs.Forms.{NeedsNoCycle};
+    ghost use Rattle.mako_script.specs.Forms.{NeedsNoCycle};
     ghost use Rattle.mako_state.specs.Openings.{opening_core};
 
     /// The core of a script before the first step. It takes all memory that it ever takes.
