@@ -1,0 +1,16 @@
+pub mod AllPhases
+pub mod Collector
+pub mod Frames
+pub mod LiveLaws
+pub mod Lives
+pub mod MarkSteps
+pub mod Notices
+pub mod PartChanges
+pub mod Parts
+pub mod Says
+pub mod Seats
+pub mod Sizes
+pub mod Snapshots
+pub mod Sums
+pub mod Worked
+pub mod Writes

@@ -1,0 +1,9 @@
+pub mod Examples
+pub mod Facets
+pub mod Laws
+pub mod LiveSteps
+pub mod Lives
+pub mod Marked
+pub mod Orders
+pub mod Snapshots
+pub mod Steps
