@@ -1,0 +1,91 @@
+-- What is true of tracing: the laws, each as a statement.
+use Rattle.std.specs.Prelude.{ℕ, Bool, ◌≡◌, ◌*◌, ◌<◌, ◌↔◌, List, [], ◌∷◌, ◌++◌, length}
+use Rattle.std.specs.List.{Contains}
+use Rattle.mako_words.specs.declared.name.Name.{Name}
+use Rattle.mako_shape.specs.declared.numbers.Numbers.{Numbers}
+use Rattle.mako_shape.specs.Places.{total}
+use Rattle.mako_model.specs.declared.point.Point.{Point}
+use Rattle.mako_model.specs.declared.point.Point.TheVariants.{Snap}
+use Rattle.mako_model.specs.Legal.{Facts, state_of, IsLegal}
+use Rattle.mako_model.specs.Dead.{names_made}
+use Rattle.mako_ring.specs.Shades.{IsMarked, IsQuiet, IsComplete}
+use Rattle.mako_ring.specs.TraceFacets.{TraceFacet, Work, pushing}
+use Rattle.mako_names.specs.Uses.{IsGood}
+use Rattle.mako_shades.specs.Holding.{TracingHolds, AgreeOnTrace}
+use Rattle.mako_shades.specs.Serving.{ServerStands, AreSole, Tracks}
+use Rattle.mako_shades.specs.Stands.{HeapStands, AreTraced, Retakes}
+use Rattle.mako_shades.specs.Steps.{IsReady, TraceScene, TraceStep, IsGathering, IsShading}
+
+-- the heap of the scene stands, as far as tracing asks for it
+abbrev pub HeapStandsIn : Numbers → Facts → TraceScene → Type 0
+HeapStandsIn n w s = HeapStands n w s.words s.history
+
+-- what is kept of tracing in the scene
+abbrev pub TracksIn : Numbers → Facts → ℕ → TraceScene → Type 0
+TracksIn n w cycle s = Tracks n w s.words s.facets s.history cycle
+
+-- ---- what is kept
+
+-- the snapshot, with the store of Trace in the first pause, makes the invariant true
+abbrev pub TracingBegins : Type 0
+TracingBegins = (n : Numbers) (w : Facts) (words words' : List ℕ) (facets : List TraceFacet) (history : List Point)
+    (cycle seat : ℕ) (names : List Name) → IsLegal w (history ++ Snap cycle ∷ [])
+    → IsReady n w words facets history cycle seat names → AreSole facets → AgreeOnTrace n words words'
+    → Tracks n w words' facets (history ++ Snap cycle ∷ []) cycle
+
+-- each kind of step keeps it
+abbrev pub StepsKeepTracing : Type 0
+StepsKeepTracing = (n : Numbers) (w : Facts) (cycle : ℕ) (s after : TraceScene) → HeapStandsIn n w s
+    → TracksIn n w cycle s → TraceStep n w cycle s after → TracksIn n w cycle after
+
+-- steps of two kinds may follow each other within one atomic step: only the words and the history between have to stand
+abbrev pub StepsFollow : Type 0
+StepsFollow = (n : Numbers) (w : Facts) (cycle : ℕ) (s mid after : TraceScene) → HeapStandsIn n w s
+    → HeapStandsIn n w mid → TracksIn n w cycle s → TraceStep n w cycle s mid → TraceStep n w cycle mid after
+    → TracksIn n w cycle after
+
+-- ---- what it comes to
+
+-- where the heap is complete, the marked names are exactly the good ones
+abbrev pub CompleteMarksTheGood : Type 0
+CompleteMarksTheGood = (n : Numbers) (w : Facts) (words : List ℕ) (facets : List TraceFacet) (history : List Point)
+    (cycle : ℕ) (admitted : ℕ → Bool) → IsLegal w history → TracingHolds n w words facets history cycle
+    → IsComplete n words facets admitted → (x : Name) → IsMarked n words cycle x ↔ IsGood w history x
+
+-- and each taken entry is told to be good or dead
+abbrev pub CompleteIsTraced : Type 0
+CompleteIsTraced = (n : Numbers) (w : Facts) (words : List ℕ) (facets : List TraceFacet) (history : List Point)
+    (cycle : ℕ) (admitted : ℕ → Bool) → HeapStands n w words history → TracingHolds n w words facets history cycle
+    → IsComplete n words facets admitted → AreTraced n w words history cycle
+
+-- what is told stays told until the next snapshot, through steps that take an entry again only by a good name with the
+-- epoch
+abbrev pub TracedStays : Type 0
+TracedStays = (n : Numbers) (w : Facts) (words words' : List ℕ) (history points : List Point) (cycle : ℕ)
+    → IsLegal w (history ++ points) → (state_of w (history ++ points)).snaps ≡ (state_of w history).snaps
+    → Retakes n w words words' (history ++ points) cycle → AreTraced n w words history cycle
+    → AreTraced n w words' (history ++ points) cycle
+
+-- a quiet heap stays quiet, but where the collector takes a name out of a barrier slot
+abbrev pub QuietStays : Type 0
+QuietStays = (n : Numbers) (w : Facts) (cycle : ℕ) (s after : TraceScene) → length s.words ≡ total n
+    → IsQuiet n s.words s.facets → (step : TraceStep n w cycle s after) → (¬ IsGathering step)
+    → IsQuiet n after.words after.facets
+
+-- a complete heap stays complete, but where a put fills its barrier slot
+abbrev pub CompleteStays : Type 0
+CompleteStays = (n : Numbers) (w : Facts) (cycle : ℕ) (s after : TraceScene) (admitted : ℕ → Bool)
+    → length s.words ≡ total n → IsComplete n s.words s.facets admitted → (step : TraceStep n w cycle s after)
+    → (¬ IsShading step) → IsComplete n after.words after.facets admitted
+
+-- a good name that is not marked was made before the snapshot: so is each name that a server marks
+abbrev pub UnmarkedAreOld : Type 0
+UnmarkedAreOld = (n : Numbers) (w : Facts) (words : List ℕ) (facets : List TraceFacet) (history : List Point)
+    (cycle : ℕ) (t : TracingHolds n w words facets history cycle) → (x : Name) → IsGood w history x
+    → (¬ IsMarked n words cycle x) → Contains (names_made t.before) x
+
+-- a server that is about to push an entry has fewer on its stack than there are in its tablets
+abbrev pub StacksHaveRoom : Type 0
+StacksHaveRoom = (n : Numbers) (w : Facts) (words : List ℕ) (history : List Point) (cycle : ℕ) (job : Work)
+    (x : Name) → ServerStands n w words history cycle job → job.hand ≡ pushing x
+    → length job.stack < n.entries * n.tablets

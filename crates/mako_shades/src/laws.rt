@@ -1,0 +1,37 @@
+//! What holds while the servers trace a cycle, and what follows from it. The functions do nothing; what they ensure is
+//! for contracts and proofs.
+
+ghost use Rattle.mako_shades.specs.Laws.{TracingBegins, StepsKeepTracing, StepsFollow, CompleteMarksTheGood, CompleteIsTraced, TracedStays, QuietStays, CompleteStays, UnmarkedAreOld, StacksHaveRoom};
+
+/// The snapshot of a cycle, taken where the collector has the names of all roots and nothing else is on its way, makes
+/// the tracing invariant true.
+pub fn tracing_begins()
+    ensures { TracingBegins }
+{}
+
+/// Each kind of step keeps it, for any number of mutators and servers; and so do two kinds in one atomic step.
+pub fn tracing_is_kept()
+    ensures steps { StepsKeepTracing }
+    ensures follow { StepsFollow }
+{}
+
+/// Where the heap is complete, the marked names are exactly the good ones, and each taken entry is told to be that of a
+/// good name or of a dead one; and what is told stays told until the next snapshot.
+pub fn complete_tells()
+    ensures good { CompleteMarksTheGood }
+    ensures traced { CompleteIsTraced }
+    ensures stays { TracedStays }
+{}
+
+/// A quiet heap stays quiet, but where the collector takes a name out of a barrier slot. A complete one stays complete,
+/// but where a put fills its barrier slot.
+pub fn rest_stays()
+    ensures quiet { QuietStays }
+    ensures complete { CompleteStays }
+{}
+
+/// A name that a server marks was made before the snapshot, and the server's stack has room for it.
+pub fn servers_tell()
+    ensures old { UnmarkedAreOld }
+    ensures room { StacksHaveRoom }
+{}
