@@ -29,10 +29,6 @@ pub written_append : (n : Numbers) (ws : List ℕ) (a b : List Placed) → writt
 written_append n ws [] b = refl
 written_append n ws (p ∷ a) b = written_append n (set ws (index n p.place) p.word) a b
 
-pub length_written : (n : Numbers) (ws : List ℕ) (ps : List Placed) → length (written n ws ps) ≡ length ws
-length_written n ws [] = refl
-length_written n ws (p ∷ ps) = length_written n (set ws (index n p.place) p.word) ps ∙ length-set ws (index n p.place) p.word
-
 one_less : (k : ℕ) → suc k - 1 ≡ k
 one_less k = omega arith
 

@@ -2,7 +2,8 @@ use Rattle.std.proofs.Common.{◌*◌, ℕ, length, ap, ◌∙◌, replicate}
 use Rattle.std.proofs.lemmas.List.{length-replicate}
 use Rattle.mako_script.specs.Scripts.{ScriptView}
 use Rattle.mako_state.specs.Openings.{board_roots, first_homes, words_at_start}
-use Rattle.mako_core.proofs.Starting.{all_written, length_written}
+use Rattle.mako_state.proofs.OpeningWords.{length_written}
+use Rattle.mako_core.proofs.Starting.{all_written}
 use Rattle.mako_core.proofs.opening_words.opening_words.Goals as goal
 
 pub settle_tablets-requires : goal.settle_tablets-requires
