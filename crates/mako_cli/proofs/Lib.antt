@@ -1,1 +1,2 @@
 mod ThreeWords
+mod Replays

@@ -1,8 +1,8 @@
 -- The words of the command line, and the commands that they say.
 use Rattle.std.specs.Prelude.{◌≡◌, ℕ, ◌≤◌, List, [], ◌∷◌, ◌⊎◌, Option, Some, None, codes}
 use Rattle.std.specs.Fmt.{decimal}
-use Rattle.mako_core.specs.declared.order.Order.{Order}
-use Rattle.mako_core.specs.declared.order.Order.TheVariants.{Turns, Seed}
+use Rattle.mako_replay.specs.declared.order.Order.{Order}
+use Rattle.mako_replay.specs.declared.order.Order.TheVariants.{Turns, Seed}
 use Rattle.mako_cli.specs.declared.command_line.CommandLine.{CommandLine}
 use Rattle.mako_cli.specs.declared.command_line.CommandLine.TheVariants.{Replay, Gen}
 

@@ -4,7 +4,7 @@ ghost use Rattle.std.specs.Prelude.{◌≡◌, map, string_bytes};
 ghost use Rattle.mako_cli.specs.CommandLines.{Finds, IsGen, IsNumber, IsOrder, IsReplay, Says};
 
 use itoa::Buffer;
-use mako_core::Order;
+use mako_replay::Order;
 
 /// A command with its arguments.
 #[derive(Clone, Copy, Debug, PartialEq, Eq)]
