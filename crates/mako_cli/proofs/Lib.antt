@@ -1,1 +1,3 @@
-mod ThreeWords
+pub mod Rows
+pub mod Words
+pub mod Named
