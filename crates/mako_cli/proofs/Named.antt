@@ -1,11 +1,11 @@
 -- What the table makes of words, and what is made of its matches.
-use Rattle.std.proofs.Common.{◌≡◌, ◌∙◌, ℕ, Bool, true, false, List, [], ◌∷◌, Option, Some, None, codes, arith, refl, sym, ap, ap₂, subst, inl, inr, length, option_map, is_some, get_or, true≢false}
-use Rattle.std.specs.Prelude.{◌⊎◌, Box}
+use Rattle.std.proofs.Common.{◌≡◌, ◌∙◌, Bool, true, false, List, [], ◌∷◌, Option, Some, None, codes, arith, refl, sym, ap, subst, inl, inr, option_map, is_some, get_or, true≢false}
+use Rattle.std.specs.Prelude.{Box}
 use Rattle.std.specs.Box.{box_value}
 use Rattle.std.specs.List.{list_all}
 use Rattle.std.specs.Str.{bytes_eq}
 use Rattle.std.proofs.lemmas.Slice.Eq.{bytes_eq-Decides}
-use Rattle.clap.specs.Words.{App, Row, Text, HasMatchesOf, HasKind, IsAmong, fault_of, first_of, first_value, found_of, is_simple, is_simple_and_free, kind_of, rows_of, subcommand_name_of, subcommand_of, subcommand_rows, subcommand_rows_of}
+use Rattle.clap.specs.Words.{App, Row, Text, HasMatchesOf, HasKind, IsAmong, fault_of, first_of, first_value, is_simple, is_simple_and_free, kind_of, rows_of, subcommand_name_of, subcommand_of, subcommand_rows, subcommand_rows_of}
 use Rattle.clap.specs.Kinds.{Kinds}
 use Rattle.clap.specs.declared.error.Error.{Error}
 use Rattle.clap.specs.declared.error.kind.ErrorKind.{ErrorKind}
@@ -28,7 +28,7 @@ pub taken_matches : (words : List Text) (app : App) (m : ArgMatches) → app ≡
 taken_matches words app m is_table all has passes =
     let rows = (has (ap is_simple is_table ∙ is_simple-table)).1 in
     let none : fault_of table words ≡ [] =
-        subst (λ (a : App). fault_of a words ≡ []) is_table (passes (ap is_simple_and_free is_table ∙ is_simple_and_free-table)) in
+    subst (λ (a : App). fault_of a words ≡ []) is_table (passes (ap is_simple_and_free is_table ∙ is_simple_and_free-table)) in
     subst (λ (t : Option (Text × List Row)). IsTaken words t) (sym (rows ∙ ap (λ (a : App). subcommand_of a words) is_table))
     (taken words (plain_words words all) none)
 
@@ -39,7 +39,7 @@ pub refused_matches : (words : List Text) (app : App) (e : Error) → app ≡ ta
     (kind_of e ≡ kind.OutOfMemory → ⊥) → SayNothing words
 refused_matches words app e is_table fails found_memory =
     let has : HasKind (fault_of table words) e =
-        subst (λ (a : App). HasKind (fault_of a words) e) is_table (fails (ap is_simple_and_free is_table ∙ is_simple_and_free-table)) in
+    subst (λ (a : App). HasKind (fault_of a words) e) is_table (fails (ap is_simple_and_free is_table ∙ is_simple_and_free-table)) in
     faulty_words words (λ none. elim has [ inl memory ↦ found_memory memory | inr among ↦ none_among (kind_of e) (fault_of table words) none among ])
 
 -- ---- the name and the matches of the subcommand
@@ -159,7 +159,7 @@ replay_says words f first second r has at_one at_two found =
   where
     go : (r : Option CommandLine) → Finds (IsReplay first second) r → Finds (Says (codes "replay" ∷ first ∷ second ∷ [])) r
     go (Some line) h = inl (refl, h)
-    go None h = λ line s. elim s [ | inl p ↦ h line p.1 | inr p ↦ differ _ _ p.0 (λ e. omega (arith, e)) ]
+    go None h = λ line s. elim s [ inl p ↦ h line p.1 | inr p ↦ differ _ _ p.0 (λ e. omega (arith, e)) ]
 
 pub gen_says : (words : List Text) (f : Found) (first second : Text) (r : Option CommandLine) → HasPair (codes "gen") (codes "seed") (codes "size") words f →
     Some first ≡ first_value f (codes "seed") → Some second ≡ first_value f (codes "size") → Finds (IsGen first second) r → Finds (Says words) r
@@ -172,7 +172,7 @@ gen_says words f first second r has at_one at_two found =
   where
     go : (r : Option CommandLine) → Finds (IsGen first second) r → Finds (Says (codes "gen" ∷ first ∷ second ∷ [])) r
     go (Some line) h = inr (refl, h)
-    go None h = λ line s. elim s [ | inl p ↦ differ _ _ p.0 (λ e. omega (arith, e)) | inr p ↦ h line p.1 ]
+    go None h = λ line s. elim s [ inl p ↦ differ _ _ p.0 (λ e. omega (arith, e)) | inr p ↦ h line p.1 ]
 
 pub count_says : (words : List Text) (f : Found) (first : Text) (r : Option CommandLine) → HasSingle (codes "count") (codes "workers") words f →
     Some first ≡ first_value f (codes "workers") → Finds (IsCount first) r → Finds (Says words) r
@@ -192,4 +192,4 @@ not_missing f id text missing is = is_none text (missing ∙ is)
 -- ---- which matches are no commands
 
 pub not_taken : (words : List Text) → IsTaken words None → ⊥
-not_taken words t = elim t [ | inl p ↦ is_none _ p.taken_as | inr rest ↦ elim rest [ | inl p ↦ is_none _ p.taken_as | inr s ↦ is_none _ s.taken_as ] ]
+not_taken words t = elim t [ inl p ↦ is_none _ p.taken_as | inr rest ↦ elim rest [ inl p ↦ is_none _ p.taken_as | inr s ↦ is_none _ s.taken_as ] ]

@@ -1,18 +1,18 @@
 -- What the table makes of words.
-use Rattle.std.proofs.Common.{◌≡◌, ℕ, Bool, true, false, List, [], ◌∷◌, ◌++◌, Option, Some, None, codes, arith, refl, sym, ap, subst, inl, inr, ◌∙◌, length, suc, append-nil, append_assoc}
-use Rattle.std.specs.Prelude.{◌&&◌, ◌||◌, ◌⊎◌, ◌==◌, not, fold}
+use Rattle.std.proofs.Common.{◌≡◌, Bool, true, false, List, [], ◌∷◌, ◌++◌, Some, None, codes, arith, refl, sym, ap, subst, inl, inr, ◌∙◌, length, suc, append-nil, append_assoc}
+use Rattle.std.specs.Prelude.{fold}
 use Rattle.std.specs.Str.{bytes_eq}
-use Rattle.std.specs.List.{list_all, All}
+use Rattle.std.specs.List.{All}
 use Rattle.std.proofs.lemmas.Slice.Eq.{bytes_eq-Decides}
 use Rattle.clap.specs.Lexer.{long_of, short_of}
 use Rattle.clap.specs.Faults.{fault_of, walk_fault, is_simple_and_free}
 use Rattle.clap.specs.Simple.{Shape, is_simple, subcommand_of, built, names_of}
 use Rattle.clap.specs.Kinds.{Kinds}
-use Rattle.clap.specs.Walk.{Names, Row, Rule, Text, Walk, idle, walked, nothing_held}
+use Rattle.clap.specs.Walk.{Names, Rule, Text, Walk, idle, walked, nothing_held}
 use Rattle.clap.specs.declared.error.kind.ErrorKind.{ErrorKind}
 use Rattle.clap.specs.declared.error.kind.ErrorKind.TheVariants as kind
 use Rattle.clap.proofs.OnLiterals.{clap_on_literals}
-use Rattle.mako_cli.specs.Tables.{table, given, is_word, IsPair, IsSingle, IsTaken}
+use Rattle.mako_cli.specs.Tables.{table, given, IsPair, IsSingle, IsTaken}
 
 pub is_simple_and_free-table : is_simple_and_free table ≡ true
 is_simple_and_free-table = refl
@@ -96,8 +96,19 @@ replay_long : (first second third : Text) (rest : List Text) → IsPlain first �
     fault_of table (codes "replay" ∷ first ∷ second ∷ third ∷ rest) ≡ kind.UnknownArgument ∷ []
 unfolding clap_on_literals
 replay_long first second third rest p q r =
-    rw (stopped_walk [] (names_of (built table)) (codes "replay") (first ∷ second ∷ third ∷ []) rest, stopped_fault (built table).top (names_of (built table)) (codes "replay") (first ∷ second ∷ third ∷ []) rest,
-    p.no_dashes, p.no_long, p.no_short, q.no_dashes, q.no_long, q.no_short, r.no_dashes, r.no_long, r.no_short) refl
+    rw (
+      stopped_walk [] (names_of (built table)) (codes "replay") (first ∷ second ∷ third ∷ []) rest,
+      stopped_fault (built table).top (names_of (built table)) (codes "replay") (first ∷ second ∷ third ∷ []) rest,
+      p.no_dashes,
+      p.no_long,
+      p.no_short,
+      q.no_dashes,
+      q.no_long,
+      q.no_short,
+      r.no_dashes,
+      r.no_long,
+      r.no_short,
+    ) refl
 
 gen_alone : fault_of table (codes "gen" ∷ []) ≡ kind.MissingRequiredArgument ∷ []
 unfolding clap_on_literals
@@ -111,8 +122,19 @@ gen_long : (first second third : Text) (rest : List Text) → IsPlain first → 
     fault_of table (codes "gen" ∷ first ∷ second ∷ third ∷ rest) ≡ kind.UnknownArgument ∷ []
 unfolding clap_on_literals
 gen_long first second third rest p q r =
-    rw (stopped_walk [] (names_of (built table)) (codes "gen") (first ∷ second ∷ third ∷ []) rest, stopped_fault (built table).top (names_of (built table)) (codes "gen") (first ∷ second ∷ third ∷ []) rest,
-    p.no_dashes, p.no_long, p.no_short, q.no_dashes, q.no_long, q.no_short, r.no_dashes, r.no_long, r.no_short) refl
+    rw (
+      stopped_walk [] (names_of (built table)) (codes "gen") (first ∷ second ∷ third ∷ []) rest,
+      stopped_fault (built table).top (names_of (built table)) (codes "gen") (first ∷ second ∷ third ∷ []) rest,
+      p.no_dashes,
+      p.no_long,
+      p.no_short,
+      q.no_dashes,
+      q.no_long,
+      q.no_short,
+      r.no_dashes,
+      r.no_long,
+      r.no_short,
+    ) refl
 
 count_alone : fault_of table (codes "count" ∷ []) ≡ kind.MissingRequiredArgument ∷ []
 unfolding clap_on_literals
@@ -121,8 +143,16 @@ count_alone = refl
 count_long : (first second : Text) (rest : List Text) → IsPlain first → IsPlain second → fault_of table (codes "count" ∷ first ∷ second ∷ rest) ≡ kind.UnknownArgument ∷ []
 unfolding clap_on_literals
 count_long first second rest p q =
-    rw (stopped_walk [] (names_of (built table)) (codes "count") (first ∷ second ∷ []) rest, stopped_fault (built table).top (names_of (built table)) (codes "count") (first ∷ second ∷ []) rest,
-    p.no_dashes, p.no_long, p.no_short, q.no_dashes, q.no_long, q.no_short) refl
+    rw (
+      stopped_walk [] (names_of (built table)) (codes "count") (first ∷ second ∷ []) rest,
+      stopped_fault (built table).top (names_of (built table)) (codes "count") (first ∷ second ∷ []) rest,
+      p.no_dashes,
+      p.no_long,
+      p.no_short,
+      q.no_dashes,
+      q.no_long,
+      q.no_short,
+    ) refl
 
 -- ---- all words
 
@@ -135,8 +165,12 @@ after_replay : (words : List Text) → All IsPlain words → fault_of table (cod
     IsPair (codes "replay") (codes "order") (codes "steps") (codes "replay" ∷ words) (subcommand_of table (codes "replay" ∷ words))
 after_replay [] plain none = absurd (fails replay_alone none)
 after_replay (first ∷ []) plain none = absurd (fails (replay_short first (plain 0 first (omega arith))) none)
-after_replay (first ∷ second ∷ []) plain none = record { first = first; second = second; words_are = refl;
-  taken_as = replay_rows first second (plain 0 first (omega arith)) (plain 1 first (omega arith)) }
+after_replay (first ∷ second ∷ []) plain none = record {
+  first = first;
+  second = second;
+  words_are = refl;
+  taken_as = replay_rows first second (plain 0 first (omega arith)) (plain 1 first (omega arith));
+}
 after_replay (first ∷ second ∷ third ∷ rest) plain none =
     absurd (fails (replay_long first second third rest (plain 0 first (omega arith)) (plain 1 first (omega arith)) (plain 2 first (omega arith))) none)
 
@@ -144,8 +178,12 @@ after_gen : (words : List Text) → All IsPlain words → fault_of table (codes 
     IsPair (codes "gen") (codes "seed") (codes "size") (codes "gen" ∷ words) (subcommand_of table (codes "gen" ∷ words))
 after_gen [] plain none = absurd (fails gen_alone none)
 after_gen (first ∷ []) plain none = absurd (fails (gen_short first (plain 0 first (omega arith))) none)
-after_gen (first ∷ second ∷ []) plain none = record { first = first; second = second; words_are = refl;
-  taken_as = gen_rows first second (plain 0 first (omega arith)) (plain 1 first (omega arith)) }
+after_gen (first ∷ second ∷ []) plain none = record {
+  first = first;
+  second = second;
+  words_are = refl;
+  taken_as = gen_rows first second (plain 0 first (omega arith)) (plain 1 first (omega arith));
+}
 after_gen (first ∷ second ∷ third ∷ rest) plain none =
     absurd (fails (gen_long first second third rest (plain 0 first (omega arith)) (plain 1 first (omega arith)) (plain 2 first (omega arith))) none)
 

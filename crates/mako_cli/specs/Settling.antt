@@ -1,10 +1,12 @@
 -- What a command comes to, from what was read, and what is told of it.
-use Rattle.std.specs.Prelude.{ℕ, ◌≡◌, ◌≤◌, ◌<◌, ◌*◌, ◌⊎◌, true, List, [], ◌∷◌, length, take, map, codes, Some, IfSome}
+use Rattle.std.specs.Prelude.{ℕ, ◌≡◌, ◌≤◌, ◌<◌, ◌*◌, ◌⊎◌, Bool, true, false, List, [], length, take, map, codes, Some, IfSome}
 use Rattle.std.specs.declared.option.Option.{Option}
 use Rattle.std.specs.Io.KnownBytes.{Appends}
 use Rattle.mako_io.specs.Streams.{TakesMore}
-use Rattle.mako_model.specs.Answering.{AnswersToEnd}
+use Rattle.mako_core.specs.Endings.{AllAtEnd}
+use Rattle.mako_model.specs.Answering.{Answers, AnswersToEnd}
 use Rattle.mako_model.specs.Fronts.{Seen, FollowsPrograms}
+use Rattle.mako_model.specs.Legal.{Facts}
 use Rattle.mako_model.specs.Outcomes as outcomes
 use Rattle.mako_script.specs.declared.fault.Kind.{Kind}
 use Rattle.mako_script.specs.declared.fault.Kind.TheVariants.{Long}
@@ -16,21 +18,28 @@ use Rattle.mako_script.specs.Scripts.{ScriptView}
 use Rattle.mako_script.specs.Texts.{IsScript}
 use Rattle.mako_script.specs.ScriptFacts.{facts_of}
 use Rattle.mako_gen.specs.Workloads.{IsWorkload}
+use Rattle.mako_replay.specs.Runs.{Going, after}
+use Rattle.mako_replay.specs.declared.order.Order.{Order}
 use Rattle.mako_cli.specs.CommandLines.{Says, SayNothing}
 use Rattle.mako_cli.specs.Counts.{handled_text}
 use Rattle.mako_cli.specs.declared.command_line.CommandLine.{CommandLine}
 use Rattle.mako_cli.specs.declared.command_line.CommandLine.TheVariants.{Replay, Gen, Count}
 use Rattle.mako_cli.specs.declared.ended.Ended.{Ended}
 use Rattle.mako_cli.specs.declared.settled.Settled.{Settled}
-use Rattle.mako_cli.specs.declared.settled.Settled.TheVariants.{Done, Generated, Counted, Usage, NoScript, ReadFault, Memory}
+use Rattle.mako_cli.specs.declared.settled.Settled.TheVariants.{Replayed, Generated, Counted, Usage, NoScript, ReadFault, Memory}
 
 -- the greatest number of bytes of a script
 abbrev pub max_bytes : ℕ
 max_bytes = 16777216
 
+-- of a replay, by whether every mutator is at its end
+abbrev pub replay_status : Bool → ℕ
+replay_status true = 0
+replay_status false = 6
+
 -- the exit status, if all its text is written
 abbrev pub status_of : Settled → ℕ
-status_of (Done script outcome) = 0
+status_of (Replayed script replayed) = replay_status replayed.finished
 status_of (Generated text) = 0
 status_of (Counted pieces) = 0
 status_of Usage = 1
@@ -40,7 +49,7 @@ status_of Memory = 5
 
 -- the text that is written
 abbrev pub text_of : Settled → List ℕ
-text_of (Done script outcome) = output_text (length script.programs) outcome.front true
+text_of (Replayed script replayed) = output_text (length script.programs) replayed.outcome.front replayed.finished
 text_of (Generated text) = text.items
 text_of (Counted pieces) = handled_text pieces
 text_of Usage = codes "usage\n"
@@ -50,7 +59,7 @@ text_of Memory = codes "memory\n"
 
 -- the front of the run, empty where there was none
 abbrev pub front_of : Settled → Seen
-front_of (Done script outcome) = outcome.front
+front_of (Replayed script replayed) = replayed.outcome.front
 front_of (Generated text) = record { history = []; finished = [] }
 front_of (Counted pieces) = record { history = []; finished = [] }
 front_of Usage = record { history = []; finished = [] }
@@ -64,13 +73,29 @@ pub record IsWhole (old new : Option (List ℕ)) (bytes : List ℕ) : Type 0 whe
   pub all : IfSome old (λ left. bytes ≡ left)
   pub ended : IfSome old (λ left. new ≡ Some [])
 
--- the bytes are those of the script, and the front answers it to the end, without a finished cycle
-pub record IsAnswered (old new : Option (List ℕ)) (script : ScriptView) (front : Seen) : Type 0 where
+-- the bytes are those of the script, which is accepted
+pub record IsRead (old new : Option (List ℕ)) (script : ScriptView) : Type 0 where
   pub bytes : List ℕ
   pub whole : IsWhole old new bytes
   pub accepted : IsAccepted script
   pub spelled : IsScript bytes script
-  pub answers : AnswersToEnd (facts_of script) front
+
+-- every mutator is at its end, or one is not, and all given steps were made
+abbrev pub EndsAs : Bool → ScriptView → ℕ → Going → Type 0
+EndsAs true script steps going = AllAtEnd script.numbers going.state.seats
+EndsAs false script steps going = (¬ AllAtEnd script.numbers going.state.seats) × (going.made ≡ steps)
+
+-- the front answers each call of the script, or answers it as far as it goes
+abbrev pub AnswersAs : Bool → Facts → Seen → Type 0
+AnswersAs true facts front = AnswersToEnd facts front
+AnswersAs false facts front = Answers facts front
+
+-- The front is that of the script's run in this order with at most so many steps, which ended so. It answers the script,
+-- without a finished cycle.
+pub record IsFrontOf (order : Order) (steps : ℕ) (script : ScriptView) (finished : Bool) (front : Seen) : Type 0 where
+  pub run : front ≡ (after script order steps).state.front
+  pub ending : EndsAs finished script steps (after script order steps)
+  pub answers : AnswersAs finished (facts_of script) front
   pub cycles : front.finished ≡ []
 
 -- the bytes have this fault, or there are too many
@@ -82,21 +107,23 @@ pub record HasFault (old new : Option (List ℕ)) (kind : Kind) (line : ℕ) : T
 abbrev pub IsUnread : Option (List ℕ) → Option (List ℕ) → Kind → ℕ → Type 0
 IsUnread old new kind line = (TakesMore max_bytes old new × (kind ≡ Long) × (line ≡ 0)) ⊎ HasFault old new kind line
 
--- What reading a source and carrying out its script come to: done where an accepted script was read, no script with the fault
--- that the bytes have, a read fault only where the source's count of faults rose. Want of memory is free.
-abbrev pub Settles : Option (List ℕ) → Option (List ℕ) → Type 0 → Settled → Type 0
-Settles old new rose (Done script outcome) = IsAnswered old new script outcome.front
-Settles old new rose (Generated text) = ⊥
-Settles old new rose (Counted pieces) = ⊥
-Settles old new rose Usage = ⊥
-Settles old new rose (NoScript kind line) = IsUnread old new kind line
-Settles old new rose ReadFault = rose
-Settles old new rose Memory = Unit {0}
+-- What reading a source and carrying out its script come to: replayed where an accepted script was read, no script with
+-- the fault that the bytes have, a read fault only where the source's count of faults rose. Want of memory is free.
+abbrev pub Settles : Order → ℕ → Option (List ℕ) → Option (List ℕ) → Type 0 → Settled → Type 0
+Settles order steps old new rose (Replayed script replayed) =
+    IsRead old new script × IsFrontOf order steps script replayed.finished replayed.outcome.front
+Settles order steps old new rose (Generated text) = ⊥
+Settles order steps old new rose (Counted pieces) = ⊥
+Settles order steps old new rose Usage = ⊥
+Settles order steps old new rose (NoScript kind line) = IsUnread old new kind line
+Settles order steps old new rose ReadFault = rose
+Settles order steps old new rose Memory = Unit {0}
 
 -- the outcome of a run has the replies and the cycles of its front, a list of replies for each program, and the front follows the programs
 abbrev pub IsTellable : Settled → Type 0
-IsTellable (Done script outcome) = outcomes.IsWhole outcome × outcomes.AreCyclesOfFront outcome × (length (outcomes.reply_lists outcome) ≡ length script.programs)
-    × FollowsPrograms (map (λ p. p.calls) script.programs) outcome.front.history
+IsTellable (Replayed script replayed) = outcomes.IsWhole replayed.outcome × outcomes.AreCyclesOfFront replayed.outcome
+    × (length (outcomes.reply_lists replayed.outcome) ≡ length script.programs)
+    × FollowsPrograms (map (λ p. p.calls) script.programs) replayed.outcome.front.history
 IsTellable (Generated text) = Unit {0}
 IsTellable (Counted pieces) = Unit {0}
 IsTellable Usage = Unit {0}
@@ -129,7 +156,7 @@ pub record IsGenerated (seed size : ℕ) (text : List ℕ) : Type 0 where
 
 -- what generating a workload comes to; want of memory is free
 abbrev pub Generates : ℕ → ℕ → Settled → Type 0
-Generates seed size (Done script outcome) = ⊥
+Generates seed size (Replayed script replayed) = ⊥
 Generates seed size (Generated text) = IsGenerated seed size text.items
 Generates seed size (Counted pieces) = ⊥
 Generates seed size Usage = ⊥
@@ -139,7 +166,7 @@ Generates seed size Memory = Unit {0}
 
 -- what counting the pieces of a ring of workers comes to; want of memory is free
 abbrev pub Counts : ℕ → Settled → Type 0
-Counts workers (Done script outcome) = ⊥
+Counts workers (Replayed script replayed) = ⊥
 Counts workers (Generated text) = ⊥
 Counts workers (Counted pieces) = pieces ≡ 16 * workers
 Counts workers Usage = ⊥
@@ -149,7 +176,7 @@ Counts workers Memory = Unit {0}
 
 -- what a command comes to
 abbrev pub Does : CommandLine → Option (List ℕ) → Option (List ℕ) → Type 0 → Settled → Type 0
-Does (Replay order steps) old new rose settled = Settles old new rose settled
+Does (Replay order steps) old new rose settled = Settles order steps old new rose settled
 Does (Gen seed size) old new rose settled = Generates seed size settled
 Does (Count workers) old new rose settled = Counts workers settled
 
@@ -158,11 +185,12 @@ abbrev pub Commands : List (List ℕ) → Option (List ℕ) → Option (List ℕ
 Commands words old new rose settled = ((line : CommandLine) × Says words line × Does line old new rose settled)
     ⊎ ((SayNothing words × (settled ≡ Usage)) ⊎ (settled ≡ Memory))
 
--- A script was read and carried out: its front answers it to the end, and the output of the front was written.
-pub record IsDone (old new taken_old taken_new : Option (List ℕ)) (front : Seen) : Type 0 where
+-- A script was read and replayed, to its end or not, and the output of this front was written.
+pub record HasOutput (finished : Bool) (order : Order) (steps : ℕ) (old new taken_old taken_new : Option (List ℕ)) (front : Seen) : Type 0 where
   pub script : ScriptView
-  pub answered : IsAnswered old new script front
-  pub written : Appends taken_old taken_new (output_text (length script.programs) front true)
+  pub read : IsRead old new script
+  pub replayed : IsFrontOf order steps script finished front
+  pub written : Appends taken_old taken_new (output_text (length script.programs) front finished)
 
 -- The workload was written, and no script was run.
 pub record IsPrinted (seed size : ℕ) (taken_old taken_new : Option (List ℕ)) (front : Seen) : Type 0 where
@@ -178,9 +206,17 @@ pub record IsHandled (workers : ℕ) (taken_old taken_new : Option (List ℕ)) (
 
 -- a command was done
 abbrev pub IsDoneBy : CommandLine → Option (List ℕ) → Option (List ℕ) → Option (List ℕ) → Option (List ℕ) → Seen → Type 0
-IsDoneBy (Replay order steps) old new taken_old taken_new front = IsDone old new taken_old taken_new front
+IsDoneBy (Replay order steps) old new taken_old taken_new front =
+    HasOutput true order steps old new taken_old taken_new front
 IsDoneBy (Gen seed size) old new taken_old taken_new front = IsPrinted seed size taken_old taken_new front
 IsDoneBy (Count workers) old new taken_old taken_new front = IsHandled workers taken_old taken_new front
+
+-- a command was left unfinished
+abbrev pub IsLeftBy : CommandLine → Option (List ℕ) → Option (List ℕ) → Option (List ℕ) → Option (List ℕ) → Seen → Type 0
+IsLeftBy (Replay order steps) old new taken_old taken_new front =
+    HasOutput false order steps old new taken_old taken_new front
+IsLeftBy (Gen seed size) old new taken_old taken_new front = ⊥
+IsLeftBy (Count workers) old new taken_old taken_new front = ⊥
 
 -- Too many bytes were read, or those of no accepted script, and the line of their fault was written.
 pub record IsToldUnread (old new taken_old taken_new : Option (List ℕ)) : Type 0 where
@@ -188,3 +224,38 @@ pub record IsToldUnread (old new taken_old taken_new : Option (List ℕ)) : Type
   pub line : ℕ
   pub unread : IsUnread old new kind line
   pub written : Appends taken_old taken_new (fault_text kind line)
+
+-- How a replay ends where no stream fails: with its output, whole or unfinished, with the line of a fault, or with that of
+-- want of memory.
+abbrev pub EndsReplay : Order → ℕ → Option (List ℕ) → Option (List ℕ) → Option (List ℕ) → Option (List ℕ) → Ended → Type 0
+EndsReplay order steps old new taken_old taken_new ended =
+    ((ended.status ≡ 0) × HasOutput true order steps old new taken_old taken_new ended.front)
+    ⊎ (((ended.status ≡ 6) × HasOutput false order steps old new taken_old taken_new ended.front)
+    ⊎ (((ended.status ≡ 2) × IsToldUnread old new taken_old taken_new)
+    ⊎ ((ended.status ≡ 5) × Appends taken_old taken_new (codes "memory\n"))))
+
+-- how the generation of a workload ends where no stream fails
+abbrev pub EndsGen : ℕ → ℕ → Option (List ℕ) → Option (List ℕ) → Ended → Type 0
+EndsGen seed size taken_old taken_new ended =
+    ((ended.status ≡ 0) × IsPrinted seed size taken_old taken_new ended.front)
+    ⊎ ((ended.status ≡ 5) × Appends taken_old taken_new (codes "memory\n"))
+
+-- how a count ends where the sink does not fail
+abbrev pub EndsCount : ℕ → Option (List ℕ) → Option (List ℕ) → Ended → Type 0
+EndsCount workers taken_old taken_new ended =
+    ((ended.status ≡ 0) × IsHandled workers taken_old taken_new ended.front)
+    ⊎ ((ended.status ≡ 5) × Appends taken_old taken_new (codes "memory\n"))
+
+-- how a command ends where no stream fails
+abbrev pub EndsBy : CommandLine → Option (List ℕ) → Option (List ℕ) → Option (List ℕ) → Option (List ℕ) → Ended → Type 0
+EndsBy (Replay order steps) old new taken_old taken_new ended = EndsReplay order steps old new taken_old taken_new ended
+EndsBy (Gen seed size) old new taken_old taken_new ended = EndsGen seed size taken_old taken_new ended
+EndsBy (Count workers) old new taken_old taken_new ended = EndsCount workers taken_old taken_new ended
+
+-- How a call of the program ends where no stream fails: as its command does, with the line of usage where the words say none,
+-- or with that of want of memory.
+abbrev pub EndsWell : List (List ℕ) → Option (List ℕ) → Option (List ℕ) → Option (List ℕ) → Option (List ℕ) → Ended → Type 0
+EndsWell words old new taken_old taken_new ended =
+    ((line : CommandLine) × Says words line × EndsBy line old new taken_old taken_new ended)
+    ⊎ ((SayNothing words × (ended.status ≡ 1) × Appends taken_old taken_new (codes "usage\n"))
+    ⊎ ((ended.status ≡ 5) × Appends taken_old taken_new (codes "memory\n")))

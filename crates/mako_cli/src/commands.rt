@@ -1,24 +1,24 @@
 //! The top call, and the call of the command that it knows.
 
-ghost use Rattle.std.specs.Prelude.{◌≡◌, ◌≤◌, ◌⊎◌, [], true, length, map, string_bytes};
+ghost use Rattle.std.specs.Prelude.{◌≡◌, ◌≤◌, ◌⊎◌, [], true, false, length, map, string_bytes};
 ghost use Rattle.mako_io.specs.Causes.{Rose};
 ghost use Rattle.mako_model.specs.Fronts.{FollowsPrograms};
 ghost use Rattle.mako_model.specs.Outcomes as outcomes;
 ghost use Rattle.mako_script.specs.Outputs.{output_text};
 ghost use Rattle.mako_cli.specs.CommandLines.{SayNothing, Says};
-ghost use Rattle.mako_cli.specs.Settling.{Commands, Generates, IsDone, IsDoneBy, IsPrinted, IsTellable, IsTold, IsToldUnread, IsWritten, Settles};
+ghost use Rattle.mako_cli.specs.Settling.{Commands, EndsGen, EndsReplay, EndsWell, Generates, HasOutput, IsDoneBy, IsLeftBy};
+ghost use Rattle.mako_cli.specs.Settling.{IsPrinted, IsTellable, IsTold, IsToldUnread, IsWritten, Settles, replay_status};
 ghost use Rattle.mako_cli.specs.declared.command_line.CommandLine.{CommandLine};
 ghost use Rattle.mako_cli.specs.declared.settled.Settled.{Settled};
 
 use crate::command_line::{CommandLine, command_line};
 use crate::count::{count_top, handled_line};
 use crate::ended::Ended;
-use crate::run::run;
 use crate::settled::Settled;
 use mako_gen::make;
 use mako_io::{ReadRefusal, Sink, Source, read_all, write_all};
-use mako_model::{Front, Outcome};
-use mako_replay::Order;
+use mako_model::Front;
+use mako_replay::{Order, Replayed, replay};
 use mako_script::{Kind, Script, ScriptFault, fault_line, parse, print, write_output, write_text};
 use std::alloc::Global;
 use std::sync::Wait;
@@ -27,9 +27,11 @@ use std::thread::Threads;
 /// The greatest number of bytes of a script.
 const MAX_BYTES: usize = 16_777_216;
 
-/// Reads a script and carries it out.
-fn settle<S: Source>(alloc: Global, source: &mut S) -> Settled
-    ensures settled { Settles (S.left source.old) (S.left source.new) (Rose (S.faults source.old) (S.faults source.new)) result }
+/// Reads a script and carries it out in this order, with at most so many steps.
+fn settle<S: Source>(alloc: Global, order: Order, steps: u64, source: &mut S) -> Settled
+    requires { steps ≤ 1000000000 }
+    ensures settled { Settles order steps (S.left source.old) (S.left source.new)
+        (Rose (S.faults source.old) (S.faults source.new)) result }
     ensures tellable { IsTellable result }
     ensures counted { S.faults source.old ≤ S.faults source.new }
 {
@@ -49,10 +51,10 @@ fn settle<S: Source>(alloc: Global, source: &mut S) -> Settled
         Err(ScriptFault::Bad { kind, line }) => return Settled::NoScript { kind, line },
         Err(ScriptFault::Memory) => return Settled::Memory,
     };
-    let Ok(outcome) = run(alloc, &script) else {
+    let Ok(replayed) = replay(alloc, &script, order, steps) else {
         return Settled::Memory;
     };
-    Settled::Done(script, outcome)
+    Settled::Replayed(script, replayed)
 }
 
 /// Writes the one line of a command that carried out no script.
@@ -78,7 +80,7 @@ pub(crate) fn tell<K: Sink>(alloc: Global, sink: &mut K, settled: Settled) -> En
     ensures counted { K.faults sink.old ≤ K.faults sink.new }
 {
     match settled {
-        Settled::Done(script, outcome) => tell_run(sink, &script, outcome),
+        Settled::Replayed(script, replayed) => tell_run(sink, &script, replayed),
         Settled::Generated(text) => tell_text(alloc, sink, &text),
         Settled::Counted(pieces) => tell_line(alloc, sink, &handled_line(pieces), Settled::DONE),
         Settled::Usage => tell_line(alloc, sink, b"usage\n", Settled::USAGE),
@@ -106,18 +108,29 @@ fn tell_text<K: Sink>(alloc: Global, sink: &mut K, text: &[u8]) -> Ended
     }
 }
 
-/// Writes the output of a run that went to its end.
-fn tell_run<K: Sink>(sink: &mut K, script: &Script, outcome: Outcome) -> Ended
-    requires whole { outcomes.IsWhole outcome }
-    requires freed { outcomes.AreCyclesOfFront outcome }
-    requires lists { length (outcomes.reply_lists outcome) ≡ length script.now.programs }
-    requires follows { FollowsPrograms (map (λ p. p.calls) script.now.programs) outcome.front.history }
-    ensures front { result.front ≡ outcome.front }
-    ensures told { IsWritten (output_text (length script.now.programs) outcome.front true) 0 (K.taken sink.old) (K.taken sink.new) (Rose (K.faults sink.old) (K.faults sink.new)) result.status }
+/// Writes the output of a replay.
+fn tell_run<K: Sink>(sink: &mut K, script: &Script, replayed: Replayed) -> Ended
+    requires whole { outcomes.IsWhole replayed.outcome }
+    requires freed { outcomes.AreCyclesOfFront replayed.outcome }
+    requires lists { length (outcomes.reply_lists replayed.outcome) ≡ length script.now.programs }
+    requires follows { FollowsPrograms (map (λ p. p.calls) script.now.programs) replayed.outcome.front.history }
+    ensures front { result.front ≡ replayed.outcome.front }
+    ensures told { IsWritten (output_text (length script.now.programs) replayed.outcome.front replayed.finished)
+        (replay_status replayed.finished) (K.taken sink.old) (K.taken sink.new) (Rose (K.faults sink.old) (K.faults sink.new)) result.status }
     ensures counted { K.faults sink.old ≤ K.faults sink.new }
 {
-    let status = match write_output(sink, script, &outcome, true) {
-        Ok(()) => Settled::DONE,
+    let Replayed {
+        outcome,
+        finished,
+        ..
+    } = replayed;
+    let whole = if finished {
+        Settled::DONE
+    } else {
+        Settled::UNFINISHED
+    };
+    let status = match write_output(sink, script, &outcome, finished) {
+        Ok(()) => whole,
         Err(_) => Settled::WRITE_FAULT,
     };
     Ended {
@@ -126,8 +139,9 @@ fn tell_run<K: Sink>(sink: &mut K, script: &Script, outcome: Outcome) -> Ended
     }
 }
 
-/// Reads a script from the source, carries it out in this order with at most so many steps, and writes its output to the
-/// sink. At present a step is one whole command, and each script is carried out to its end.
+/// Reads a script from the source, carries it out in this order with at most so many atomic steps, and writes its
+/// output to the sink. The status is 0 where every mutator came to its end, and 6 where the steps were spent before. Want
+/// of memory, with status 5, comes only before the first step.
 pub fn replay_top<S: Source, K: Sink>(
     alloc: Global,
     order: Order,
@@ -137,16 +151,24 @@ pub fn replay_top<S: Source, K: Sink>(
 ) -> Ended
     requires { steps ≤ 1000000000 }
     // Each status has its cause.
-    ensures done { result.status ≡ 0 → IsDone (S.left source.old) (S.left source.new) (K.taken sink.old) (K.taken sink.new) result.front }
+    ensures done { result.status ≡ 0 →
+        HasOutput true order steps (S.left source.old) (S.left source.new) (K.taken sink.old) (K.taken sink.new) result.front }
+    ensures unfinished { result.status ≡ 6 →
+        HasOutput false order steps (S.left source.old) (S.left source.new) (K.taken sink.old) (K.taken sink.new) result.front }
     ensures refused { result.status ≡ 2 → IsToldUnread (S.left source.old) (S.left source.new) (K.taken sink.old) (K.taken sink.new) }
     ensures read { result.status ≡ 3 → Rose (S.faults source.old) (S.faults source.new) }
     ensures write { result.status ≡ 4 → Rose (K.faults sink.old) (K.faults sink.new) }
 
     // And at the status of a write fault too the front is the one that another status would have.
-    ensures settled { (settled : Settled) × Settles (S.left source.old) (S.left source.new) (Rose (S.faults source.old) (S.faults source.new)) settled
+    ensures settled { (settled : Settled)
+        × Settles order steps (S.left source.old) (S.left source.new) (Rose (S.faults source.old) (S.faults source.new)) settled
         × IsTold settled (K.taken sink.old) (K.taken sink.new) (Rose (K.faults sink.old) (K.faults sink.new)) result }
+
+    // Where no stream fails, the status is 0, 6, 2 or 5, and its text was written.
+    ensures complete { ¬ Rose (S.faults source.old) (S.faults source.new) → ¬ Rose (K.faults sink.old) (K.faults sink.new) →
+        EndsReplay order steps (S.left source.old) (S.left source.new) (K.taken sink.old) (K.taken sink.new) result }
 {
-    let settled = settle(alloc, source);
+    let settled = settle(alloc, order, steps, source);
     tell(alloc, sink, settled)
 }
 
@@ -176,6 +198,9 @@ pub fn gen_top<K: Sink>(alloc: Global, seed: u64, size: u32, sink: &mut K) -> En
     // And at the status of a write fault the text is a prefix of that of another status.
     ensures settled { (settled : Settled) × Generates seed size settled
         × IsTold settled (K.taken sink.old) (K.taken sink.new) (Rose (K.faults sink.old) (K.faults sink.new)) result }
+
+    // Where the sink does not fail, the status is 0 or 5, and its text was written.
+    ensures complete { ¬ Rose (K.faults sink.old) (K.faults sink.new) → EndsGen seed size (K.taken sink.old) (K.taken sink.new) result }
 {
     let settled = generate(alloc, seed, size);
     tell(alloc, sink, settled)
@@ -197,6 +222,8 @@ pub fn top<R: Threads + Wait + Sync, S: Source, K: Sink>(
     // Each status has its cause.
     ensures done { result.status ≡ 0 → (line : CommandLine) × Says (map string_bytes words.now) line
         × IsDoneBy line (S.left source.old) (S.left source.new) (K.taken sink.old) (K.taken sink.new) result.front }
+    ensures unfinished { result.status ≡ 6 → (line : CommandLine) × Says (map string_bytes words.now) line
+        × IsLeftBy line (S.left source.old) (S.left source.new) (K.taken sink.old) (K.taken sink.new) result.front }
     ensures refused { result.status ≡ 2 → IsToldUnread (S.left source.old) (S.left source.new) (K.taken sink.old) (K.taken sink.new) }
     ensures read { result.status ≡ 3 → Rose (S.faults source.old) (S.faults source.new) }
     ensures write { result.status ≡ 4 → Rose (K.faults sink.old) (K.faults sink.new) }
@@ -204,6 +231,10 @@ pub fn top<R: Threads + Wait + Sync, S: Source, K: Sink>(
     // And at the status of a write fault too the front is the one that another status would have.
     ensures settled { (settled : Settled) × Commands (map string_bytes words.now) (S.left source.old) (S.left source.new) (Rose (S.faults source.old) (S.faults source.new)) settled
         × IsTold settled (K.taken sink.old) (K.taken sink.new) (Rose (K.faults sink.old) (K.faults sink.new)) result }
+
+    // Where no stream fails, the status is 0, 1, 2, 5 or 6, and its text was written.
+    ensures complete { ¬ Rose (S.faults source.old) (S.faults source.new) → ¬ Rose (K.faults sink.old) (K.faults sink.new) →
+        EndsWell (map string_bytes words.now) (S.left source.old) (S.left source.new) (K.taken sink.old) (K.taken sink.new) result }
 {
     let Ok(line) = command_line(alloc, words) else {
         return tell(alloc, sink, Settled::Memory);

@@ -3,7 +3,7 @@
 ghost use Rattle.std.specs.Prelude.{◌≡◌, ◌≤◌, ◌+◌, ◌++◌, ◌⊎◌, length};
 ghost use Rattle.mako_io.specs.Causes.{Rose};
 ghost use Rattle.mako_cli.specs.Counts.{handled_text};
-ghost use Rattle.mako_cli.specs.Settling.{Counts, IsHandled, IsTellable, IsTold};
+ghost use Rattle.mako_cli.specs.Settling.{Counts, EndsCount, IsHandled, IsTellable, IsTold};
 ghost use Rattle.mako_cli.specs.declared.settled.Settled.{Settled};
 
 use crate::commands::tell;
@@ -73,6 +73,9 @@ pub fn count_top<R: Threads + Wait + Sync, K: Sink>(
     // And at the status of a write fault the text is a prefix of that of another status.
     ensures settled { (settled : Settled) × Counts workers settled
         × IsTold settled (K.taken sink.old) (K.taken sink.new) (Rose (K.faults sink.old) (K.faults sink.new)) result }
+
+    // Where the sink does not fail, the status is 0 or 5, and its text was written.
+    ensures complete { ¬ Rose (K.faults sink.old) (K.faults sink.new) → EndsCount workers (K.taken sink.old) (K.taken sink.new) result }
 {
     let settled = count(rt, alloc, workers);
     tell(alloc, sink, settled)

@@ -5,7 +5,6 @@ mod command_line;
 mod commands;
 mod count;
 mod ended;
-mod run;
 mod settled;
 
 pub use command_line::CommandLine;

@@ -1,13 +1,13 @@
 //! What a command comes to, before its text is written.
 
-use mako_model::Outcome;
+use mako_replay::Replayed;
 use mako_script::{Kind, Script};
 
 /// What a command comes to, before its text is written.
 #[derive(Drop)]
 pub enum Settled {
-    /// The script was carried out to its end.
-    Done(Script, Outcome),
+    /// The script was replayed, to its end or as far as its steps went.
+    Replayed(Script, Replayed),
     /// A workload was generated, with this text.
     Generated(Vec<u8>),
     /// So many pieces of a ring of workers were handled.
@@ -34,4 +34,6 @@ impl Settled {
     pub const WRITE_FAULT: u8 = 4;
 
     pub const MEMORY: u8 = 5;
+
+    pub const UNFINISHED: u8 = 6;
 }

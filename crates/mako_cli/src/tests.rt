@@ -25,24 +25,46 @@ fn words(alloc: Global, texts: &[&str]) -> Result<Vec<String>, AllocError> {
 }
 
 #[test]
-fn carries_out_scripts(rt: HostRuntime) -> Result<(), Fail> {
+fn replays_scripts(rt: HostRuntime) -> Result<(), Fail> {
     let alloc = rt.alloc();
-    let cases: [(&[u8], u8, &[u8]); 4] = [
+    let cases: [(&str, &[u8], u8, &[u8]); 9] = [
+        ("36", READS_BACK, 6, b"mutator 0\nunfinished\n"),
+        ("37", READS_BACK, 6, b"mutator 0\nnew 1#0\nunfinished\n"),
         (
+            "123",
+            READS_BACK,
+            6,
+            b"mutator 0\nnew 1#0\nnum 7\nput\nget 7\nunfinished\n",
+        ),
+        (
+            "124",
             READS_BACK,
             0,
             b"mutator 0\nnew 1#0\nnum 7\nput\nget 7\nend\n",
         ),
-        (b"mutator\nend\n", 0, b"mutator 0\nend\n"),
+        ("1000", b"mutator\nend\n", 0, b"mutator 0\nend\n"),
         (
+            "1000",
             b"mutator\nnew a 1\nget b a 0\nget c b 0\nend\n",
             0,
             b"mutator 0\nnew 1#0\nget null\nget noref\nend\n",
         ),
-        (b"mutator\n", 2, b"script unclosed 13\n"),
+        (
+            "1000",
+            b"mutator\nnum n 7\nput board 0 n\nend\nmutator\nget b board 0\nend\n",
+            0,
+            b"mutator 0\nnum 7\nput\nmutator 1\nget null\nend\n",
+        ),
+        (
+            "1000",
+            b"mutator\nnum n 7\nput board 0 n\nend\nmutator\nshow board\nshow board\nshow board\nget b board 0\nend\n",
+            0,
+            b"mutator 0\nnum 7\nput\nmutator 1\nshow 0#0\nshow 0#0\nshow 0#0\nget 7\nend\n",
+        ),
+        ("1000", b"mutator\n", 2, b"script unclosed 13\n"),
     ];
-    let command = words(alloc, &["replay", "turns", "1000"])?;
-    for (section, status, output) in &cases {
+    for (steps, section, status, output) in &cases {
+        let command = words(alloc, &["replay", "turns", *steps])?;
         let mut source = SoundSource::new(script(alloc, section)?);
         let mut sink = SoundSink::new(alloc, 100)?;
         let ended = top(&rt, alloc, &command, &mut source, &mut sink);
@@ -64,7 +86,7 @@ fn reports_faults_of_streams(rt: HostRuntime) -> Result<(), Fail> {
     let fails = Vec::from_slice(alloc, &[3])?;
     let mut source = SoundSource::new(script(alloc, READS_BACK)?);
     let mut sink = MemSink::new(alloc, 100, fails)?;
-    let ended = replay_top(alloc, Order::Seed(7), 0, &mut source, &mut sink);
+    let ended = replay_top(alloc, Order::Seed(7), 1000, &mut source, &mut sink);
     assert_eq!(rt; ended.status, 4);
     assert_eq!(rt; sink.bytes(), b"mutator 0\nnew 1#0\n".as_slice());
     Ok(())
@@ -84,6 +106,18 @@ fn prints_a_workload(rt: HostRuntime) -> Result<(), Fail> {
     let ended = gen_top(alloc, 1, 1, &mut sink);
     assert_eq!(rt; ended.status, 4);
     assert_eq!(rt; sink.bytes(), b"mako 1\n".as_slice());
+    Ok(())
+}
+
+#[test]
+fn counts_by_words(rt: HostRuntime) -> Result<(), Fail> {
+    let alloc = rt.alloc();
+    let command = words(alloc, &["count", "3"])?;
+    let mut source = SoundSource::new(Vec::new(alloc));
+    let mut sink = SoundSink::new(alloc, 100)?;
+    let ended = top(&rt, alloc, &command, &mut source, &mut sink);
+    assert_eq!(rt; ended.status, 0);
+    assert_eq!(rt; sink.bytes(), b"handled 48\n".as_slice());
     Ok(())
 }
 

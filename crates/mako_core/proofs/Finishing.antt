@@ -1,18 +1,17 @@
 -- What the seats have at the end of a run.
-use Rattle.std.proofs.Common.{◌≡◌, ℕ, zero, suc, ◌+◌, ◌-◌, ◌<◌, ◌≤◌, Bool, true, false, List, [], ◌∷◌, ◌++◌, length, map, take, drop, slice_get, Option, Some, None, sym, ap, subst, refl, ◌∙◌, arith, append-nil}
+use Rattle.std.proofs.Common.{◌≡◌, ℕ, zero, suc, ◌+◌, ◌-◌, ◌<◌, ◌≤◌, Bool, true, false, List, [], ◌∷◌, ◌++◌, length, take, drop, slice_get, Some, sym, ap, subst, refl, ◌∙◌, arith, append-nil}
 use Rattle.std.proofs.lemmas.List.{drop_all}
-use Rattle.std.proofs.lemmas.Option.{none-some, same_Some, slice_get_within}
+use Rattle.std.proofs.lemmas.Option.{none-some, slice_get_within}
 use Rattle.mako_shape.specs.declared.numbers.Numbers.{Numbers}
 use Rattle.mako_model.specs.Answering.{Answers, AnswersToEnd}
-use Rattle.mako_model.specs.Fronts.{Seen, calls_by, replies_to}
+use Rattle.mako_model.specs.Fronts.{calls_by, replies_to}
 use Rattle.mako_model.specs.Legal.{Facts}
 use Rattle.mako_model.specs.declared.call.Call.{Call}
 use Rattle.mako_model.specs.declared.reply.Reply.{Reply}
-use Rattle.mako_mutator.specs.Drivers.{Driving, place_at, place_by, TaskIsKnown, replied}
-use Rattle.mako_mutator.specs.declared.place.Place.TheVariants.{Before, Within, Ended as PlaceEnded}
+use Rattle.mako_mutator.specs.Drivers.{Driving, place_by, TaskIsKnown, replied}
+use Rattle.mako_mutator.specs.declared.place.Place.TheVariants.{Ended as PlaceEnded}
 use Rattle.mako_mutator.specs.declared.progress.Task.{Task}
 use Rattle.mako_mutator.specs.declared.progress.Task.TheVariants.{Attempting, Awaiting, Finishing, Ended}
-use Rattle.mako_seat.specs.Seats.{place_of}
 use Rattle.mako_seat.specs.declared.seat.Seat.{Seat}
 use Rattle.mako_seat.specs.declared.seat.Seat.TheVariants.{Mutator, Server, Collector}
 use Rattle.mako_state.specs.CoreStates.{CoreState}

@@ -1,8 +1,8 @@
 -- What a step of a core finds and leaves, over plain values.
-use Rattle.std.proofs.Common.{◌≡◌, ◌≢◌, ℕ, ◌+◌, ◌-◌, ◌<◌, ◌≤◌, Bool, true, false, List, [], ◌∷◌, ◌++◌, length, set, drop, slice_get, sum_by, Option, Some, None, sym, ap, subst, refl, ◌∙◌, arith, cond, length-set, length-append, length-drop, get_or, nat_lt, ◌==◌, slice_index}
+use Rattle.std.proofs.Common.{◌≡◌, ◌≢◌, ℕ, ◌+◌, ◌-◌, ◌<◌, ◌≤◌, Bool, true, false, List, [], ◌++◌, length, set, drop, slice_get, Option, Some, None, sym, ap, subst, refl, ◌∙◌, arith, cond, length-set, length-append, length-drop, get_or, nat_lt, ◌==◌, slice_index}
 use Rattle.std.proofs.lemmas.List.{length_push}
 use Rattle.std.proofs.lemmas.List.Sums.{sum_by-set}
-use Rattle.std.proofs.lemmas.Option.{slice_get_within, get_or_from_slice_get, same_Some}
+use Rattle.std.proofs.lemmas.Option.{slice_get_within, get_or_from_slice_get}
 use Rattle.mako_words.specs.declared.name.Name.{Name}
 use Rattle.mako_shape.specs.declared.numbers.Numbers.{Numbers}
 use Rattle.mako_step.specs.Acts.{finds, words_stepped, words_after, found}
@@ -12,7 +12,6 @@ use Rattle.mako_step.specs.declared.act.Act.{Act}
 use Rattle.mako_step.specs.declared.step.Step.{Step}
 use Rattle.mako_step.specs.declared.step.Step.TheVariants.{Do, Ended as NoStep}
 use Rattle.mako_step.specs.declared.stepping.Stepped.{Stepped}
-use Rattle.mako_step.specs.declared.stepping.Stepped.TheVariants.{Ended as StepEnded, Waiting as StepWaiting, Moved as StepMoved}
 use Rattle.mako_model.specs.Fronts.{Seen}
 use Rattle.mako_model.specs.declared.call.Call.{Call}
 use Rattle.mako_model.specs.declared.reply.Reply.{Reply}
@@ -42,14 +41,13 @@ use Rattle.mako_script.specs.ScriptFacts.{facts_of}
 use Rattle.mako_seat.specs.Seats.{next_of, Fits, fed, event_of, is_waiting}
 use Rattle.mako_seat.specs.declared.seat.Seat.{Seat}
 use Rattle.mako_seat.specs.declared.seat.Seat.TheVariants.{Mutator, Server, Collector}
-use Rattle.mako_state.specs.CoreStates.{CoreState, got_by, front_after, moved, made, stepped_by, step_of}
-use Rattle.mako_state.specs.Invariants.{WholeInvariant, left_facet, SeatStands}
-use Rattle.mako_state.specs.Rests.{SeatRests, CollectorRests}
+use Rattle.mako_state.specs.CoreStates.{CoreState, got_by, front_after, made, stepped_by, step_of}
+use Rattle.mako_state.specs.Invariants.{WholeInvariant}
+use Rattle.mako_state.specs.Rests.{CollectorRests}
 use Rattle.mako_state.proofs.Seating.{set_again}
 use Rattle.mako_core.specs.Histories.{history_after}
-use Rattle.mako_core.specs.Turns.{stepped_on, turn_by, turn_at}
-use Rattle.mako_core.specs.Cores.{CoreView, core_view, cycles_kept, cycles_in, unanswered, HasRoom, CoreHolds}
-use Rattle.mako_core.specs.declared.turn.Turn.{Turn}
+use Rattle.mako_core.specs.Turns.{stepped_on, turn_by, turn_at, told_by, told_at}
+use Rattle.mako_core.specs.Cores.{core_view, cycles_kept, cycles_in, unanswered, HasRoom, CoreHolds}
 use Rattle.mako_state.proofs.Asks.{step_asks}
 use Rattle.mako_state.proofs.Steps.{step_kept}
 
@@ -141,11 +139,9 @@ cycles_here seats i v x here last =
 
 -- ---- a step of one seat
 
--- what the history had after a step that came to this
+-- the history after a step that came to this
 abbrev pub points_by : Stepped Event → List Point → List Point
-points_by StepEnded points = points
-points_by (StepWaiting word) points = points
-points_by (StepMoved event) points = history_after points event
+points_by came points = history_after points (told_by came)
 
 module _ (s : ScriptView) (st : CoreState) (whole : WholeInvariant s.numbers (facts_of s) st) (own : st.front.finished ≡ cycles_in st.seats) (i : ℕ) where
   abbrev fronts : Seat → ℕ → Seen
@@ -315,6 +311,9 @@ module _ {A : Type 0} (shape : Numbers) (s : ScriptView) (ws : List ℕ) (seats 
 
     pub turn_is : turn_by r ≡ turn_at st (slice_get seats i)
     turn_is = ap turn_by result_is ∙ sym (ap (turn_at st) here)
+
+    pub history_is_told : after ≡ history_after points (told_at st (slice_get seats i))
+    history_is_told = points_are ∙ ap (λ q. points_by q points) result_is ∙ sym (ap (λ s. history_after points (told_at st s)) here)
 
     pub has_place : length after ≤ room
     has_place = let fits = holds_after.room_is.fits in omega (arith, fits)

@@ -1,9 +1,8 @@
 -- The words and the seats of the start, as they are put together one after another.
-use Rattle.std.proofs.Common.{◌≡◌, ℕ, zero, suc, ◌+◌, ◌-◌, ◌*◌, ◌<◌, ◌≤◌, List, [], ◌∷◌, ◌++◌, length, set, take, drop, replicate, slice_get, sum_by, Some, sym, ap, subst, refl, ◌∙◌, arith, add-one, append_assoc}
+use Rattle.std.proofs.Common.{◌≡◌, ℕ, zero, suc, ◌+◌, ◌-◌, ◌*◌, ◌<◌, ◌≤◌, List, [], ◌∷◌, ◌++◌, length, set, take, replicate, slice_get, sum_by, Some, sym, ap, subst, refl, ◌∙◌, arith, append_assoc, length-set}
 use Rattle.std.proofs.lemmas.List.{length_push}
 use Rattle.std.proofs.lemmas.List.Sums.{sum_by-cons, sum_by-append}
 use Rattle.std.proofs.lemmas.Option.{none-some, same_Some}
-use Rattle.mako_words.specs.declared.name.Name.{Name}
 use Rattle.mako_words.specs.Names.{name_word}
 use Rattle.mako_shape.specs.Belongings.{opening_home}
 use Rattle.mako_shape.specs.Places.{root, home, index, total}
@@ -19,9 +18,9 @@ use Rattle.mako_state.specs.Openings.{Placed, board_roots, first_homes, board_pl
 use Rattle.mako_script.specs.ScriptFacts.{facts_of}
 use Rattle.mako_model.specs.declared.point.Point.{Point}
 use Rattle.mako_state.specs.CoreStates.{CoreState}
-use Rattle.mako_state.specs.Forms.{NeedsNoCycle}
+use Rattle.mako_script.specs.Forms.{NeedsNoCycle}
 use Rattle.mako_state.specs.Invariants.{WholeInvariant}
-use Rattle.mako_core.specs.Cores.{CoreView, core_view, cycles_kept, cycles_in, unanswered, HasRoom}
+use Rattle.mako_core.specs.Cores.{core_view, cycles_kept, cycles_in, unanswered, HasRoom}
 use Rattle.mako_state.proofs.Openings.{opening_holds}
 
 -- ---- words

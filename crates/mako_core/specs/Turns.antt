@@ -5,6 +5,7 @@ use Rattle.mako_step.specs.Stepping.{stepped}
 use Rattle.mako_step.specs.declared.stepping.Stepped.{Stepped}
 use Rattle.mako_step.specs.declared.stepping.Stepped.TheVariants.{Ended as StepEnded, Waiting as StepWaiting, Moved as StepMoved}
 use Rattle.mako_model.specs.declared.event.Event.{Event}
+use Rattle.mako_model.specs.declared.event.Event.TheVariants.{Nothing}
 use Rattle.mako_seat.specs.Seats.{next_of, event_of, is_waiting}
 use Rattle.mako_seat.specs.declared.seat.Seat.{Seat}
 use Rattle.mako_state.specs.CoreStates.{CoreState}
@@ -25,3 +26,13 @@ turn_by (StepMoved event) = Moved
 abbrev pub turn_at : CoreState → Option Seat → Turn
 turn_at st (Some v) = turn_by (stepped_on v (finds (next_of v) st.words))
 turn_at st None = Ended
+
+abbrev pub told_by : Stepped Event → Event
+told_by StepEnded = Nothing
+told_by (StepWaiting word) = Nothing
+told_by (StepMoved event) = event
+
+-- what the step tells: the event of a step that moves, and else nothing
+abbrev pub told_at : CoreState → Option Seat → Event
+told_at st (Some v) = told_by (stepped_on v (finds (next_of v) st.words))
+told_at st None = Nothing

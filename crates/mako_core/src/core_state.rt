@@ -63,9 +63,9 @@ impl<W: Words> Core<W> {
     ghost use Rattle.mako_state.specs.CoreStates.{step_of};
     ghost use Rattle.mako_state.specs.Invariants.{WholeInvariant};
     ghost use Rattle.mako_core.specs.Cores.{CoreView};
-    ghost use Rattle.mako_core.specs.Turns.{turn_at};
+    ghost use Rattle.mako_core.specs.Turns.{turn_at, told_at};
     ghost use Rattle.mako_shape.specs.Places.{total};
-    ghost use Rattle.mako_state.specs.Forms.{NeedsNoCycle};
+    ghost use Rattle.mako_script.specs.Forms.{NeedsNoCycle};
     ghost use Rattle.mako_state.specs.Openings.{opening_core};
 
     /// The core of a script before the first step. It takes all memory that it ever takes.
@@ -149,6 +149,8 @@ impl<W: Words> Core<W> {
         ensures state { self.new.state ≡ step_of self.old.state seat }
         ensures seats { length self.new.state.seats ≡ length self.old.state.seats }
         ensures turn { result ≡ turn_at self.old.state (slice_get self.old.state.seats seat) }
+        ensures history { let told = told_at self.old.state (slice_get self.old.state.seats seat) in
+            self.new.state.front.history ≡ history_after self.old.state.front.history told }
         ensures holds { WholeInvariant self.new.script.numbers (facts_of self.new.script) self.new.state }
     {
         let machine = &mut self.seats[seat as usize];

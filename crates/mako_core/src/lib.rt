@@ -9,3 +9,6 @@ mod turn;
 
 pub use core_state::Core;
 pub use turn::Turn;
+
+#[cfg(test)]
+mod tests;

@@ -1,5 +1,5 @@
 -- The worked script is one, and the text with two spaces is that of none.
-use Rattle.std.proofs.Common.{◌≡◌, ℕ, zero, suc, ◌<◌, ◌≤◌, List, ◌+◌, length, refl, ap, sym, ◌∙◌, arith, true, None}
+use Rattle.std.proofs.Common.{◌≡◌, inr, [], ◌∷◌, ℕ, zero, suc, ◌<◌, ◌≤◌, List, ◌+◌, length, refl, ap, sym, ◌∙◌, arith, true, None}
 use Rattle.std.proofs.lemmas.Option.{none-some}
 use Rattle.std.specs.Prelude.{slice_index, ◌≢◌}
 use Rattle.std.specs.Fmt.{digits}
@@ -12,6 +12,7 @@ use Rattle.mako_script.specs.Reading.{script_at, lines_of, words_of, each_at, se
 use Rattle.mako_script.specs.Printed.{values_of}
 use Rattle.mako_script.proofs.Again.{script_again}
 use Rattle.mako_script.specs.Forms.{IsAccepted}
+use Rattle.mako_script.proofs.Accepted.{no_collect_in}
 use Rattle.mako_script.specs.Texts.{script_text, IsScript}
 use Rattle.mako_script.specs.Examples.{storing, storing_text, storing_names, storing_program, spaced_text}
 
@@ -75,7 +76,7 @@ proper = record {
 pub accepted : IsAccepted storing
 accepted = record {
   proper = proper;
-  form = record { servers = refl; tablets = refl; single = refl; short = omega arith; plain = refl; entries = omega arith; words = omega arith };
+  form = inr (record { no_collect = no_collect_in (storing_program ∷ []) refl; entries = omega arith; words = omega arith });
 }
 
 pub is_storing : IsScript storing_text storing

@@ -6,7 +6,8 @@ use Rattle.mako_script.specs.declared.fault.Kind.TheVariants.{Form}
 use Rattle.mako_script.specs.declared.fault.ScriptFault.{ScriptFault}
 use Rattle.mako_script.specs.declared.fault.ScriptFault.TheVariants.{Bad, Memory}
 use Rattle.mako_script.specs.Answers.{IsRefused, IsScriptOrMemory}
-use Rattle.mako_script.specs.Forms.{IsAccepted, IsFirstForm}
+use Rattle.mako_script.specs.Forms.{IsAccepted, NeedsNoCycle}
+use Rattle.mako_script.specs.ScriptFacts.{facts_of}
 use Rattle.mako_script.specs.Reading.{Reads, lines_of}
 use Rattle.mako_script.specs.Scripts.{ScriptView}
 use Rattle.mako_script.specs.Texts.{IsScript}
@@ -14,10 +15,10 @@ use Rattle.mako_script.proofs.Again.{one_script}
 
 -- the answer is this script in the accepted form, or it has another form
 abbrev pub Accepts : ScriptView → Result ScriptView ScriptFault → Type 0
-Accepts s (Ok t) = (t ≡ s) × IsFirstForm t
-Accepts s (Err e) = (e ≡ Bad Form 0) × ¬ IsFirstForm s
+Accepts s (Ok t) = (t ≡ s) × NeedsNoCycle (facts_of t)
+Accepts s (Err e) = (e ≡ Bad Form 0) × ¬ NeedsNoCycle (facts_of s)
 
-pub accepts : (s : ScriptView) (r : Result ScriptView ScriptFault) → IfOk r (λ t. (t ≡ s) × IsFirstForm t) → IfErr r (λ e. (e ≡ Bad Form 0) × ¬ IsFirstForm s) → Accepts s r
+pub accepts : (s : ScriptView) (r : Result ScriptView ScriptFault) → IfOk r (λ t. (t ≡ s) × NeedsNoCycle (facts_of t)) → IfErr r (λ e. (e ≡ Bad Form 0) × ¬ NeedsNoCycle (facts_of s)) → Accepts s r
 accepts s (Ok t) a b = a
 accepts s (Err e) a b = b
 
@@ -29,10 +30,10 @@ pub only_is : (text : List ℕ) (s : ScriptView) (r : Result ScriptView ScriptFa
 only_is text s (Ok u) reads a t accepted is = a.0 ∙ one_script text t s accepted.proper is.spelled reads
 only_is text s (Err Memory) reads a t accepted is = tt
 only_is text s (Err (Bad kind line)) reads a t accepted is =
-    a.1 (subst IsFirstForm (sym (one_script text t s accepted.proper is.spelled reads)) accepted.form)
+    a.1 (subst (λ (u : ScriptView). NeedsNoCycle (facts_of u)) (sym (one_script text t s accepted.proper is.spelled reads)) accepted.form)
 
 pub refused_is : (text : List ℕ) (s : ScriptView) (r : Result ScriptView ScriptFault) → IsScript text s → Accepts s r → (kind : Kind) (line : ℕ) → r ≡ Err (Bad kind line) → IsRefused text kind line
 refused_is text s (Ok u) is a kind line e = absurd cc
 refused_is text s (Err f) is a kind line e =
     let form : f ≡ Bad Form 0 = a.0 in
-    inr (cc, cc, (s, is, a.1))
+    inr (cc, cc, (s, is, λ accepted. a.1 accepted.form))

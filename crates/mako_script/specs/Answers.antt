@@ -4,7 +4,7 @@ use Rattle.mako_script.specs.declared.fault.Kind.{Kind}
 use Rattle.mako_script.specs.declared.fault.Kind.TheVariants.{Form, Words}
 use Rattle.mako_script.specs.declared.fault.ScriptFault.{ScriptFault}
 use Rattle.mako_script.specs.declared.fault.ScriptFault.TheVariants.{Bad, Memory}
-use Rattle.mako_script.specs.Forms.{IsFirstForm}
+use Rattle.mako_script.specs.Forms.{IsAccepted}
 use Rattle.mako_script.specs.Faults.{IsFirstFault}
 use Rattle.mako_script.specs.Scripts.{ScriptView}
 use Rattle.mako_script.specs.Texts.{IsScript}
@@ -24,8 +24,8 @@ abbrev pub TellsFault : List ℕ → ScriptFault → Type 0
 TellsFault bytes (Bad kind line) = IsFirstAmongSettings bytes kind line
 TellsFault bytes Memory = ⊥
 
--- the bytes are no script, or their script is not of the form that is accepted
+-- the bytes are no script, or their script is not accepted
 abbrev pub IsRefused : List ℕ → Kind → ℕ → Type 0
 IsRefused bytes kind line =
     (((s : ScriptView) → ¬ IsScript bytes s) × IsFirstAmongSettings bytes kind line)
-    ⊎ ((kind ≡ Form) × (line ≡ 0) × ((s : ScriptView) × IsScript bytes s × ¬ IsFirstForm s))
+    ⊎ ((kind ≡ Form) × (line ≡ 0) × ((s : ScriptView) × IsScript bytes s × ¬ IsAccepted s))

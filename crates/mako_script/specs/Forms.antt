@@ -1,56 +1,40 @@
--- Which scripts are accepted so far.
-use Rattle.std.specs.Prelude.{◌≡◌, ℕ, ◌+◌, ◌≤◌, ◌<◌, Bool, true, false, List, length, sum_by, count_by}
-use Rattle.std.specs.List.{flat_map, list_all}
+-- Which scripts are accepted so far: those for which no cycle ever runs.
+use Rattle.std.specs.Prelude.{◌≡◌, ℕ, ◌+◌, ◌≤◌, ◌<◌, ◌⊎◌, Bool, true, false, List, slice_get, Some, sum_by, count_by}
+use Rattle.std.specs.List.{flat_map}
 use Rattle.mako_model.specs.declared.call.Call.{Call}
-use Rattle.mako_model.specs.declared.call.Call.TheVariants.{New, Num, CopyRoot, DropRoot, Get, Put, Show, Collect}
+use Rattle.mako_model.specs.declared.call.Call.TheVariants.{New, Collect}
+use Rattle.mako_model.specs.Legal.{Facts}
+use Rattle.mako_script.specs.ScriptFacts.{facts_of}
 use Rattle.mako_script.specs.Scripts.{ScriptView, IsProper}
-
--- the commands that are carried out so far
-abbrev pub is_plain : Call → Bool
-is_plain (New root fields) = true
-is_plain (Num root value) = true
-is_plain (Get to from field) = true
-is_plain (Put to field from) = true
-is_plain (CopyRoot to from) = false
-is_plain (DropRoot root) = false
-is_plain (Show root) = false
-is_plain Collect = false
 
 abbrev pub is_new : Call → Bool
 is_new (New root fields) = true
-is_new (Num root value) = false
-is_new (Get to from field) = false
-is_new (Put to field from) = false
-is_new (CopyRoot to from) = false
-is_new (DropRoot root) = false
-is_new (Show root) = false
-is_new Collect = false
+is_new call = false
+
+abbrev pub is_collect : Call → Bool
+is_collect Collect = true
+is_collect call = false
 
 -- the words of the record that a call makes: its header and its fields
 abbrev pub record_words : Call → ℕ
 record_words (New root fields) = fields + 1
-record_words (Num root value) = 0
-record_words (Get to from field) = 0
-record_words (Put to field from) = 0
-record_words (CopyRoot to from) = 0
-record_words (DropRoot root) = 0
-record_words (Show root) = 0
-record_words Collect = 0
+record_words call = 0
 
-abbrev pub all_calls : ScriptView → List Call
-all_calls s = flat_map (λ p. p.calls) s.programs
+-- the calls of all programs
+abbrev pub all_calls : Facts → List Call
+all_calls w = flat_map (λ calls. calls) w.programs
 
--- one mutator, one server with one tablet, at most 64 plain commands, and room for each object that they make
-pub record IsFirstForm (s : ScriptView) : Type 0 where
-  pub servers : s.numbers.servers ≡ 1
-  pub tablets : s.numbers.tablets ≡ 1
-  pub single : length s.programs ≡ 1
-  pub short : length (all_calls s) ≤ 64
-  pub plain : list_all is_plain (all_calls s) ≡ true
-  pub entries : count_by is_new (all_calls s) < s.numbers.entries
-  pub words : s.board + 1 + sum_by record_words (all_calls s) ≤ s.numbers.words
+-- No program asks for a cycle, and one tablet has room for all objects that the programs make.
+pub record HasAmpleRoom (w : Facts) : Type 0 where
+  pub no_collect : (m i : ℕ) (calls : List Call) → slice_get w.programs m ≡ Some calls → slice_get calls i ≡ Some Collect → ⊥
+  pub entries : count_by is_new (all_calls w) < w.entries
+  pub words : w.board + 1 + sum_by record_words (all_calls w) ≤ w.words
+
+-- no cycle may run, or none is wanted
+abbrev pub NeedsNoCycle : Facts → Type 0
+NeedsNoCycle w = (w.cycles ≡ 0) ⊎ HasAmpleRoom w
 
 -- a script of the grammar that has this form
 pub record IsAccepted (s : ScriptView) : Type 0 where
   pub proper : IsProper s
-  pub form : IsFirstForm s
+  pub form : NeedsNoCycle (facts_of s)

@@ -1,6 +1,6 @@
 -- Reading a script from its lines and words, as a function on lists. It stands between the text and the code.
-use Rattle.std.specs.Prelude.{◌≡◌, ℕ, zero, suc, sum_by, count_by, ◌+◌, ◌-◌, ◌*◌, ◌<◌, ◌≤◌, ◌&&◌, ◌||◌, ◌==◌, Bool, true, false, nat_lt, nat_le, is_some, List, [], ◌∷◌, ◌++◌, length, map, slice_index, position, unwrap_or, Option, Some, None, Result, Ok, Err, codes, string_bytes, String, if◌then◌else◌}
-use Rattle.std.specs.List.{slice_split, list_all, AllByRecursion}
+use Rattle.std.specs.Prelude.{◌≡◌, ℕ, zero, suc, ◌+◌, ◌-◌, ◌*◌, ◌<◌, ◌≤◌, ◌&&◌, ◌||◌, ◌==◌, Bool, true, false, nat_lt, nat_le, is_some, List, [], ◌∷◌, ◌++◌, length, map, slice_index, position, unwrap_or, Option, Some, None, Result, Ok, Err, codes, string_bytes, String, if◌then◌else◌}
+use Rattle.std.specs.List.{slice_split, AllByRecursion}
 use Rattle.std.specs.Str.{bytes_eq}
 use Rattle.std.specs.Char.{is_ascii_digit}
 use Rattle.indexmap.specs.IndexSet.{IndexSet}
@@ -17,7 +17,6 @@ use Rattle.mako_script.specs.Names.{is_name, board_name}
 use Rattle.mako_script.specs.Programs.{ProgramView, IsProgram}
 use Rattle.mako_shape.specs.declared.numbers.Numbers.{Numbers}
 use Rattle.mako_script.specs.Scripts.{ScriptView, command_count}
-use Rattle.mako_script.specs.Forms.{is_plain, is_new, record_words}
 use Rattle.mako_script.specs.Texts.{mutator_word, end_word}
 
 infixl 10 ◌>>=◌
@@ -315,15 +314,3 @@ pub record Reads (lines : List (List ℕ)) (s : ScriptView) : Type 0 where
   pub values : List ℕ
   pub read : script_at lines ≡ Some (values, s.programs)
   pub made : s ≡ script_of values s.programs
-
--- ---- the form
-
--- the calls are plain and few, and there are entries and words for what they make
-unfoldable pub fit_form : ℕ → ℕ → ℕ → List Call → Bool
-fit_form entries words board cs =
-    nat_le (length cs) 64 && list_all is_plain cs && nat_lt (count_by is_new cs) entries && nat_le (board + 1 + sum_by record_words cs) words
-
-unfoldable pub has_form : Numbers → ℕ → List ProgramView → Bool
-has_form n board [] = false
-has_form n board (p ∷ []) = (n.servers == 1) && (n.tablets == 1) && fit_form n.entries n.words board p.calls
-has_form n board (p ∷ q ∷ ps) = false

@@ -5,7 +5,8 @@ ghost use Rattle.mako_script.specs.Programs.{ProgramView};
 ghost use Rattle.mako_script.specs.Reading.{lines_of, AreValues, AreProper, Reads, script_at, script_of};
 ghost use Rattle.mako_script.specs.Scripts.{IsProper, ScriptView};
 ghost use Rattle.mako_script.specs.Texts.{IsScript};
-ghost use Rattle.mako_script.specs.Forms.{IsAccepted, IsFirstForm};
+ghost use Rattle.mako_script.specs.Forms.{IsAccepted, NeedsNoCycle};
+ghost use Rattle.mako_script.specs.ScriptFacts.{facts_of};
 ghost use Rattle.mako_script.specs.Answers.{IsRefused, IsScriptOrMemory, TellsFault};
 
 use crate::check::{Fault, check};
@@ -69,8 +70,8 @@ const FORM: ScriptFault = ScriptFault::Bad {
 
 /// The script, if it is of the form that is carried out so far.
 fn accepted(script: Script) -> Result<Script, ScriptFault>
-    ensures ok { IfOk result (λ s. (s ≡ script) × IsFirstForm s) }
-    ensures err { IfErr result (λ e. (e ≡ ScriptFault.Bad Kind.Form 0) × ¬ IsFirstForm script) }
+    ensures ok { IfOk result (λ s. (s ≡ script) × NeedsNoCycle (facts_of s)) }
+    ensures err { IfErr result (λ e. (e ≡ ScriptFault.Bad Kind.Form 0) × ¬ NeedsNoCycle (facts_of script)) }
     ensures proper { IsProper script }
 {
     if is_accepted(script.shape.numbers(), script.board, &script.programs) {
@@ -84,7 +85,7 @@ fn accepted(script: Script) -> Result<Script, ScriptFault>
 /// is not carried out so far.
 pub fn parse(alloc: Global, bytes: &[u8]) -> Result<Script, ScriptFault>
     ensures ok { IfOk result (IsScript bytes.now) }
-    ensures accepted { IfOk result IsFirstForm }
+    ensures accepted { IfOk result (λ s. NeedsNoCycle (facts_of s)) }
     ensures only { (s : ScriptView) → IsAccepted s → IsScript bytes.now s → IsScriptOrMemory s result }
     ensures refused { (kind : Kind) (line : ℕ) → result ≡ Err (ScriptFault.Bad kind line) → IsRefused bytes.now kind line }
 {

@@ -167,6 +167,75 @@ fn prints_what_it_read(rt: HostRuntime) -> Result<(), Fail> {
     Ok(())
 }
 
+/// Whether the script with these words, cycles and sections is accepted. Its tablets have 4 entries.
+fn accepts(rt: &HostRuntime, words: &[u8], cycles: &[u8], sections: &[u8]) -> Result<bool, Fail> {
+    let parts: [&[u8]; 6] = [
+        b"mako 1\nservers 2\ntablets 3\nentries 4\nwords ",
+        words,
+        b"\nspare 1\nring 2\nroots 4\ncycles ",
+        cycles,
+        b"\ngens 8\nboard 1\n",
+        sections,
+    ];
+    let mut text = Vec::new(rt.alloc());
+    for part in &parts {
+        text.extend_from_slice(part)?;
+    }
+    match parse(rt.alloc(), &text) {
+        Ok(_) => Ok(true),
+        Err(
+            ScriptFault::Bad {
+                kind: Kind::Form,
+                line: 0,
+            },
+        ) => Ok(false),
+        Err(_) => Err("no script".into()),
+    }
+}
+
+#[test]
+fn accepts_scripts_without_cycles(rt: HostRuntime) -> Result<(), Fail> {
+    let cases: [(&[u8], &[u8], &[u8], bool); 8] = [
+        (
+            b"16",
+            b"1",
+            b"mutator\ncopy a board\ndrop a\nshow board\nend\n",
+            true,
+        ),
+        (
+            b"16",
+            b"1",
+            b"mutator\nnew a 1\nnew a 1\nend\nmutator\nnew b 1\nend\n",
+            true,
+        ),
+        (
+            b"16",
+            b"1",
+            b"mutator\nnew a 1\nnew a 1\nend\nmutator\nnew b 1\nnew b 1\nend\n",
+            false,
+        ),
+        (
+            b"18",
+            b"1",
+            b"mutator\nnew a 14\nend\nmutator\nnew b 0\nend\n",
+            true,
+        ),
+        (
+            b"17",
+            b"1",
+            b"mutator\nnew a 14\nend\nmutator\nnew b 0\nend\n",
+            false,
+        ),
+        (b"16", b"1", b"mutator\nend\nmutator\ncollect\nend\n", false),
+        (b"16", b"0", b"mutator\nend\nmutator\ncollect\nend\n", true),
+        (b"16", b"0", b"mutator\nnew a 14\nnew a 14\nend\n", true),
+    ];
+    for (words, cycles, sections, accepted) in &cases {
+        assert_eq!(rt; accepts(&rt, words, cycles, sections)?, *accepted);
+    }
+    Ok(())
+}
+
 #[test]
 fn counts_commands(rt: HostRuntime) -> Result<(), Fail> {
     for count in 63..66 {
@@ -175,7 +244,14 @@ fn counts_commands(rt: HostRuntime) -> Result<(), Fail> {
             text.extend_from_slice(b"num n 1\n")?;
         }
         text.extend_from_slice(b"end\n")?;
-        assert_eq!(rt; parse(rt.alloc(), &text).is_ok(), count <= 64);
+        match parse(rt.alloc(), &text) {
+            Ok(script) => {
+                for program in &script.programs {
+                    assert_eq!(rt; program.calls.len(), count);
+                }
+            }
+            Err(_) => return Err("a script was refused".into()),
+        }
     }
     Ok(())
 }

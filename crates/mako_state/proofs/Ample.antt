@@ -26,7 +26,7 @@ use Rattle.mako_model.proofs.Changes.{Change, Nothing, Snapped, Rooted, Written,
 use Rattle.mako_model.proofs.Lists.{cell}
 use Rattle.mako_names.specs.Counts.{one_of, made_of}
 use Rattle.mako_names.proofs.Counts.{names_in_order}
-use Rattle.mako_state.specs.Forms.{is_new, record_words, all_calls, HasAmpleRoom}
+use Rattle.mako_script.specs.Forms.{is_new, record_words, all_calls, HasAmpleRoom}
 
 -- ---- the calls that made objects, each with its weight
 

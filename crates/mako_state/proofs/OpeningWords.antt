@@ -44,7 +44,7 @@ agree_both : (n : Numbers) (F : Place → ℕ) (ps qs : List Placed) → AllAgre
 agree_both n F [] qs one two = two
 agree_both n F (p ∷ ps) qs one two = (one.0, agree_both n F ps qs one.1 two)
 
-length_written : (n : Numbers) (ws : List ℕ) (ps : List Placed) → length (written n ws ps) ≡ length ws
+pub length_written : (n : Numbers) (ws : List ℕ) (ps : List Placed) → length (written n ws ps) ≡ length ws
 length_written n ws [] = refl
 length_written n ws (p ∷ ps) =
     length_written n (set ws (index n p.place) p.word) ps ∙ length-set ws (index n p.place) p.word

@@ -46,7 +46,7 @@ use Rattle.mako_names.proofs.Going.{map_get}
 use Rattle.mako_names.proofs.StepsKept.{opening_names}
 use Rattle.mako_state.specs.Carried.{Carried}
 use Rattle.mako_state.specs.CoreStates.{CoreState}
-use Rattle.mako_state.specs.Forms.{NeedsNoCycle}
+use Rattle.mako_script.specs.Forms.{NeedsNoCycle}
 use Rattle.mako_state.specs.Invariants.{gate_facet, work_facet, left_facet, layout_state, name_facets, WordStands, RootsStand, MutatorStands, SeatStands, WholeInvariant}
 use Rattle.mako_state.specs.Openings.{words_at_start, opening_driver, opening_seats, OpeningHolds}
 use Rattle.mako_state.specs.Rests.{ended_of, SeatRests, NoCycleRuns}

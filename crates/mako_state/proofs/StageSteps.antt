@@ -55,7 +55,7 @@ use Rattle.mako_mutator.specs.Rooting.{source_fed, target_fed}
 use Rattle.mako_seat.specs.declared.seat.Seat.TheVariants.{Mutator}
 use Rattle.mako_names.specs.Tables.{phase_of}
 use Rattle.mako_names.specs.Trying.{tablet_at}
-use Rattle.mako_state.specs.Forms.{HasAmpleRoom}
+use Rattle.mako_script.specs.Forms.{HasAmpleRoom}
 use Rattle.mako_state.specs.Rests.{StageRests}
 use Rattle.mako_state.specs.Sought.{Sought, OutcomeSought}
 use Rattle.mako_state.specs.Invariants.{left_facet, WholeInvariant}

@@ -24,7 +24,7 @@ use Rattle.mako_layout.specs.Evacuations.{State, Evacuation}
 use Rattle.mako_layout.specs.Openings.{spares_below}
 use Rattle.mako_state.specs.Carried.{Carried, carried_of}
 use Rattle.mako_state.specs.CoreStates.{CoreState}
-use Rattle.mako_state.specs.Forms.{NeedsNoCycle}
+use Rattle.mako_script.specs.Forms.{NeedsNoCycle}
 use Rattle.mako_state.specs.Rests.{NoCycleRuns}
 use Rattle.mako_state.specs.Says.{TaskSays}
 use Rattle.mako_state.specs.Sought.{TaskSought}

@@ -5,7 +5,6 @@ pub mod Carried
 pub mod Sought
 pub mod CoreStates
 pub mod Rests
-pub mod Forms
 pub mod Invariants
 pub mod Openings
 pub mod Runs

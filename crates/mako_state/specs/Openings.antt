@@ -18,7 +18,7 @@ use Rattle.mako_seat.specs.declared.seat.Seat.{Seat}
 use Rattle.mako_seat.specs.declared.seat.Seat.TheVariants.{Mutator, Server, Collector}
 use Rattle.mako_layout.specs.Openings.{board_entry}
 use Rattle.mako_state.specs.CoreStates.{CoreState}
-use Rattle.mako_state.specs.Forms.{NeedsNoCycle}
+use Rattle.mako_script.specs.Forms.{NeedsNoCycle}
 use Rattle.mako_state.specs.Invariants.{WholeInvariant}
 
 -- ---- words

@@ -13,7 +13,7 @@ use Rattle.mako_seat.specs.Seats.{next_of, Fits}
 use Rattle.mako_seat.specs.declared.seat.Seat.{Seat}
 use Rattle.mako_seat.specs.declared.seat.Seat.TheVariants.{Mutator}
 use Rattle.mako_state.specs.CoreStates.{CoreState, step_of}
-use Rattle.mako_state.specs.Forms.{NeedsNoCycle}
+use Rattle.mako_script.specs.Forms.{NeedsNoCycle}
 use Rattle.mako_state.specs.Invariants.{WholeInvariant}
 use Rattle.mako_state.specs.Openings.{opening_core}
 

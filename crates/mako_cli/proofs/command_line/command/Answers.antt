@@ -1,6 +1,6 @@
 use Rattle.std.proofs.Common.{◌≡◌, ◌∙◌, ◌+◌, ◌<◌, ◌||◌, ◌++◌, length, [], ◌∷◌, List, Bor, ℕ, map, take, get_or, false, true, sym, ap, ap₂}
 use Rattle.std.proofs.lemmas.List.{take_more, map-append}
-use Rattle.clap.specs.Words.{App, Rule, Text, app_of, rule_of, with_rule}
+use Rattle.clap.specs.Words.{App, Rule, Text, rule_of, with_rule}
 use Rattle.clap.specs.Walk.{texts}
 use Rattle.clap.specs.declared.builder.arg.Arg.{Arg}
 use Rattle.mako_cli.specs.Tables.{argument, command}
@@ -21,6 +21,7 @@ pub loop-id-preserved : goal.loop-id-preserved
 loop-id-preserved c =
     let adds = c.in_ok-command.ensures in
     let local : c.required.result.global ≡ false = ap (λ (a : Arg). a.global) c.required.ensures ∙ c.new.ensures.optional.1 in
-    let rule = ap rule_of c.required.ensures ∙ ap (λ (r : Rule). record r { required = true }) c.new.ensures.rule in
-    (adds.shape local ∙ ap₂ with_rule c.loop-id.invariant.0 rule ∙ ap (made c.args.name.now) (sym (more c.args.ids.now c.loop-id.id-index _ c.loop-id-test.true)),
-    adds.globals ∙ ap₂ (λ a b. a || b) c.loop-id.invariant.1 local)
+    let rule = ap rule_of c.required.ensures ∙ ap (λ (r : Rule). record r { required = true }) c.new.ensures.rule in (
+      adds.shape local ∙ ap₂ with_rule c.loop-id.invariant.0 rule ∙ ap (made c.args.name.now) (sym (more c.args.ids.now c.loop-id.id-index _ c.loop-id-test.true)),
+      adds.globals ∙ ap₂ (λ a b. a || b) c.loop-id.invariant.1 local,
+    )

@@ -1,4 +1,4 @@
-use Rattle.std.proofs.Common.{◌≡◌, ◌∙◌, List, ℕ, Option, Some, None, Bor, codes, sym, ap, option_map}
+use Rattle.std.proofs.Common.{◌∙◌, List, ℕ, Option, Bor, codes, sym, ap, option_map}
 use Rattle.clap.specs.Words.{found_of}
 use Rattle.mako_cli.proofs.Named.{equal, unequal, replay_given, gen_given, count_given, replay_says, gen_says, count_says, not_missing}
 use Rattle.mako_cli.proofs.command_line.named.Goals as goal

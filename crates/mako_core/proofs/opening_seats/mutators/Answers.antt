@@ -1,4 +1,4 @@
-use Rattle.std.proofs.Common.{◌≡◌, ◌++◌, ◌∷◌, [], ◌<◌, List, length, take, sym, ap, ◌∙◌, arith}
+use Rattle.std.proofs.Common.{◌++◌, ◌∷◌, [], ◌<◌, List, length, take, sym, ap, ◌∙◌, arith}
 use Rattle.mako_shape.specs.declared.numbers.Numbers.{Numbers}
 use Rattle.mako_script.specs.Scripts.{ScriptView}
 use Rattle.mako_seat.specs.declared.seat.Seat.{Seat}
@@ -13,7 +13,7 @@ loop-mutator-preserved c =
     let m = c.loop-mutator.mutator in
     let many = ap (λ (t : ScriptView). length t.programs) c.script.view_is in
     let numbers = ap (λ (n : Numbers). n.mutators) c.numbers-numbers.ensures.numbers in
-    let low : m < length s.programs = omega (arith, many, numbers, c.script.invariant.proper.mutators, c.loop-mutator-test.true) in
+    let low : m < length s.programs = omega (arith, many, numbers, c.script.invariant.mutators, c.loop-mutator-test.true) in
     let program = some_at s.programs m low in
     c.in-Ok.ensures.items
     ∙ ap (λ (xs : List Seat). xs ++ Mutator c.in_ok-driver.driver ∷ []) c.loop-mutator.invariant

@@ -1,4 +1,4 @@
-use Rattle.std.proofs.Common.{◌≡◌, ℕ, ◌-◌, List, length, set, sym, ap, ◌∙◌, length-set}
+use Rattle.std.proofs.Common.{ℕ, ◌-◌, List, length, set, ap, ◌∙◌, length-set}
 use Rattle.mako_shape.specs.Places.{index, home}
 use Rattle.mako_state.specs.Openings.{written, first_homes}
 use Rattle.mako_core.proofs.Starting.{home_written}

@@ -1,4 +1,4 @@
-use Rattle.std.proofs.Common.{◌≡◌, ◌+◌, ◌≤◌, ◌++◌, ◌∷◌, [], List, length, map, sym, ap, refl, ◌∙◌, append_assoc, append-nil, length-append, arith, Vec, Global}
+use Rattle.std.proofs.Common.{◌≡◌, ◌++◌, ◌∷◌, [], List, length, map, sym, ap, refl, ◌∙◌, append_assoc, append-nil, length-append, arith, Vec, Global}
 use Rattle.std.specs.Vec.Iter.{into_iter_items}
 use Rattle.mako_model.specs.declared.reply.Reply.{Reply}
 use Rattle.mako_core.specs.Endings.{replies_kept, replies_in}

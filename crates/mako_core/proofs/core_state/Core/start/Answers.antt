@@ -1,14 +1,12 @@
-use Rattle.std.proofs.Common.{◌≡◌, ◌<◌, ◌≤◌, [], ℕ, List, length, sym, ap, subst, ◌∙◌, arith, vec_capacity}
-use Rattle.mako_script.specs.Programs.{ProgramView}
+use Rattle.std.proofs.Common.{◌≡◌, length, sym, ap, subst, ◌∙◌, arith}
 use Rattle.mako_script.specs.Scripts.{ScriptView, IsProper, command_count}
-use Rattle.mako_state.specs.Openings.{opening_core, opening_seats, words_at_start}
 use Rattle.mako_core.proofs.Starting.{opening_is, opened, opening_room}
 use Rattle.mako_core.proofs.core_state.Core.start.Goals as goal
 
 pub count_points-points-requires : goal.count_points-points-requires
 count_points-points-requires g c =
     let counted : command_count c.as_slice-programs.result.now ≡ command_count c.script.inside.programs.items = ap command_count c.as_slice-programs.ensures.value in
-    let few = c.script.invariant.proper.commands in omega (arith, counted, few)
+    let few = c.script.invariant.commands in omega (arith, counted, few)
 
 pub returns-clause-opening : goal.returns-clause-opening
 returns-clause-opening g c = opening_is c.args.script.now _ _ _ c.in_ok-words.ensures c.in_ok-seats.ensures c.in_ok-journal.ensures.empty
@@ -17,7 +15,7 @@ pub returns-clause-holds : goal.returns-clause-holds
 returns-clause-holds g c =
     let s = c.args.script.now in
     opened c.of.result.value s _ c.of.ensures (opening_is s _ _ _ c.in_ok-words.ensures c.in_ok-seats.ensures c.in_ok-journal.ensures.empty)
-    (subst IsProper c.script.view_is c.script.invariant.proper) c.requires
+    (subst IsProper c.script.view_is c.script.invariant) c.requires
 
 pub invariant_of-result : goal.invariant_of-result
 invariant_of-result g c =
@@ -29,7 +27,7 @@ invariant_of-result g c =
     let listed : length c.as_slice-programs.result.now ≡ length c.of.result.value.programs = ap length (programs ∙ ap (λ (t : ScriptView). t.programs) (sym c.of.ensures)) in
     record {
       shape_is = ap (λ (t : ScriptView). t.numbers) (c.script.view_is ∙ sym c.of.ensures);
-      whole = opened c.of.result.value s _ c.of.ensures state_is (subst IsProper c.script.view_is c.script.invariant.proper) c.requires;
+      whole = opened c.of.result.value s _ c.of.ensures state_is (subst IsProper c.script.view_is c.script.invariant) c.requires;
       room_is = opening_room s _ c.in_ok-journal.journal.room state_is (omega (arith, room, c.count_points-points.ensures, counted));
       lists_are = c.in-Ok.ensures.items;
       lists_fit = omega (arith, c.in-Ok.ensures.exact, listed);
