@@ -17,5 +17,5 @@ fn main(rt: HostRuntime) -> ExitCode {
     let words = words(&rt).unwrap_or(Vec::new(rt.alloc()));
     let mut source = StdSource::new(&rt);
     let mut sink = StdSink::new(&rt);
-    ExitCode::from(top(rt.alloc(), &words, &mut source, &mut sink).status)
+    ExitCode::from(top(&rt, rt.alloc(), &words, &mut source, &mut sink).status)
 }

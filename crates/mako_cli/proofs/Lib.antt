@@ -1,2 +1,4 @@
-mod ThreeWords
+pub mod Rows
+pub mod Words
+pub mod Named
 mod Replays

@@ -4,7 +4,7 @@ use Rattle.std.specs.Fmt.{decimal}
 use Rattle.mako_replay.specs.declared.order.Order.{Order}
 use Rattle.mako_replay.specs.declared.order.Order.TheVariants.{Turns, Seed}
 use Rattle.mako_cli.specs.declared.command_line.CommandLine.{CommandLine}
-use Rattle.mako_cli.specs.declared.command_line.CommandLine.TheVariants.{Replay, Gen}
+use Rattle.mako_cli.specs.declared.command_line.CommandLine.TheVariants.{Replay, Gen, Count}
 
 -- what was looked for was found, or there is none
 abbrev pub Finds : {A : Type 0} → (A → Type 0) → Option A → Type 0
@@ -25,14 +25,19 @@ IsOrder word (Seed seed) = IsNumber 0 max_seed word seed
 -- the arguments of the commands
 abbrev pub IsReplay : List ℕ → List ℕ → CommandLine → Type 0
 IsReplay first second (Replay order steps) = IsOrder first order × IsNumber 0 1000000000 second steps
-IsReplay first second (Gen seed size) = ⊥
+IsReplay first second _ = ⊥
 
 abbrev pub IsGen : List ℕ → List ℕ → CommandLine → Type 0
-IsGen first second (Replay order steps) = ⊥
 IsGen first second (Gen seed size) = IsNumber 0 max_seed first seed × IsNumber 1 4096 second size
+IsGen first second _ = ⊥
+
+abbrev pub IsCount : List ℕ → CommandLine → Type 0
+IsCount first (Count workers) = IsNumber 1 64 first workers
+IsCount first _ = ⊥
 
 -- the words say this command
 abbrev pub Says : List (List ℕ) → CommandLine → Type 0
+Says (name ∷ first ∷ []) line = (name ≡ codes "count") × IsCount first line
 Says (name ∷ first ∷ second ∷ []) line =
     ((name ≡ codes "replay") × IsReplay first second line) ⊎ ((name ≡ codes "gen") × IsGen first second line)
 Says _ line = ⊥

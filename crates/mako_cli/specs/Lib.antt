@@ -1,3 +1,4 @@
 pub mod CommandLines
+pub mod Tables
 pub mod Settling
 pub mod Counts

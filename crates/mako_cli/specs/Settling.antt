@@ -1,5 +1,5 @@
 -- What a command comes to, from what was read, and what is told of it.
-use Rattle.std.specs.Prelude.{ℕ, ◌≡◌, ◌≤◌, ◌<◌, ◌⊎◌, Bool, true, false, List, [], ◌∷◌, length, take, map, codes, Some, IfSome}
+use Rattle.std.specs.Prelude.{ℕ, ◌≡◌, ◌≤◌, ◌<◌, ◌*◌, ◌⊎◌, Bool, true, false, List, [], length, take, map, codes, Some, IfSome}
 use Rattle.std.specs.declared.option.Option.{Option}
 use Rattle.std.specs.Io.KnownBytes.{Appends}
 use Rattle.mako_io.specs.Streams.{TakesMore}
@@ -21,11 +21,12 @@ use Rattle.mako_gen.specs.Workloads.{IsWorkload}
 use Rattle.mako_replay.specs.Runs.{Going, after}
 use Rattle.mako_replay.specs.declared.order.Order.{Order}
 use Rattle.mako_cli.specs.CommandLines.{Says, SayNothing}
+use Rattle.mako_cli.specs.Counts.{handled_text}
 use Rattle.mako_cli.specs.declared.command_line.CommandLine.{CommandLine}
-use Rattle.mako_cli.specs.declared.command_line.CommandLine.TheVariants.{Replay, Gen}
+use Rattle.mako_cli.specs.declared.command_line.CommandLine.TheVariants.{Replay, Gen, Count}
 use Rattle.mako_cli.specs.declared.ended.Ended.{Ended}
 use Rattle.mako_cli.specs.declared.settled.Settled.{Settled}
-use Rattle.mako_cli.specs.declared.settled.Settled.TheVariants.{Replayed, Generated, Usage, NoScript, ReadFault, Memory}
+use Rattle.mako_cli.specs.declared.settled.Settled.TheVariants.{Replayed, Generated, Counted, Usage, NoScript, ReadFault, Memory}
 
 -- the greatest number of bytes of a script
 abbrev pub max_bytes : ℕ
@@ -40,6 +41,7 @@ replay_status false = 6
 abbrev pub status_of : Settled → ℕ
 status_of (Replayed script replayed) = replay_status replayed.finished
 status_of (Generated text) = 0
+status_of (Counted pieces) = 0
 status_of Usage = 1
 status_of (NoScript kind line) = 2
 status_of ReadFault = 3
@@ -49,6 +51,7 @@ status_of Memory = 5
 abbrev pub text_of : Settled → List ℕ
 text_of (Replayed script replayed) = output_text (length script.programs) replayed.outcome.front replayed.finished
 text_of (Generated text) = text.items
+text_of (Counted pieces) = handled_text pieces
 text_of Usage = codes "usage\n"
 text_of (NoScript kind line) = fault_text kind line
 text_of ReadFault = codes "read fault\n"
@@ -58,6 +61,7 @@ text_of Memory = codes "memory\n"
 abbrev pub front_of : Settled → Seen
 front_of (Replayed script replayed) = replayed.outcome.front
 front_of (Generated text) = record { history = []; finished = [] }
+front_of (Counted pieces) = record { history = []; finished = [] }
 front_of Usage = record { history = []; finished = [] }
 front_of (NoScript kind line) = record { history = []; finished = [] }
 front_of ReadFault = record { history = []; finished = [] }
@@ -109,6 +113,7 @@ abbrev pub Settles : Order → ℕ → Option (List ℕ) → Option (List ℕ) �
 Settles order steps old new rose (Replayed script replayed) =
     IsRead old new script × IsFrontOf order steps script replayed.finished replayed.outcome.front
 Settles order steps old new rose (Generated text) = ⊥
+Settles order steps old new rose (Counted pieces) = ⊥
 Settles order steps old new rose Usage = ⊥
 Settles order steps old new rose (NoScript kind line) = IsUnread old new kind line
 Settles order steps old new rose ReadFault = rose
@@ -120,6 +125,7 @@ IsTellable (Replayed script replayed) = outcomes.IsWhole replayed.outcome × out
     × (length (outcomes.reply_lists replayed.outcome) ≡ length script.programs)
     × FollowsPrograms (map (λ p. p.calls) script.programs) replayed.outcome.front.history
 IsTellable (Generated text) = Unit {0}
+IsTellable (Counted pieces) = Unit {0}
 IsTellable Usage = Unit {0}
 IsTellable (NoScript kind line) = Unit {0}
 IsTellable ReadFault = Unit {0}
@@ -152,19 +158,32 @@ pub record IsGenerated (seed size : ℕ) (text : List ℕ) : Type 0 where
 abbrev pub Generates : ℕ → ℕ → Settled → Type 0
 Generates seed size (Replayed script replayed) = ⊥
 Generates seed size (Generated text) = IsGenerated seed size text.items
+Generates seed size (Counted pieces) = ⊥
 Generates seed size Usage = ⊥
 Generates seed size (NoScript kind line) = ⊥
 Generates seed size ReadFault = ⊥
 Generates seed size Memory = Unit {0}
 
+-- what counting the pieces of a ring of workers comes to; want of memory is free
+abbrev pub Counts : ℕ → Settled → Type 0
+Counts workers (Replayed script replayed) = ⊥
+Counts workers (Generated text) = ⊥
+Counts workers (Counted pieces) = pieces ≡ 16 * workers
+Counts workers Usage = ⊥
+Counts workers (NoScript kind line) = ⊥
+Counts workers ReadFault = ⊥
+Counts workers Memory = Unit {0}
+
 -- what a command comes to
 abbrev pub Does : CommandLine → Option (List ℕ) → Option (List ℕ) → Type 0 → Settled → Type 0
 Does (Replay order steps) old new rose settled = Settles order steps old new rose settled
 Does (Gen seed size) old new rose settled = Generates seed size settled
+Does (Count workers) old new rose settled = Counts workers settled
 
--- What the words come to: what their command does, or usage where they say none.
+-- What the words come to: what their command does, or usage where they say none. Want of memory is free.
 abbrev pub Commands : List (List ℕ) → Option (List ℕ) → Option (List ℕ) → Type 0 → Settled → Type 0
-Commands words old new rose settled = ((line : CommandLine) × Says words line × Does line old new rose settled) ⊎ (SayNothing words × (settled ≡ Usage))
+Commands words old new rose settled = ((line : CommandLine) × Says words line × Does line old new rose settled)
+    ⊎ ((SayNothing words × (settled ≡ Usage)) ⊎ (settled ≡ Memory))
 
 -- A script was read and replayed, to its end or not, and the output of this front was written.
 pub record HasOutput (finished : Bool) (order : Order) (steps : ℕ) (old new taken_old taken_new : Option (List ℕ)) (front : Seen) : Type 0 where
@@ -180,17 +199,24 @@ pub record IsPrinted (seed size : ℕ) (taken_old taken_new : Option (List ℕ))
   pub written : Appends taken_old taken_new text
   pub empty : front ≡ record { history = []; finished = [] }
 
+-- The pieces were counted and told, 16 for each worker, and no script was run.
+pub record IsHandled (workers : ℕ) (taken_old taken_new : Option (List ℕ)) (front : Seen) : Type 0 where
+  pub written : Appends taken_old taken_new (handled_text (16 * workers))
+  pub empty : front ≡ record { history = []; finished = [] }
+
 -- a command was done
 abbrev pub IsDoneBy : CommandLine → Option (List ℕ) → Option (List ℕ) → Option (List ℕ) → Option (List ℕ) → Seen → Type 0
 IsDoneBy (Replay order steps) old new taken_old taken_new front =
     HasOutput true order steps old new taken_old taken_new front
 IsDoneBy (Gen seed size) old new taken_old taken_new front = IsPrinted seed size taken_old taken_new front
+IsDoneBy (Count workers) old new taken_old taken_new front = IsHandled workers taken_old taken_new front
 
 -- a command was left unfinished
 abbrev pub IsLeftBy : CommandLine → Option (List ℕ) → Option (List ℕ) → Option (List ℕ) → Option (List ℕ) → Seen → Type 0
 IsLeftBy (Replay order steps) old new taken_old taken_new front =
     HasOutput false order steps old new taken_old taken_new front
 IsLeftBy (Gen seed size) old new taken_old taken_new front = ⊥
+IsLeftBy (Count workers) old new taken_old taken_new front = ⊥
 
 -- Too many bytes were read, or those of no accepted script, and the line of their fault was written.
 pub record IsToldUnread (old new taken_old taken_new : Option (List ℕ)) : Type 0 where
@@ -214,14 +240,22 @@ EndsGen seed size taken_old taken_new ended =
     ((ended.status ≡ 0) × IsPrinted seed size taken_old taken_new ended.front)
     ⊎ ((ended.status ≡ 5) × Appends taken_old taken_new (codes "memory\n"))
 
+-- how a count ends where the sink does not fail
+abbrev pub EndsCount : ℕ → Option (List ℕ) → Option (List ℕ) → Ended → Type 0
+EndsCount workers taken_old taken_new ended =
+    ((ended.status ≡ 0) × IsHandled workers taken_old taken_new ended.front)
+    ⊎ ((ended.status ≡ 5) × Appends taken_old taken_new (codes "memory\n"))
+
 -- how a command ends where no stream fails
 abbrev pub EndsBy : CommandLine → Option (List ℕ) → Option (List ℕ) → Option (List ℕ) → Option (List ℕ) → Ended → Type 0
 EndsBy (Replay order steps) old new taken_old taken_new ended = EndsReplay order steps old new taken_old taken_new ended
 EndsBy (Gen seed size) old new taken_old taken_new ended = EndsGen seed size taken_old taken_new ended
+EndsBy (Count workers) old new taken_old taken_new ended = EndsCount workers taken_old taken_new ended
 
--- How a call of the program ends where no stream fails: as its command does, or with the line of usage where the words
--- say none.
+-- How a call of the program ends where no stream fails: as its command does, with the line of usage where the words say none,
+-- or with that of want of memory.
 abbrev pub EndsWell : List (List ℕ) → Option (List ℕ) → Option (List ℕ) → Option (List ℕ) → Option (List ℕ) → Ended → Type 0
 EndsWell words old new taken_old taken_new ended =
     ((line : CommandLine) × Says words line × EndsBy line old new taken_old taken_new ended)
-    ⊎ (SayNothing words × (ended.status ≡ 1) × Appends taken_old taken_new (codes "usage\n"))
+    ⊎ ((SayNothing words × (ended.status ≡ 1) × Appends taken_old taken_new (codes "usage\n"))
+    ⊎ ((ended.status ≡ 5) × Appends taken_old taken_new (codes "memory\n")))

@@ -12,6 +12,7 @@ ghost use Rattle.mako_cli.specs.declared.command_line.CommandLine.{CommandLine};
 ghost use Rattle.mako_cli.specs.declared.settled.Settled.{Settled};
 
 use crate::command_line::{CommandLine, command_line};
+use crate::count::{count_top, handled_line};
 use crate::ended::Ended;
 use crate::settled::Settled;
 use mako_gen::make;
@@ -20,6 +21,8 @@ use mako_model::Front;
 use mako_replay::{Order, Replayed, replay};
 use mako_script::{Kind, Script, ScriptFault, fault_line, parse, print, write_output, write_text};
 use std::alloc::Global;
+use std::sync::Wait;
+use std::thread::Threads;
 
 /// The greatest number of bytes of a script.
 const MAX_BYTES: usize = 16_777_216;
@@ -55,7 +58,7 @@ fn settle<S: Source>(alloc: Global, order: Order, steps: u64, source: &mut S) ->
 }
 
 /// Writes the one line of a command that carried out no script.
-pub(crate) fn tell_line<K: Sink>(alloc: Global, sink: &mut K, text: &[u8], status: u8) -> Ended
+fn tell_line<K: Sink>(alloc: Global, sink: &mut K, text: &[u8], status: u8) -> Ended
     ensures written { IsWritten text.now status (K.taken sink.old) (K.taken sink.new) (Rose (K.faults sink.old) (K.faults sink.new)) result.status }
     ensures front { result.front ≡ record { history = []; finished = [] } }
     ensures counted { K.faults sink.old ≤ K.faults sink.new }
@@ -71,7 +74,7 @@ pub(crate) fn tell_line<K: Sink>(alloc: Global, sink: &mut K, text: &[u8], statu
 }
 
 /// Writes the text of what a command came to.
-fn tell<K: Sink>(alloc: Global, sink: &mut K, settled: Settled) -> Ended
+pub(crate) fn tell<K: Sink>(alloc: Global, sink: &mut K, settled: Settled) -> Ended
     requires { IsTellable settled }
     ensures told { IsTold settled (K.taken sink.old) (K.taken sink.new) (Rose (K.faults sink.old) (K.faults sink.new)) result }
     ensures counted { K.faults sink.old ≤ K.faults sink.new }
@@ -79,6 +82,7 @@ fn tell<K: Sink>(alloc: Global, sink: &mut K, settled: Settled) -> Ended
     match settled {
         Settled::Replayed(script, replayed) => tell_run(sink, &script, replayed),
         Settled::Generated(text) => tell_text(alloc, sink, &text),
+        Settled::Counted(pieces) => tell_line(alloc, sink, &handled_line(pieces), Settled::DONE),
         Settled::Usage => tell_line(alloc, sink, b"usage\n", Settled::USAGE),
         Settled::NoScript { kind, line } => {
             tell_line(alloc, sink, &fault_line(kind, line), Settled::NO_SCRIPT)
@@ -202,16 +206,18 @@ pub fn gen_top<K: Sink>(alloc: Global, seed: u64, size: u32, sink: &mut K) -> En
     tell(alloc, sink, settled)
 }
 
-/// Carries out the command that the words of the command line say, over this source and this sink.
-pub fn top<S: Source, K: Sink>(
+/// Carries out the command that the words of the command line say, over this source and this sink. A count waits for its
+/// threads, and may wait for ever; every other command returns.
+pub fn top<R: Threads + Wait + Sync, S: Source, K: Sink>(
+    rt: &R,
     alloc: Global,
     words: &[String],
     source: &mut S,
     sink: &mut K,
 ) -> Ended
-    // The words say no command exactly where the status is that of usage, or that of a write fault.
+    // The words say no command exactly where the status is that of usage, or that of a write fault or of want of memory.
     ensures usage { result.status ≡ 1 → SayNothing (map string_bytes words.now) }
-    ensures other { SayNothing (map string_bytes words.now) → (result.status ≡ 1) ⊎ (result.status ≡ 4) }
+    ensures other { SayNothing (map string_bytes words.now) → (result.status ≡ 1) ⊎ ((result.status ≡ 4) ⊎ (result.status ≡ 5)) }
 
     // Each status has its cause.
     ensures done { result.status ≡ 0 → (line : CommandLine) × Says (map string_bytes words.now) line
@@ -230,9 +236,13 @@ pub fn top<S: Source, K: Sink>(
     ensures complete { ¬ Rose (S.faults source.old) (S.faults source.new) → ¬ Rose (K.faults sink.old) (K.faults sink.new) →
         EndsWell (map string_bytes words.now) (S.left source.old) (S.left source.new) (K.taken sink.old) (K.taken sink.new) result }
 {
-    match command_line(words) {
+    let Ok(line) = command_line(alloc, words) else {
+        return tell(alloc, sink, Settled::Memory);
+    };
+    match line {
         Some(CommandLine::Replay { order, steps }) => replay_top(alloc, order, steps, source, sink),
         Some(CommandLine::Gen { seed, size }) => gen_top(alloc, seed, size, sink),
+        Some(CommandLine::Count { workers }) => count_top(rt, alloc, workers, sink),
         None => tell(alloc, sink, Settled::Usage),
     }
 }

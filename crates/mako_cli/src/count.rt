@@ -1,11 +1,12 @@
 //! The command that counts the pieces of a ring of workers on threads.
 
-ghost use Rattle.std.specs.Prelude.{◌≡◌, ◌≤◌, ◌+◌, ◌*◌, ◌++◌, [], length};
+ghost use Rattle.std.specs.Prelude.{◌≡◌, ◌≤◌, ◌+◌, ◌++◌, ◌⊎◌, length};
 ghost use Rattle.mako_io.specs.Causes.{Rose};
-ghost use Rattle.std.specs.Io.KnownBytes.{Appends};
-ghost use Rattle.mako_cli.specs.Counts.{handled_text, IsCounted};
+ghost use Rattle.mako_cli.specs.Counts.{handled_text};
+ghost use Rattle.mako_cli.specs.Settling.{Counts, EndsCount, IsHandled, IsTellable, IsTold};
+ghost use Rattle.mako_cli.specs.declared.settled.Settled.{Settled};
 
-use crate::commands::tell_line;
+use crate::commands::tell;
 use crate::ended::Ended;
 use crate::settled::Settled;
 use arrayvec::ArrayVec;
@@ -32,7 +33,7 @@ fn add(line: &mut Line, bytes: &[u8])
 }
 
 /// The line that tells how many pieces were handled.
-fn handled_line(pieces: u64) -> Line
+pub(crate) fn handled_line(pieces: u64) -> Line
     ensures { result.items ≡ handled_text pieces }
 {
     let mut line = Line::new();
@@ -41,6 +42,18 @@ fn handled_line(pieces: u64) -> Line
     add(&mut line, digits.format(pieces).as_bytes());
     add(&mut line, b"\n");
     line
+}
+
+/// Counts the pieces of a ring of so many workers on threads.
+fn count<R: Threads + Wait + Sync>(rt: &R, alloc: Global, workers: u32) -> Settled
+    requires { (1 ≤ workers) × (workers ≤ 64) }
+    ensures counts { Counts workers result }
+    ensures tellable { IsTellable result }
+{
+    match count_pieces(rt, alloc, workers) {
+        Ok(pieces) => Settled::Counted(pieces),
+        Err(_) => Settled::Memory,
+    }
 }
 
 /// Counts the pieces of a ring of so many workers on threads, and writes how many were handled. It waits as long as the
@@ -53,15 +66,17 @@ pub fn count_top<R: Threads + Wait + Sync, K: Sink>(
 ) -> Ended
     requires { (1 ≤ workers) × (workers ≤ 64) }
     // Each status has its cause.
-    ensures done { result.status ≡ 0 → Appends (K.taken sink.old) (K.taken sink.new) (handled_text (16 * workers)) }
+    ensures done { result.status ≡ 0 → IsHandled workers (K.taken sink.old) (K.taken sink.new) result.front }
     ensures write { result.status ≡ 4 → Rose (K.faults sink.old) (K.faults sink.new) }
+    ensures others { (result.status ≡ 0) ⊎ ((result.status ≡ 4) ⊎ (result.status ≡ 5)) }
 
-    // At the status of a write fault a prefix of that text went out, or of that for want of memory.
-    ensures counted { IsCounted workers (K.taken sink.old) (K.taken sink.new) (Rose (K.faults sink.old) (K.faults sink.new)) result.status }
-    ensures front { result.front ≡ record { history = []; finished = [] } }
+    // And at the status of a write fault the text is a prefix of that of another status.
+    ensures settled { (settled : Settled) × Counts workers settled
+        × IsTold settled (K.taken sink.old) (K.taken sink.new) (Rose (K.faults sink.old) (K.faults sink.new)) result }
+
+    // Where the sink does not fail, the status is 0 or 5, and its text was written.
+    ensures complete { ¬ Rose (K.faults sink.old) (K.faults sink.new) → EndsCount workers (K.taken sink.old) (K.taken sink.new) result }
 {
-    match count_pieces(rt, alloc, workers) {
-        Ok(pieces) => tell_line(alloc, sink, &handled_line(pieces), Settled::DONE),
-        Err(_) => tell_line(alloc, sink, b"memory\n", Settled::MEMORY),
-    }
+    let settled = count(rt, alloc, workers);
+    tell(alloc, sink, settled)
 }

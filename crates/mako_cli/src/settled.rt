@@ -10,6 +10,8 @@ pub enum Settled {
     Replayed(Script, Replayed),
     /// A workload was generated, with this text.
     Generated(Vec<u8>),
+    /// So many pieces of a ring of workers were handled.
+    Counted(u64),
     /// The words of the command line are no command.
     Usage,
     /// The bytes are no script of the form that is accepted, or too many.

@@ -67,7 +67,7 @@ fn replays_scripts(rt: HostRuntime) -> Result<(), Fail> {
         let command = words(alloc, &["replay", "turns", *steps])?;
         let mut source = SoundSource::new(script(alloc, section)?);
         let mut sink = SoundSink::new(alloc, 100)?;
-        let ended = top(alloc, &command, &mut source, &mut sink);
+        let ended = top(&rt, alloc, &command, &mut source, &mut sink);
         assert_eq!(rt; ended.status, *status);
         assert_eq!(rt; sink.bytes(), *output);
     }
@@ -98,7 +98,7 @@ fn prints_a_workload(rt: HostRuntime) -> Result<(), Fail> {
     let command = words(alloc, &["gen", "1", "1"])?;
     let mut source = SoundSource::new(Vec::new(alloc));
     let mut sink = SoundSink::new(alloc, 1000)?;
-    let ended = top(alloc, &command, &mut source, &mut sink);
+    let ended = top(&rt, alloc, &command, &mut source, &mut sink);
     assert_eq!(rt; ended.status, 0);
     assert!(rt; sink.bytes().starts_with(b"mako 1\nservers 4\n"));
     let fails = Vec::from_slice(alloc, &[2])?;
@@ -110,15 +110,30 @@ fn prints_a_workload(rt: HostRuntime) -> Result<(), Fail> {
 }
 
 #[test]
+fn counts_by_words(rt: HostRuntime) -> Result<(), Fail> {
+    let alloc = rt.alloc();
+    let command = words(alloc, &["count", "3"])?;
+    let mut source = SoundSource::new(Vec::new(alloc));
+    let mut sink = SoundSink::new(alloc, 100)?;
+    let ended = top(&rt, alloc, &command, &mut source, &mut sink);
+    assert_eq!(rt; ended.status, 0);
+    assert_eq!(rt; sink.bytes(), b"handled 48\n".as_slice());
+    Ok(())
+}
+
+#[test]
 fn refuses_words(rt: HostRuntime) -> Result<(), Fail> {
     let alloc = rt.alloc();
-    let cases: [&[&str]; 12] = [
+    let cases: [&[&str]; 15] = [
         &["replay", "turns", "1000000001"],
         &["replay", "18446744073709551616", "5"],
         &["replay", "turns", "+5"],
         &["gen", "1", "0"],
         &["gen", "1", "4097"],
         &["gen", "01", "1"],
+        &["count", "0"],
+        &["count", "65"],
+        &["count", "3", "4"],
         &["replay", "fast", "5"],
         &["replay", "turns"],
         &["replay", "turns", "05"],
@@ -130,7 +145,7 @@ fn refuses_words(rt: HostRuntime) -> Result<(), Fail> {
         let given = words(alloc, texts)?;
         let mut source = SoundSource::new(Vec::new(alloc));
         let mut sink = SoundSink::new(alloc, 100)?;
-        let ended = top(alloc, &given, &mut source, &mut sink);
+        let ended = top(&rt, alloc, &given, &mut source, &mut sink);
         assert_eq!(rt; ended.status, 1);
         assert_eq!(rt; sink.bytes(), b"usage\n".as_slice());
     }
