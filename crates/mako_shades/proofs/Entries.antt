@@ -114,12 +114,13 @@ module _ (n : Numbers) (w : Facts) (words : List ℕ) (facets : List TraceFacet)
     marks = moved mark_act k.tracing
         (record { grown = sym (append-nil history); legal = k.legal; still = refl; here = here }) (record {
           slots = λ y s. inl (slot_stays n words x.entry v within y s);
-          held = λ y grey. inl (⊎_elim (λ in_hand. inl (subst (λ (g : Hand). InHand g y) hand in_hand)) (λ o. inr o) grey);
+          held = λ y grey.
+              inl (⊎_elim (λ in_hand. inl (subst (λ (g : Hand). InHand g y) hand in_hand)) (λ o. inr o) grey);
           marks = mark_stays;
           addresses = mark_address;
           new_slots = λ y s. inl (slot_stayed n words x.entry v within y s);
-          new_held = λ y grey. inl (⊎_elim (λ same. inl (subst (λ (g : Hand). InHand g y) (sym hand) same)) (λ o. inr o)
-              grey);
+          new_held = λ y grey. inl (⊎_elim (λ same. inl (subst (λ (g : Hand). InHand g y) (sym hand) same))
+              (λ o. inr o) grey);
           new_marks = mark_new;
           keeps = λ y none. absurd none;
           holds = λ object field y snap holds. inr holds;
@@ -214,8 +215,7 @@ module _ (n : Numbers) (w : Facts) (words : List ℕ) (facets : List TraceFacet)
         (record {
           grown = refl;
           legal = made_legal;
-          still = replied_snaps w history m (call.New root count)
-              (reply.Made x);
+          still = replied_snaps w history m (call.New root count) (reply.Made x);
           here = here;
         }) (record {
           slots = λ y s. inl (slot_stays n words x.entry v within y s);

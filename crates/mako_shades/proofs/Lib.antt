@@ -4,6 +4,8 @@ pub mod Completes
 pub mod Entries
 pub mod General
 pub mod Goods
+pub mod Heaps
+pub mod Linked
 pub mod Lists
 pub mod Moves
 pub mod Mutators

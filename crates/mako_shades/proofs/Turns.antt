@@ -248,8 +248,8 @@ module _ (n : Numbers) (w : Facts) (words : List ℕ) (facets : List TraceFacet)
     pub looks_up : (x : Name) (e : EntryWord) → job.hand ≡ considering x
         → TracingHolds n w words (set facets seat (serving (record job { hand = marking x e }))) history cycle
     looks_up x e hand = turned (serving job) (serving (record job { hand = marking x e })) here (record {
-      held = λ y grey. inl (⊎_elim (λ in_hand. inl (subst (λ (g : Hand). InHand g y) hand in_hand)) (λ out. inr out)
-          grey);
+      held = λ y grey. inl (⊎_elim (λ in_hand. inl (subst (λ (g : Hand). InHand g y) hand in_hand))
+          (λ out. inr out) grey);
       new_held = λ y grey. inl (⊎_elim (λ same. inl (subst (λ (g : Hand). InHand g y) (sym hand) same))
           (λ out. inr out) grey);
       keeps = λ y none. absurd none;
@@ -273,7 +273,8 @@ module _ (n : Numbers) (w : Facts) (words : List ℕ) (facets : List TraceFacet)
               ⊎_elim
               (λ c. ⊎_elim (λ p. inl (inl p))
               (λ on_stack. ⊎_elim (λ still. inl (inr still)) (λ top. inr (inl top))
-              (Contains-push_cases rest e object.entry (subst (λ (s : List ℕ). Contains s object.entry) stack on_stack))) c)
+              (Contains-push_cases rest e object.entry
+              (subst (λ (s : List ℕ). Contains s object.entry) stack on_stack))) c)
               (λ c. ⊎_elim (λ taken. absurd (subst (λ (o : Off). IsOff o object.entry) none taken))
               (λ scans. inr (inr scans)) c) works);
           puts = λ object field y known. tt;
@@ -417,8 +418,8 @@ module _ (n : Numbers) (w : Facts) (words : List ℕ) (facets : List TraceFacet)
     -- a foreign name becomes the outgoing name
     pub scan_sends : (scan : Scan) (next : Option Scan) (x : Name) → job.scan ≡ Some scan → job.outgoing ≡ None
         → Loads scan (value.Ref x) → GoesOn scan next
-        → TracingHolds n w words (set facets seat (serving (record job { outgoing = Some x; scan = next }))) history
-        cycle
+        → TracingHolds n w words (set facets seat (serving (record job { outgoing = Some x; scan = next })))
+        history cycle
     scan_sends scan next x scanning none loads goes =
         turned (serving job) (serving (record job { outgoing = Some x; scan = next })) here (record {
           held = λ y grey. ⊎_elim (λ in_hand. inl (inl in_hand)) (λ out. absurd (none-some y (sym none ∙ out))) grey;

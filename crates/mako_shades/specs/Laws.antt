@@ -1,8 +1,9 @@
 -- What is true of tracing: the laws, each as a statement.
-use Rattle.std.specs.Prelude.{ℕ, Bool, ◌≡◌, ◌*◌, ◌<◌, ◌↔◌, List, [], ◌∷◌, ◌++◌, length}
+use Rattle.std.specs.Prelude.{ℕ, Bool, ◌≡◌, ◌*◌, ◌<◌, ◌≤◌, ◌^◌, ◌↔◌, List, [], ◌∷◌, ◌++◌, length}
 use Rattle.std.specs.List.{Contains}
 use Rattle.mako_words.specs.declared.name.Name.{Name}
 use Rattle.mako_shape.specs.declared.numbers.Numbers.{Numbers}
+use Rattle.mako_shape.specs.Limits.{all_entries}
 use Rattle.mako_shape.specs.Places.{total}
 use Rattle.mako_model.specs.declared.point.Point.{Point}
 use Rattle.mako_model.specs.declared.point.Point.TheVariants.{Snap}
@@ -10,10 +11,12 @@ use Rattle.mako_model.specs.Legal.{Facts, state_of, IsLegal}
 use Rattle.mako_model.specs.Dead.{names_made}
 use Rattle.mako_ring.specs.Shades.{IsMarked, IsQuiet, IsComplete}
 use Rattle.mako_ring.specs.TraceFacets.{TraceFacet, Work, pushing}
+use Rattle.mako_names.specs.Steps.{NameScene, NamesHoldIn}
+use Rattle.mako_names.specs.Tables.{IsWorkloadOf}
 use Rattle.mako_names.specs.Uses.{IsGood}
 use Rattle.mako_shades.specs.Holding.{TracingHolds, AgreeOnTrace}
 use Rattle.mako_shades.specs.Serving.{ServerStands, AreSole, Tracks}
-use Rattle.mako_shades.specs.Stands.{HeapStands, AreTraced, Retakes}
+use Rattle.mako_shades.specs.Stands.{RecordsStand, HeapStands, AreTraced, Retakes}
 use Rattle.mako_shades.specs.Steps.{IsReady, TraceScene, TraceStep, IsGathering, IsShading}
 
 -- the heap of the scene stands, as far as tracing asks for it
@@ -23,6 +26,13 @@ HeapStandsIn n w s = HeapStands n w s.words s.history
 -- what is kept of tracing in the scene
 abbrev pub TracksIn : Numbers → Facts → ℕ → TraceScene → Type 0
 TracksIn n w cycle s = Tracks n w s.words s.facets s.history cycle
+
+-- ---- what is asked
+
+-- what ties entries and names to the front is what tracing asks, but for the records
+abbrev pub NamesGiveTheHeap : Type 0
+NamesGiveTheHeap = (n : Numbers) (w : Facts) (s : NameScene) → IsWorkloadOf n w → all_entries n ≤ 2 ^ 20
+    → NamesHoldIn n w s → RecordsStand n w s.words s.front.history → HeapStands n w s.words s.front.history
 
 -- ---- what is kept
 
@@ -67,14 +77,14 @@ TracedStays = (n : Numbers) (w : Facts) (words words' : List ℕ) (history point
     → AreTraced n w words' (history ++ points) cycle
 
 -- a quiet heap stays quiet, but where the collector takes a name out of a barrier slot
-abbrev pub QuietStays : Type 0
-QuietStays = (n : Numbers) (w : Facts) (cycle : ℕ) (s after : TraceScene) → length s.words ≡ total n
+abbrev pub QuietHeapsStay : Type 0
+QuietHeapsStay = (n : Numbers) (w : Facts) (cycle : ℕ) (s after : TraceScene) → length s.words ≡ total n
     → IsQuiet n s.words s.facets → (step : TraceStep n w cycle s after) → (¬ IsGathering step)
     → IsQuiet n after.words after.facets
 
 -- a complete heap stays complete, but where a put fills its barrier slot
-abbrev pub CompleteStays : Type 0
-CompleteStays = (n : Numbers) (w : Facts) (cycle : ℕ) (s after : TraceScene) (admitted : ℕ → Bool)
+abbrev pub CompleteHeapsStay : Type 0
+CompleteHeapsStay = (n : Numbers) (w : Facts) (cycle : ℕ) (s after : TraceScene) (admitted : ℕ → Bool)
     → length s.words ≡ total n → IsComplete n s.words s.facets admitted → (step : TraceStep n w cycle s after)
     → (¬ IsShading step) → IsComplete n after.words after.facets admitted
 

@@ -1,7 +1,13 @@
 //! What holds while the servers trace a cycle, and what follows from it. The functions do nothing; what they ensure is
 //! for contracts and proofs.
 
-ghost use Rattle.mako_shades.specs.Laws.{TracingBegins, StepsKeepTracing, StepsFollow, CompleteMarksTheGood, CompleteIsTraced, TracedStays, QuietStays, CompleteStays, UnmarkedAreOld, StacksHaveRoom};
+ghost use Rattle.mako_shades.specs.Laws.{NamesGiveTheHeap, TracingBegins, StepsKeepTracing, StepsFollow, CompleteMarksTheGood, CompleteIsTraced, TracedStays, QuietHeapsStay, CompleteHeapsStay, UnmarkedAreOld, StacksHaveRoom};
+
+/// What ties entries and names to the front, with a record at the address of each object, is all that tracing asks of
+/// words and history.
+pub fn names_give_the_heap()
+    ensures { NamesGiveTheHeap }
+{}
 
 /// The snapshot of a cycle, taken where the collector has the names of all roots and nothing else is on its way, makes
 /// the tracing invariant true.
@@ -26,8 +32,8 @@ pub fn complete_tells()
 /// A quiet heap stays quiet, but where the collector takes a name out of a barrier slot. A complete one stays complete,
 /// but where a put fills its barrier slot.
 pub fn rest_stays()
-    ensures quiet { QuietStays }
-    ensures complete { CompleteStays }
+    ensures quiet { QuietHeapsStay }
+    ensures complete { CompleteHeapsStay }
 {}
 
 /// A name that a server marks was made before the snapshot, and the server's stack has room for it.
