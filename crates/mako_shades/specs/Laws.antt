@@ -1,5 +1,5 @@
 -- What is true of tracing: the laws, each as a statement.
-use Rattle.std.specs.Prelude.{ℕ, Bool, ◌≡◌, ◌*◌, ◌<◌, ◌≤◌, ◌^◌, ◌↔◌, List, [], ◌∷◌, ◌++◌, length}
+use Rattle.std.specs.Prelude.{ℕ, Bool, ◌≡◌, ◌*◌, ◌<◌, ◌≤◌, ◌^◌, ◌↔◌, List, [], ◌∷◌, ◌++◌, length, slice_set}
 use Rattle.std.specs.List.{Contains}
 use Rattle.mako_words.specs.declared.name.Name.{Name}
 use Rattle.mako_shape.specs.declared.numbers.Numbers.{Numbers}
@@ -53,6 +53,11 @@ abbrev pub StepsFollow : Type 0
 StepsFollow = (n : Numbers) (w : Facts) (cycle : ℕ) (s mid after : TraceScene) → HeapStandsIn n w s
     → HeapStandsIn n w mid → TracksIn n w cycle s → TraceStep n w cycle s mid → TraceStep n w cycle mid after
     → TracksIn n w cycle after
+
+-- of two facets that a seat gets one after the other the last counts
+abbrev pub LastFacetsCount : Type 0
+LastFacetsCount = (facets : List TraceFacet) (seat : ℕ) (f g : TraceFacet)
+    → slice_set (slice_set facets seat f) seat g ≡ slice_set facets seat g
 
 -- ---- what it comes to
 

@@ -1,7 +1,7 @@
 //! What holds while the servers trace a cycle, and what follows from it. The functions do nothing; what they ensure is
 //! for contracts and proofs.
 
-ghost use Rattle.mako_shades.specs.Laws.{NamesGiveTheHeap, TracingBegins, StepsKeepTracing, StepsFollow, CompleteMarksTheGood, CompleteIsTraced, TracedStays, QuietHeapsStay, CompleteHeapsStay, UnmarkedAreOld, StacksHaveRoom};
+ghost use Rattle.mako_shades.specs.Laws.{NamesGiveTheHeap, TracingBegins, StepsKeepTracing, StepsFollow, LastFacetsCount, CompleteMarksTheGood, CompleteIsTraced, TracedStays, QuietHeapsStay, CompleteHeapsStay, UnmarkedAreOld, StacksHaveRoom};
 
 /// What ties entries and names to the front, with a record at the address of each object, is all that tracing asks of
 /// words and history.
@@ -15,10 +15,12 @@ pub fn tracing_begins()
     ensures { TracingBegins }
 {}
 
-/// Each kind of step keeps it, for any number of mutators and servers; and so do two kinds in one atomic step.
+/// Each kind of step keeps it, for any number of mutators and servers; and so do two kinds in one atomic step, of which
+/// the last says what the seat comes to.
 pub fn tracing_is_kept()
     ensures steps { StepsKeepTracing }
     ensures follow { StepsFollow }
+    ensures last { LastFacetsCount }
 {}
 
 /// Where the heap is complete, the marked names are exactly the good ones, and each taken entry is told to be that of a
