@@ -2,6 +2,7 @@ pub mod AllSteps
 pub mod Chains
 pub mod Completes
 pub mod Entries
+pub mod ForNames
 pub mod General
 pub mod Goods
 pub mod Heaps

@@ -1,4 +1,4 @@
--- Steps that tracing reads only through the history: what it does not read at all, deciding points, and the store of a field.
+-- Steps that tracing reads through the history alone: what it does not read, deciding points, and the store of a field.
 use Rattle.std.proofs.Common.{◌≡◌, ℕ, ◌<◌, ◌⊎◌, inl, inr, ⊎_elim, List, [], ◌∷◌, ◌++◌, Contains, flat_map, length, set, slice_get, Some, sym, ap, subst, refl, ◌∙◌, append-nil, append_assoc}
 use Rattle.std.proofs.lemmas.Bool.{cases_eq}
 use Rattle.std.proofs.lemmas.Option.{same_Some}

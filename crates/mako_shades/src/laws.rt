@@ -1,7 +1,7 @@
 //! What holds while the servers trace a cycle, and what follows from it. The functions do nothing; what they ensure is
 //! for contracts and proofs.
 
-ghost use Rattle.mako_shades.specs.Laws.{NamesGiveTheHeap, TracingBegins, StepsKeepTracing, StepsFollow, LastFacetsCount, CompleteMarksTheGood, CompleteIsTraced, TracedStays, QuietHeapsStay, CompleteHeapsStay, UnmarkedAreOld, StacksHaveRoom};
+ghost use Rattle.mako_shades.specs.Laws.{NamesGiveTheHeap, TracingBegins, StepsKeepTracing, StepsFollow, LastFacetsCount, CompleteMarksTheGood, CompleteIsTraced, TracedStays, QuietHeapsStay, CompleteHeapsStay, UnmarkedAreOld, StacksHaveRoom, SlotNamesAreGood, HeldNamesAreGood, EpochsAreTraced, CompleteMarksAll, TracedGiveEpochs};
 
 /// What ties entries and names to the front, with a record at the address of each object, is all that tracing asks of
 /// words and history.
@@ -42,4 +42,15 @@ pub fn rest_stays()
 pub fn servers_tell()
     ensures old { UnmarkedAreOld }
     ensures room { StacksHaveRoom }
+{}
+
+/// What the ties of names rest on while a cycle is traced: the names in slots and those that seats hold are good,
+/// epochs are as they have to be, and where the heap is complete each name that was reachable at the snapshot has the
+/// epoch. What is told of taken entries is what they rest on afterwards.
+pub fn tracing_gives_names()
+    ensures slots { SlotNamesAreGood }
+    ensures held { HeldNamesAreGood }
+    ensures epochs { EpochsAreTraced }
+    ensures all { CompleteMarksAll }
+    ensures traced { TracedGiveEpochs }
 {}
