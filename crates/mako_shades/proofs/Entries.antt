@@ -21,10 +21,9 @@ use Rattle.mako_ring.specs.Shades.{entry_of, IsMarked}
 use Rattle.mako_ring.specs.TraceFacets.{Hand, marking, pushing, Work, TraceFacet, apart, serving, InHand, IsPushing}
 use Rattle.mako_names.specs.Uses.{IsGood}
 use Rattle.mako_shades.specs.Holding.{HoldsName, TracingHolds}
-use Rattle.mako_shades.proofs.General.{Holding}
 use Rattle.mako_shades.proofs.Goods.{replied_snaps, fresh_good}
 use Rattle.mako_shades.proofs.Words.{marked_same, slot_stays, slot_stayed, entry_written}
-use Rattle.mako_shades.proofs.General.{Act}
+use Rattle.mako_shades.proofs.General.{Holding, Act}
 use Rattle.mako_shades.proofs.Moves.{moved}
 use Rattle.mako_shades.proofs.Turns.{no_member, good_held}
 use Rattle.mako_shades.proofs.Lists.{set_again}

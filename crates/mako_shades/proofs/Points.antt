@@ -28,10 +28,9 @@ use Rattle.mako_ring.specs.TraceFacets.{TraceFacet, apart, storing, GreyIn, Work
 use Rattle.mako_names.specs.Uses.{IsGood}
 use Rattle.mako_shades.specs.Holding.{HoldsName, TracingHolds, AgreeOnTrace}
 use Rattle.mako_shades.specs.Steps.{LeavesObjects}
-use Rattle.mako_shades.proofs.General.{Holding}
 use Rattle.mako_shades.proofs.Goods.{SameSnaps, good_stays, replied_snaps}
 use Rattle.mako_shades.proofs.Words.{marked_same, slot_agrees, slot_agreed}
-use Rattle.mako_shades.proofs.General.{Act, AtSnap, put_more, marked_cases}
+use Rattle.mako_shades.proofs.General.{Holding, Act, AtSnap, put_more, marked_cases}
 use Rattle.mako_shades.proofs.Turns.{no_member, plain}
 
 -- ---- what changes no facet

@@ -23,10 +23,9 @@ use Rattle.mako_ring.specs.Shades.{entry_of, IsMarked, IsShaded}
 use Rattle.mako_ring.specs.TraceFacets.{Hand, empty, considering, marking, pushing, Off, nothing, popped, located, Work, TraceFacet, apart, looking, storing, swapping, serving, InHand, IsPushing, IsOff, ScanAwaits, GreyIn, WorksOn}
 use Rattle.mako_names.specs.Uses.{IsGood}
 use Rattle.mako_shades.specs.Holding.{HoldsName, Keeps, PutKnows, TracingHolds}
-use Rattle.mako_shades.proofs.General.{Holding}
 use Rattle.mako_shades.proofs.Goods.{root_good, field_good}
 use Rattle.mako_shades.proofs.Words.{marked_same}
-use Rattle.mako_shades.proofs.General.{Act, Before, After, Marked, NextMarked, Shaded, EverShaded, NextGood, Holds, NextHolds, AtSnap, Stands}
+use Rattle.mako_shades.proofs.General.{Holding, Act, Before, After, Marked, NextMarked, Shaded, EverShaded, NextGood, Holds, NextHolds, AtSnap, Stands}
 use Rattle.mako_shades.proofs.Moves.{Slot, NextSlot, address, moved}
 
 pub no_member : {A : Type 0} (x : A) → Contains [] x → ⊥
