@@ -21,10 +21,9 @@ use Rattle.mako_ring.specs.Shades.{entry_of, IsMarked}
 use Rattle.mako_ring.specs.TraceFacets.{Hand, marking, pushing, Work, TraceFacet, apart, serving, InHand, IsPushing}
 use Rattle.mako_names.specs.Uses.{IsGood}
 use Rattle.mako_shades.specs.Holding.{HoldsName, TracingHolds}
-use Rattle.mako_shades.proofs.General.{Holding}
 use Rattle.mako_shades.proofs.Goods.{replied_snaps, fresh_good}
 use Rattle.mako_shades.proofs.Words.{marked_same, slot_stays, slot_stayed, entry_written}
-use Rattle.mako_shades.proofs.General.{Act}
+use Rattle.mako_shades.proofs.General.{Holding, Act}
 use Rattle.mako_shades.proofs.Moves.{moved}
 use Rattle.mako_shades.proofs.Turns.{no_member, good_held}
 use Rattle.mako_shades.proofs.Lists.{set_again}
@@ -114,12 +113,13 @@ module _ (n : Numbers) (w : Facts) (words : List ℕ) (facets : List TraceFacet)
     marks = moved mark_act k.tracing
         (record { grown = sym (append-nil history); legal = k.legal; still = refl; here = here }) (record {
           slots = λ y s. inl (slot_stays n words x.entry v within y s);
-          held = λ y grey. inl (⊎_elim (λ in_hand. inl (subst (λ (g : Hand). InHand g y) hand in_hand)) (λ o. inr o) grey);
+          held = λ y grey.
+              inl (⊎_elim (λ in_hand. inl (subst (λ (g : Hand). InHand g y) hand in_hand)) (λ o. inr o) grey);
           marks = mark_stays;
           addresses = mark_address;
           new_slots = λ y s. inl (slot_stayed n words x.entry v within y s);
-          new_held = λ y grey. inl (⊎_elim (λ same. inl (subst (λ (g : Hand). InHand g y) (sym hand) same)) (λ o. inr o)
-              grey);
+          new_held = λ y grey. inl (⊎_elim (λ same. inl (subst (λ (g : Hand). InHand g y) (sym hand) same))
+              (λ o. inr o) grey);
           new_marks = mark_new;
           keeps = λ y none. absurd none;
           holds = λ object field y snap holds. inr holds;
@@ -214,8 +214,7 @@ module _ (n : Numbers) (w : Facts) (words : List ℕ) (facets : List TraceFacet)
         (record {
           grown = refl;
           legal = made_legal;
-          still = replied_snaps w history m (call.New root count)
-              (reply.Made x);
+          still = replied_snaps w history m (call.New root count) (reply.Made x);
           here = here;
         }) (record {
           slots = λ y s. inl (slot_stays n words x.entry v within y s);

@@ -2,8 +2,11 @@ pub mod AllSteps
 pub mod Chains
 pub mod Completes
 pub mod Entries
+pub mod ForNames
 pub mod General
 pub mod Goods
+pub mod Heaps
+pub mod Linked
 pub mod Lists
 pub mod Moves
 pub mod Mutators

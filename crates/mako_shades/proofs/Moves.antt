@@ -49,8 +49,7 @@ module _ (a : Act) (t : Before a) (s : Stands a) where
   held_here x grey = record {
     seat = a.seat;
     facet = a.next_facet;
-    at = get_set_same a.facets a.seat a.next_facet
-        a.facet s.here;
+    at = get_set_same a.facets a.seat a.next_facet a.facet s.here;
     grey = grey;
   }
 
@@ -62,8 +61,7 @@ module _ (a : Act) (t : Before a) (s : Stands a) where
       (λ other. inr (record {
         seat = h.seat;
         facet = h.facet;
-        at = get_set_other a.facets a.seat h.seat a.next_facet
-            other ∙ h.at;
+        at = get_set_other a.facets a.seat h.seat a.next_facet other ∙ h.at;
         grey = h.grey;
       }))
       (cases_eq h.seat a.seat)
@@ -79,8 +77,7 @@ module _ (a : Act) (t : Before a) (s : Stands a) where
   works_here object field works = record {
     seat = a.seat;
     facet = a.next_facet;
-    at = get_set_same a.facets a.seat
-        a.next_facet a.facet s.here;
+    at = get_set_same a.facets a.seat a.next_facet a.facet s.here;
     works = works;
   }
 

@@ -24,9 +24,9 @@ use Rattle.mako_ring.specs.Shades.{entry_of}
 use Rattle.mako_ring.specs.TraceFacets.{Hand, empty, considering, marking, pushing, TraceFacet, apart, looking, storing, serving, collecting, InHand}
 use Rattle.mako_names.specs.Tables.{IsTaken}
 use Rattle.mako_shades.specs.Holding.{AgreeOnTrace}
-use Rattle.mako_shades.specs.Serving.{HandStands, StandOnce, HandIsFresh, OffStands, ScanStands, SeatStands, ServerIs, AreSole, AreServing, Tracks}
+use Rattle.mako_shades.specs.Serving.{HandStands, StandOnce, HandIsFresh, OffStands, ScanFits, SeatTracks, ServerIs, AreSole, AreServing, Tracks}
 use Rattle.mako_shades.specs.Stands.{HeapStands, SizesStay, SameEntries}
-use Rattle.mako_shades.specs.Steps.{IsAtRest, IsReady, IsPlain}
+use Rattle.mako_shades.specs.Steps.{IsAtRest, IsReady, LeavesObjects}
 use Rattle.mako_shades.proofs.Goods.{root_good}
 use Rattle.mako_shades.proofs.Words.{entries_same, entry_written, marked_same, slot_is_traced}
 use Rattle.mako_shades.proofs.Taken.{taken_word, marked_taken}
@@ -47,7 +47,7 @@ module _ (n : Numbers) (w : Facts) (words : List ℕ) (facets : List TraceFacet)
   -- one facet changes that is no server's, and no entry
   moved_on : (words' : List ℕ) (history' : List Point) (seat : ℕ) (f g : TraceFacet) → SameEntries n words words'
       → SizesStay (state_of w history) (state_of w history') → slice_get facets seat ≡ Some f
-      → ((s : ℕ) → ServerIs g s → ⊥) → SeatStands n w words' history' cycle g
+      → ((s : ℕ) → ServerIs g s → ⊥) → SeatTracks n w words' history' cycle g
       → AreServing n w words' (set facets seat g) history' cycle
   moved_on words' history' seat f g same sizes here none stands =
       serving_on n w words words' history history' cycle (leaves_entries n w words words' history history' cycle same
@@ -76,7 +76,7 @@ module _ (n : Numbers) (w : Facts) (words : List ℕ) (facets : List TraceFacet)
 
   -- a deciding point that changes no object
   pub decides : (words' : List ℕ) → AgreeOnTrace n words words' → (m : ℕ) (c : Call) (r : Reply)
-      → IsLawful (state_of w history) (Did m c r) → IsPlain c r
+      → IsLawful (state_of w history) (Did m c r) → LeavesObjects c r
       → Tracks n w words' facets (history ++ Did m c r ∷ []) cycle
   decides words' agree m c r lawful plain = record {
     tracing = plain_point n w words words' facets history cycle (holding n w words facets history cycle st t) agree m
@@ -231,12 +231,12 @@ module _ (n : Numbers) (w : Facts) (words : List ℕ) (facets : List TraceFacet)
       publish_hand (marking y e) stands = ap entry_at (taken_else y stands.0)
       publish_hand (pushing y) stands = tt
 
-      publish_kept : (f : TraceFacet) → SeatStands n w words history cycle f → SeatKept n words publish_words f
+      publish_kept : (f : TraceFacet) → SeatTracks n w words history cycle f → SeatKept n words publish_words f
       publish_kept (serving job) stands = publish_hand job.hand stands.hand
       publish_kept f stands = tt
 
-      pub mutator_makes : Tracks n w publish_words facets (history ++ Did m (call.New root count) (reply.Made x) ∷ [])
-          cycle
+      pub mutator_makes : Tracks n w publish_words facets
+          (history ++ Did m (call.New root count) (reply.Made x) ∷ []) cycle
       mutator_makes = record {
         tracing = publishes n w words facets history cycle (holding n w words facets history cycle st t) seat here m
             root count x has fresh within free v taken generation epoch;
@@ -249,7 +249,7 @@ module _ (n : Numbers) (w : Facts) (words : List ℕ) (facets : List TraceFacet)
 
 -- a server at rest keeps nothing
 rest_stands : (n : Numbers) (w : Facts) (words : List ℕ) (history : List Point) (cycle : ℕ) (f : TraceFacet)
-    → IsAtRest f → SeatStands n w words history cycle f
+    → IsAtRest f → SeatTracks n w words history cycle f
 rest_stands n w words history cycle (serving job) rest = record {
   own = λ x is. absurd (subst (λ (g : Hand). InHand g x) rest.0 is);
   hand = subst (HandStands n words cycle) (sym rest.0) tt;
@@ -258,7 +258,7 @@ rest_stands n w words history cycle (serving job) rest = record {
   mine = λ e on. absurd (no_member e (subst (λ (s : List ℕ). Contains s e) rest.2 on));
   once = subst StandOnce (sym rest.2) tt;
   off = subst (OffStands n words cycle) (sym rest.3) tt;
-  scan = subst (ScanStands n w words history cycle) (sym rest.4) tt;
+  scan = subst (ScanFits n w words history cycle) (sym rest.4) tt;
 }
 rest_stands n w words history cycle f rest = tt
 
@@ -282,7 +282,7 @@ collector_snaps n w words words' facets history cycle seat names legal ready sol
       serving = record {
         each = λ other f at.
             ⊎_elim
-            (λ e. subst (SeatStands n w words' (history ++ Snap cycle ∷ []) cycle)
+            (λ e. subst (SeatTracks n w words' (history ++ Snap cycle ∷ []) cycle)
             (sym (same_Some f (collecting names) (sym at ∙ ap (slice_get facets) e ∙ ready.here))) tt)
             (λ ne. rest_stands n w words' (history ++ Snap cycle ∷ []) cycle f (ready.others other f at ne))
             (cases_eq other seat);

@@ -1,4 +1,4 @@
--- Steps that tracing reads only through the history: what it does not read at all, deciding points, and the store of a field.
+-- Steps that tracing reads through the history alone: what it does not read, deciding points, and the store of a field.
 use Rattle.std.proofs.Common.{◌≡◌, ℕ, ◌<◌, ◌⊎◌, inl, inr, ⊎_elim, List, [], ◌∷◌, ◌++◌, Contains, flat_map, length, set, slice_get, Some, sym, ap, subst, refl, ◌∙◌, append-nil, append_assoc}
 use Rattle.std.proofs.lemmas.Bool.{cases_eq}
 use Rattle.std.proofs.lemmas.Option.{same_Some}
@@ -27,11 +27,10 @@ use Rattle.mako_ring.specs.Shades.{entry_of, IsMarked, IsShaded, IsWaiting}
 use Rattle.mako_ring.specs.TraceFacets.{TraceFacet, apart, storing, GreyIn, WorksOn}
 use Rattle.mako_names.specs.Uses.{IsGood}
 use Rattle.mako_shades.specs.Holding.{HoldsName, TracingHolds, AgreeOnTrace}
-use Rattle.mako_shades.specs.Steps.{IsPlain}
-use Rattle.mako_shades.proofs.General.{Holding}
+use Rattle.mako_shades.specs.Steps.{LeavesObjects}
 use Rattle.mako_shades.proofs.Goods.{SameSnaps, good_stays, replied_snaps}
 use Rattle.mako_shades.proofs.Words.{marked_same, slot_agrees, slot_agreed}
-use Rattle.mako_shades.proofs.General.{Act, AtSnap, put_more, marked_cases}
+use Rattle.mako_shades.proofs.General.{Holding, Act, AtSnap, put_more, marked_cases}
 use Rattle.mako_shades.proofs.Turns.{no_member, plain}
 
 -- ---- what changes no facet
@@ -86,8 +85,7 @@ module _ (n : Numbers) (w : Facts) (words words' : List ℕ) (facets : List Trac
         → HoldsName (state_of w (history ++ points)) object field x
     framed_holds object field x holds = record {
       fields = holds.fields;
-      object_is = fields_stay object ∙
-          holds.object_is;
+      object_is = fields_stay object ∙ holds.object_is;
       field_is = holds.field_is;
     }
 
@@ -115,7 +113,7 @@ module _ (n : Numbers) (w : Facts) (words words' : List ℕ) (facets : List Trac
 
 -- ---- deciding points that change no object
 
-plain_fields : (h : Heap) (m : ℕ) (c : Call) (r : Reply) (x : Name) → IsPlain c r
+plain_fields : (h : Heap) (m : ℕ) (c : Call) (r : Reply) (x : Name) → LeavesObjects c r
     → fields_of (heap_replied h m c r) x ≡ fields_of h x
 plain_fields h m (call.New root fields) (reply.Made name) x is = absurd is
 plain_fields h m (call.Num root x) (reply.Value v) y is = refl
@@ -125,7 +123,7 @@ plain_fields h m (call.Get to from field) (reply.Value v) x is = refl
 plain_fields h m (call.Put to field from) reply.Done x is = absurd is
 plain_fields h m c r x is = refl
 
-plain_makes_none : (m : ℕ) (c : Call) (r : Reply) → IsPlain c r → made_by (Did m c r) ≡ []
+plain_makes_none : (m : ℕ) (c : Call) (r : Reply) → LeavesObjects c r → made_by (Did m c r) ≡ []
 plain_makes_none m c (reply.Made x) is = absurd is
 plain_makes_none m c r is = refl
 
@@ -133,7 +131,7 @@ plain_makes_none m c r is = refl
 pub plain_point : (n : Numbers) (w : Facts) (words words' : List ℕ) (facets : List TraceFacet) (history : List Point)
     (cycle : ℕ) → Holding n w words facets history cycle
     → AgreeOnTrace n words words' → (m : ℕ) (c : Call) (r : Reply) → IsLawful (state_of w history) (Did m c r)
-    → IsPlain c r
+    → LeavesObjects c r
     → TracingHolds n w words' facets (history ++ Did m c r ∷ []) cycle
 plain_point n w words words' facets history cycle k agree m c r lawful is =
     framed n w words words' facets history cycle agree (Did m c r ∷ []) (legal_push w history (Did m c r) k.legal
@@ -214,8 +212,7 @@ module _ (n : Numbers) (w : Facts) (words words' : List ℕ) (facets : List Trac
         })
         (λ t. record {
           fields = holds.fields;
-          object_is = fields_other (state_of w history) object
-              (set fields field v) on t.0 ∙ holds.object_is;
+          object_is = fields_other (state_of w history) object (set fields field v) on t.0 ∙ holds.object_is;
           field_is = holds.field_is;
         })
         (name_cases on object))

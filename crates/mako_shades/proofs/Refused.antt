@@ -12,19 +12,18 @@ use Rattle.mako_model.specs.declared.reply.Reply.{Reply}
 use Rattle.mako_model.specs.declared.reply.Reply.TheVariants as reply
 use Rattle.mako_model.specs.declared.point.Point.{Point}
 use Rattle.mako_model.specs.declared.point.Point.TheVariants.{Did, Snap}
-use Rattle.mako_model.specs.Heaps.{Heap, board_name, fields_of}
-use Rattle.mako_model.specs.Lawful.{RefersTo, heap_after}
-use Rattle.mako_model.specs.Legal.{state_of, opening_of}
+use Rattle.mako_model.specs.Examples.{one}
+use Rattle.mako_model.specs.Heaps.{board_name}
+use Rattle.mako_model.specs.Legal.{state_of}
 use Rattle.mako_model.specs.Reachable.{StandsInRoot, IsReachable}
-use Rattle.mako_model.proofs.Changes.{put_writes}
-use Rattle.mako_model.proofs.Lookups.{fields_same, fields_other}
-use Rattle.mako_ring.specs.Shades.{entry_of, IsMarked, IsHeld, IsGrey, IsShaded}
+use Rattle.mako_ring.specs.Shades.{entry_of, IsHeld, IsGrey, IsShaded}
 use Rattle.mako_ring.specs.TraceFacets.{TraceFacet, apart, serving, collecting, IsIdle}
-use Rattle.mako_shades.specs.Examples.{small, small_facts, small_words, small_history, words_with, stacked, one, forgetful_seats, inventive_seats, hasty_seats, words_too_soon, linking, linked_history, linked_words}
+use Rattle.mako_shades.specs.Examples.{small, small_facts, small_words, small_history, words_with, stacked, forgetful_seats, inventive_seats, hasty_seats, words_too_soon, linking, linked_history, linked_words}
 use Rattle.mako_shades.specs.Holding.{HoldsName, TracingHolds}
 use Rattle.mako_shades.specs.Serving.{Tracks}
 use Rattle.mako_shades.specs.Stands.{HeapStands}
-use Rattle.mako_shades.proofs.SmallHeap.{first_entry, second_entry, board_only, bare, not_one, slots_empty, small_unmarked}
+use Rattle.mako_shades.proofs.Linked.{not_the_board, board_holds, board_marked, marked_alone}
+use Rattle.mako_shades.proofs.SmallHeap.{first_entry, second_entry, board_only, not_one, slots_empty, small_unmarked}
 use Rattle.mako_shades.proofs.Snapshots.{idle_not_grey, idle_not_working}
 use Rattle.mako_shades.proofs.Taken.{is_taken}
 use Rattle.mako_shades.proofs.Words.{no_zero_name}
@@ -81,9 +80,6 @@ not_forgotten t =
 
 -- ---- where there is a name too many
 
-not_the_board : board_name ≡ one → ⊥
-not_the_board e = not_one board_name.entry refl (ap (λ (x : Name). x.entry) e)
-
 -- a pending name is good, and so it was made
 pub not_unmade : ¬ TracingHolds small small_facts small_words inventive_seats small_history 1
 not_unmade t =
@@ -112,44 +108,14 @@ not_too_soon st =
 
 -- ---- where an object is passed over
 
-abbrev made_heap : Heap
-made_heap = heap_after (opening_of small_facts) (Did 0 (call.New 1 0) (reply.Made one))
-
-board_at_first : RefersTo made_heap 0 0 board_name (value.Null ∷ [])
-board_at_first = record {
-  root_is = refl;
-  fields_are = fields_other (opening_of small_facts) one [] board_name not_the_board
-      ∙ fields_same bare board_name (value.Null ∷ []);
-}
-
--- the board's field names the object
-board_linked : fields_of (state_of small_facts linking) board_name ≡ Some (value.Ref one ∷ [])
-board_linked =
-    ap (λ (h : Heap). fields_of h board_name)
-    (put_writes made_heap 0 0 0 1 board_name (value.Null ∷ []) (value.Ref one) board_at_first refl)
-    ∙ fields_same made_heap board_name (value.Ref one ∷ [])
-
 board_reached : IsReachable (state_of small_facts linking) board_name
 board_reached = record { first = board_name; path = []; in_root = (0, 0, refl); leads = refl }
 
-board_holds : HoldsName (state_of small_facts linking) board_name 0 one
-board_holds = record { fields = value.Ref one ∷ []; object_is = board_linked; field_is = refl }
-
-board_marked : IsMarked small linked_words 1 board_name
-board_marked =
-    let entry_is = first_entry (2 ^ 63 + 2 ^ 23 + 19) (2 ^ 63 + 21) (value_word (value.Ref one)) in record {
-      in_range = omega arith;
-      taken = ap (λ (k : ℕ). (entry_at k).taken) entry_is;
-      generation = ap (λ (k : ℕ). (entry_at k).generation) entry_is;
-      epoch = ap (λ (k : ℕ). (entry_at k).epoch) entry_is;
-    }
-
 one_unshaded : IsShaded small linked_words forgetful_seats 1 one → ⊥
 one_unshaded shaded =
-    let entry_is = second_entry (2 ^ 63 + 2 ^ 23 + 19) (2 ^ 63 + 21) (value_word (value.Ref one)) in
-    ⊎_elim (λ grey. none_grey (2 ^ 63 + 2 ^ 23 + 19) (2 ^ 63 + 21) (value_word (value.Ref one)) one grey)
-    (λ marked. not_one (entry_of small linked_words 1).epoch (ap (λ (k : ℕ). (entry_at k).epoch) entry_is)
-    marked.epoch) shaded
+    ⊎_elim
+    (λ grey. none_grey (2 ^ 63 + 2 ^ 23 + 19) (2 ^ 63 + 21) (value_word (value.Ref one)) one grey)
+    (λ marked. not_the_board (marked_alone one marked)) shaded
 
 -- the name in the board's field is not shaded, and the field is not waiting
 pub not_passed_over : ¬ TracingHolds small small_facts linked_words forgetful_seats linked_history 1

@@ -25,7 +25,7 @@ use Rattle.mako_ring.specs.Shades.{entry_of, IsMarked, IsShadeSlot}
 use Rattle.mako_ring.specs.TraceFacets.{Hand, empty, considering, marking, pushing, nothing, popped, located, Work, TraceFacet, serving, InHand}
 use Rattle.mako_names.specs.Tables.{IsTaken}
 use Rattle.mako_names.specs.Uses.{IsGood}
-use Rattle.mako_shades.specs.Serving.{IsEntryMarked, HandStands, StandOnce, HandIsFresh, OffStands, IsScan, ScanStands, ServerStands, SeatStands, AreServing, Tracks}
+use Rattle.mako_shades.specs.Serving.{IsEntryMarked, HandStands, StandOnce, HandIsFresh, OffStands, IsScan, ScanFits, ServerStands, SeatTracks, AreServing, Tracks}
 use Rattle.mako_shades.specs.Stands.{HeapStands, SameEntries}
 use Rattle.mako_shades.proofs.General.{Holding}
 use Rattle.mako_shades.proofs.Words.{entries_same, entry_written}
@@ -178,7 +178,7 @@ module _ (n : Numbers) (w : Facts) (words : List ℕ) (facets : List TraceFacet)
           (entry_written n words x.entry v marking_stands.0.within st.size y.entry stands.0.within)
 
       others_kept : (other : ℕ) (f : TraceFacet) → slice_get facets other ≡ Some f → other ≢ seat
-          → SeatStands n w words history cycle f → SeatKept n words marked_words f
+          → SeatTracks n w words history cycle f → SeatKept n words marked_words f
       others_kept other (serving more) at ne stands = others_hand other more at ne more.hand refl stands.hand
       others_kept other f at ne stands = tt
 
@@ -340,8 +340,7 @@ module _ (n : Numbers) (w : Facts) (words : List ℕ) (facets : List TraceFacet)
           serving = served words
               (record job {
                 off = nothing;
-                scan = Some
-                    (record { address = address; fields = slice_index words address; next = 0 });
+                scan = Some (record { address = address; fields = slice_index words address; next = 0 });
               }) same_words refl (record {
                 own = known.own;
                 hand = known.hand;
@@ -366,7 +365,7 @@ module _ (n : Numbers) (w : Facts) (words : List ℕ) (facets : List TraceFacet)
 
     module _ (scan : Scan) (scanning : job.scan ≡ Some scan) where
       scan_stands : IsScan n w words history cycle scan
-      scan_stands = subst (ScanStands n w words history cycle) scanning known.scan
+      scan_stands = subst (ScanFits n w words history cycle) scanning known.scan
 
       -- the value that the word loaded packs
       abbrev pub loaded : Value
@@ -405,9 +404,9 @@ module _ (n : Numbers) (w : Facts) (words : List ℕ) (facets : List TraceFacet)
       next_scan = if scan.next + 1 == scan.fields then None else Some (record scan { next = scan.next + 1 })
 
       scan_next : (GoesOn n w words facets history cycle holding seat job here scan next_scan)
-          × ScanStands n w words history cycle next_scan
+          × ScanFits n w words history cycle next_scan
       scan_next = cond_both (scan.next + 1 == scan.fields) None (Some (record scan { next = scan.next + 1 }))
-          (λ s. (GoesOn n w words facets history cycle holding seat job here scan s) × ScanStands n w words history
+          (λ s. (GoesOn n w words facets history cycle holding seat job here scan s) × ScanFits n w words history
           cycle s)
           (λ last. (eqb-true (scan.next + 1) scan.fields last, tt))
           (λ more. (
@@ -419,8 +418,8 @@ module _ (n : Numbers) (w : Facts) (words : List ℕ) (facets : List TraceFacet)
               fields = scan_stands.fields;
               object_is = scan_stands.object_is;
               count = scan_stands.count;
-              below = (let below = scan_stands.below in let ne = eqb-false (scan.next + 1) scan.fields more in omega
-                  arith);
+              below = (let below = scan_stands.below in let ne = eqb-false (scan.next + 1) scan.fields more
+                  in omega arith);
             },
           ))
 
@@ -491,8 +490,8 @@ module _ (n : Numbers) (w : Facts) (words : List ℕ) (facets : List TraceFacet)
         let stay = server_stays n w words words' history history cycle (leaves_entries n w words words' history
         history cycle same (sizes_same (state_of w history)))
         job (seat_kept n w words words' history cycle same (serving job) known) known in record {
-          tracing = sends n w words facets history cycle holding seat job here x out sender receiver slot within
-              empty_slot;
+          tracing = sends n w words facets history cycle holding seat job here x out sender receiver slot
+              within empty_slot;
           serving = served words' (record job { outgoing = None }) same refl
               (record {
                 own = stay.own;

@@ -18,7 +18,7 @@ use Rattle.mako_model.proofs.Histories.{state_push}
 use Rattle.mako_ring.specs.declared.tracing.Scan.{Scan}
 use Rattle.mako_ring.specs.Shades.{entry_of, IsMarked}
 use Rattle.mako_ring.specs.TraceFacets.{Hand, empty, considering, marking, pushing, Off, nothing, popped, located, Work, TraceFacet, serving}
-use Rattle.mako_shades.specs.Serving.{IsEntryMarked, HandStands, OffStands, ScanStands, ServerStands, SeatStands, ServerIs, AreServing}
+use Rattle.mako_shades.specs.Serving.{IsEntryMarked, HandStands, OffStands, ScanFits, ServerStands, SeatTracks, ServerIs, AreServing}
 use Rattle.mako_shades.specs.Stands.{SizesStay, SameEntries}
 use Rattle.mako_shades.proofs.Words.{marked_same}
 use Rattle.mako_shades.proofs.Taken.{is_taken, taken_word, taken_generation}
@@ -85,7 +85,7 @@ hand_kept n words words' cycle same (marking x e) stands = ap entry_at (same x.e
 hand_kept n words words' cycle same (pushing x) stands = tt
 
 pub seat_kept : (n : Numbers) (w : Facts) (words words' : List ℕ) (history : List Point) (cycle : ℕ)
-    → SameEntries n words words' → (f : TraceFacet) → SeatStands n w words history cycle f → SeatKept n words words' f
+    → SameEntries n words words' → (f : TraceFacet) → SeatTracks n w words history cycle f → SeatKept n words words' f
 seat_kept n w words words' history cycle same (serving job) stands =
     hand_kept n words words' cycle same job.hand stands.hand
 seat_kept n w words words' history cycle same f stands = tt
@@ -119,7 +119,7 @@ module _ (n : Numbers) (w : Facts) (words words' : List ℕ) (history history' :
   off_stays (popped e) stands = entry_marks e stands
   off_stays (located e address) stands = (entry_marks e stands.0, stands.1 ∙ sym (entry_address e stands.0))
 
-  pub scan_stays : (s : Option Scan) → ScanStands n w words history cycle s → ScanStands n w words' history' cycle s
+  pub scan_stays : (s : Option Scan) → ScanFits n w words history cycle s → ScanFits n w words' history' cycle s
   scan_stays None stands = tt
   scan_stays (Some s) stands = let more = l.sizes stands.object stands.fields stands.object_is in record {
     object = stands.object;
@@ -156,8 +156,8 @@ module _ (n : Numbers) (w : Facts) (words words' : List ℕ) (history history' :
     scan = scan_stays job.scan stands.scan;
   }
 
-  seat_stays : (f : TraceFacet) → SeatKept n words words' f → SeatStands n w words history cycle f
-      → SeatStands n w words' history' cycle f
+  seat_stays : (f : TraceFacet) → SeatKept n words words' f → SeatTracks n w words history cycle f
+      → SeatTracks n w words' history' cycle f
   seat_stays (serving job) kept stands = server_stays job kept stands
   seat_stays f kept stands = tt
 
@@ -179,11 +179,11 @@ module _ (n : Numbers) (w : Facts) (words words' : List ℕ) (history history' :
 
       pub serving_on :
           ((other : ℕ) (e : TraceFacet) → slice_get facets other ≡ Some e → other ≢ seat → SeatKept n words words' e)
-          → SeatStands n w words' history' cycle g
+          → SeatTracks n w words' history' cycle g
           → AreServing n w words' (set facets seat g) history' cycle
       serving_on kept stands = record {
         each = λ other e at.
-            ⊎_elim (λ c. subst (SeatStands n w words' history' cycle) c.1 stands)
+            ⊎_elim (λ c. subst (SeatTracks n w words' history' cycle) c.1 stands)
             (λ c. seat_stays e (kept other e c.1 c.0) (are.each other e c.1))
             (get_set_cases facets seat other g e at);
         sole = λ i j a b s at_a at_b is_a is_b.

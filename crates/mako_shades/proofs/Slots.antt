@@ -115,7 +115,8 @@ module _ (n : Numbers) (w : Facts) (words : List ℕ) (facets : List TraceFacet)
       (set facets seat (collecting rest)) history cycle
   forwards x rest here s slot within was =
       filled (collecting (x ∷ rest)) (collecting rest) here (work s slot) tt within x
-      (good_held n w words facets history cycle k seat (collecting (x ∷ rest)) here x (Contains-append_left (x ∷ []) rest x (Contains-push [] x))) was
+      (good_held n w words facets history cycle k seat (collecting (x ∷ rest)) here x
+      (Contains-append_left (x ∷ []) rest x (Contains-push [] x))) was
       (record {
         held = λ y grey. ⊎_elim (λ first. ⊎_elim (λ none. absurd (no_member y none)) (λ same. inr same)
             (Contains-push_cases [] x y first)) (λ later. inl later)

@@ -104,8 +104,8 @@ small_stands = record {
   size = refl;
   legal = small_legal;
   fit = λ x made. subst FitsName (board_only x made) (omega arith, omega arith);
-  taken = λ x good. subst (λ (y : Name). IsTaken small small_words y.entry y.generation) (board_only x good.made)
-      board_taken;
+  taken = λ x good. subst (λ (y : Name). IsTaken small small_words y.entry y.generation)
+      (board_only x good.made) board_taken;
   made = λ x is. subst (Contains (board_name ∷ [])) (taken_board x is) (Contains-push [] board_name);
   records = small_records;
 }
@@ -169,7 +169,7 @@ server_seat (suc (suc (suc seat))) f s at is = absurd (none-some f at)
 
 pub small_tracks : Tracks small small_facts small_words small_seats small_history 1
 small_tracks =
-    collector_snaps small small_facts small_words small_words small_seats [] 1 2 (board_name ∷ []) small_legal
-    small_ready
+    collector_snaps small small_facts small_words small_words small_seats [] 1 2 (board_name ∷ [])
+    small_legal small_ready
     (λ i j f g s at_f at_g is_f is_g. server_seat i f s at_f is_f ∙ sym (server_seat j g s at_g is_g))
     (λ p traced within. refl)

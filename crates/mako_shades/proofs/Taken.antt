@@ -1,11 +1,16 @@
 -- Entries that are taken, as words say it.
-use Rattle.std.proofs.Common.{◌≡◌, ℕ, List, true}
+use Rattle.std.proofs.Common.{◌≡◌, ℕ, List, true, refl}
 use Rattle.mako_words.specs.declared.name.Name.{Name}
 use Rattle.mako_words.specs.Entries.{entry_at}
 use Rattle.mako_shape.specs.declared.numbers.Numbers.{Numbers}
 use Rattle.mako_shape.specs.Places.{entry, Within, word_at}
 use Rattle.mako_ring.specs.Shades.{IsMarked}
 use Rattle.mako_names.specs.Tables.{IsTaken, entry_of}
+
+-- an entry is what its word says
+pub entry_is : (n : Numbers) (words : List ℕ) (e : ℕ) → entry_of n words e ≡ entry_at (word_at n words (entry e))
+unfolding entry_of
+entry_is n words e = refl
 
 module _ (n : Numbers) (words : List ℕ) (e g : ℕ) where
   pub is_taken : Within n (entry e) → (entry_at (word_at n words (entry e))).taken ≡ true

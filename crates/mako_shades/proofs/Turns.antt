@@ -23,10 +23,9 @@ use Rattle.mako_ring.specs.Shades.{entry_of, IsMarked, IsShaded}
 use Rattle.mako_ring.specs.TraceFacets.{Hand, empty, considering, marking, pushing, Off, nothing, popped, located, Work, TraceFacet, apart, looking, storing, swapping, serving, InHand, IsPushing, IsOff, ScanAwaits, GreyIn, WorksOn}
 use Rattle.mako_names.specs.Uses.{IsGood}
 use Rattle.mako_shades.specs.Holding.{HoldsName, Keeps, PutKnows, TracingHolds}
-use Rattle.mako_shades.proofs.General.{Holding}
 use Rattle.mako_shades.proofs.Goods.{root_good, field_good}
 use Rattle.mako_shades.proofs.Words.{marked_same}
-use Rattle.mako_shades.proofs.General.{Act, Before, After, Marked, NextMarked, Shaded, EverShaded, NextGood, Holds, NextHolds, AtSnap, Stands}
+use Rattle.mako_shades.proofs.General.{Holding, Act, Before, After, Marked, NextMarked, Shaded, EverShaded, NextGood, Holds, NextHolds, AtSnap, Stands}
 use Rattle.mako_shades.proofs.Moves.{Slot, NextSlot, address, moved}
 
 pub no_member : {A : Type 0} (x : A) → Contains [] x → ⊥
@@ -248,8 +247,8 @@ module _ (n : Numbers) (w : Facts) (words : List ℕ) (facets : List TraceFacet)
     pub looks_up : (x : Name) (e : EntryWord) → job.hand ≡ considering x
         → TracingHolds n w words (set facets seat (serving (record job { hand = marking x e }))) history cycle
     looks_up x e hand = turned (serving job) (serving (record job { hand = marking x e })) here (record {
-      held = λ y grey. inl (⊎_elim (λ in_hand. inl (subst (λ (g : Hand). InHand g y) hand in_hand)) (λ out. inr out)
-          grey);
+      held = λ y grey. inl (⊎_elim (λ in_hand. inl (subst (λ (g : Hand). InHand g y) hand in_hand))
+          (λ out. inr out) grey);
       new_held = λ y grey. inl (⊎_elim (λ same. inl (subst (λ (g : Hand). InHand g y) (sym hand) same))
           (λ out. inr out) grey);
       keeps = λ y none. absurd none;
@@ -273,7 +272,8 @@ module _ (n : Numbers) (w : Facts) (words : List ℕ) (facets : List TraceFacet)
               ⊎_elim
               (λ c. ⊎_elim (λ p. inl (inl p))
               (λ on_stack. ⊎_elim (λ still. inl (inr still)) (λ top. inr (inl top))
-              (Contains-push_cases rest e object.entry (subst (λ (s : List ℕ). Contains s object.entry) stack on_stack))) c)
+              (Contains-push_cases rest e object.entry
+              (subst (λ (s : List ℕ). Contains s object.entry) stack on_stack))) c)
               (λ c. ⊎_elim (λ taken. absurd (subst (λ (o : Off). IsOff o object.entry) none taken))
               (λ scans. inr (inr scans)) c) works);
           puts = λ object field y known. tt;
@@ -417,8 +417,8 @@ module _ (n : Numbers) (w : Facts) (words : List ℕ) (facets : List TraceFacet)
     -- a foreign name becomes the outgoing name
     pub scan_sends : (scan : Scan) (next : Option Scan) (x : Name) → job.scan ≡ Some scan → job.outgoing ≡ None
         → Loads scan (value.Ref x) → GoesOn scan next
-        → TracingHolds n w words (set facets seat (serving (record job { outgoing = Some x; scan = next }))) history
-        cycle
+        → TracingHolds n w words (set facets seat (serving (record job { outgoing = Some x; scan = next })))
+        history cycle
     scan_sends scan next x scanning none loads goes =
         turned (serving job) (serving (record job { outgoing = Some x; scan = next })) here (record {
           held = λ y grey. ⊎_elim (λ in_hand. inl (inl in_hand)) (λ out. absurd (none-some y (sym none ∙ out))) grey;

@@ -71,8 +71,7 @@ module _ (n : Numbers) (words : List ℕ) (p : Place) (v : ℕ) (size : length w
           is_slot = s.is_slot;
           within = s.within;
           fits = s.fits;
-          word_is = t.1 ∙
-              s.word_is;
+          word_is = t.1 ∙ s.word_is;
         })
         (written s.place s.within)
 
@@ -82,8 +81,7 @@ module _ (n : Numbers) (words : List ℕ) (p : Place) (v : ℕ) (size : length w
       is_slot = slot;
       within = within;
       fits = fits;
-      word_is = word_same n words p v
-          size within ∙ is;
+      word_is = word_same n words p v size within ∙ is;
     }
 
     pub filled_was : (y : Name) → StandsInSlot n (set words (index n p) v) y → StandsInSlot n words y ⊎ (x ≡ y)
@@ -94,8 +92,7 @@ module _ (n : Numbers) (words : List ℕ) (p : Place) (v : ℕ) (size : length w
           is_slot = s.is_slot;
           within = s.within;
           fits = s.fits;
-          word_is = sym t.1
-              ∙ s.word_is;
+          word_is = sym t.1 ∙ s.word_is;
         }))
         (written s.place s.within)
 
@@ -109,8 +106,7 @@ module _ (n : Numbers) (words : List ℕ) (p : Place) (v : ℕ) (size : length w
           is_slot = s.is_slot;
           within = s.within;
           fits = s.fits;
-          word_is = t.1 ∙
-              s.word_is;
+          word_is = t.1 ∙ s.word_is;
         }))
         (written s.place s.within)
 
@@ -122,8 +118,7 @@ module _ (n : Numbers) (words : List ℕ) (p : Place) (v : ℕ) (size : length w
           is_slot = s.is_slot;
           within = s.within;
           fits = s.fits;
-          word_is = sym t.1 ∙
-              s.word_is;
+          word_is = sym t.1 ∙ s.word_is;
         })
         (written s.place s.within)
 
@@ -182,8 +177,7 @@ module _ (n : Numbers) (words : List ℕ) (e v : ℕ) (within : Within n (entry 
     is_slot = s.is_slot;
     within = s.within;
     fits = s.fits;
-    word_is = sym
-        (slot_else s.place s.is_slot s.within) ∙ s.word_is;
+    word_is = sym (slot_else s.place s.is_slot s.within) ∙ s.word_is;
   }
 
   -- an entry after the write is the one written, or another that is as before

@@ -8,6 +8,7 @@ use Rattle.mako_model.specs.declared.call.Call.TheVariants.{New, Put, DropRoot}
 use Rattle.mako_model.specs.declared.reply.Reply.TheVariants.{Made, Done}
 use Rattle.mako_model.specs.declared.point.Point.{Point}
 use Rattle.mako_model.specs.declared.point.Point.TheVariants.{Did, Snap}
+use Rattle.mako_model.specs.Examples.{one}
 use Rattle.mako_model.specs.Heaps.{board_name}
 use Rattle.mako_model.specs.Legal.{Facts}
 use Rattle.mako_ring.specs.TraceFacets.{empty, nothing, Work, TraceFacet, apart, serving, collecting}
@@ -71,11 +72,7 @@ small_seats = seats_with [] (board_name ∷ [])
 abbrev pub small_history : List Point
 small_history = Snap 1 ∷ []
 
--- ---- what is refused
-
--- the first name of entry 1
-abbrev pub one : Name
-one = record { entry = 1; generation = 0 }
+-- ---- what is not met
 
 -- nobody has any name
 abbrev pub forgetful_seats : List TraceFacet
@@ -93,6 +90,8 @@ hasty_seats = seats_with (0 ∷ []) (board_name ∷ [])
 abbrev pub words_too_soon : List ℕ
 words_too_soon = words_with (2 ^ 63 + 19) (2 ^ 63 + 21) 0
 
+-- ---- an object that no root names
+
 -- before the snapshot the mutator made an object, put its name into the board's field, and dropped its root
 abbrev pub linking : List Point
 linking = Did 0 (New 1 0) (Made one) ∷ Did 0 (Put 0 0 1) Done ∷ Did 0 (DropRoot 1) Done ∷ []
@@ -103,3 +102,7 @@ linked_history = linking ++ Snap 1 ∷ []
 -- the board is marked, and the object that its field names is not
 abbrev pub linked_words : List ℕ
 linked_words = words_with (2 ^ 63 + 2 ^ 23 + 19) (2 ^ 63 + 21) (value_word (Ref one))
+
+-- the server has the board's entry on its stack, and nothing is pending
+abbrev pub linked_seats : List TraceFacet
+linked_seats = seats_with (0 ∷ []) []

@@ -57,9 +57,9 @@ pub record IsScan (n : Numbers) (w : Facts) (words : List ℕ) (history : List P
   pub count : length fields ≡ s.fields
   pub below : s.next < s.fields
 
-abbrev pub ScanStands : Numbers → Facts → List ℕ → List Point → ℕ → Option Scan → Type 0
-ScanStands n w words history cycle None = Unit {0}
-ScanStands n w words history cycle (Some s) = IsScan n w words history cycle s
+abbrev pub ScanFits : Numbers → Facts → List ℕ → List Point → ℕ → Option Scan → Type 0
+ScanFits n w words history cycle None = Unit {0}
+ScanFits n w words history cycle (Some s) = IsScan n w words history cycle s
 
 -- The name in a server's hand is one of its own entries. Its stack has marked entries of its own, each once.
 pub record ServerStands (n : Numbers) (w : Facts) (words : List ℕ) (history : List Point) (cycle : ℕ)
@@ -71,12 +71,12 @@ pub record ServerStands (n : Numbers) (w : Facts) (words : List ℕ) (history : 
   pub mine : (e : ℕ) → Contains job.stack e → server_of_entry n e ≡ job.server
   pub once : StandOnce job.stack
   pub off : OffStands n words cycle job.off
-  pub scan : ScanStands n w words history cycle job.scan
+  pub scan : ScanFits n w words history cycle job.scan
 
 -- what a seat keeps of tracing
-abbrev pub SeatStands : Numbers → Facts → List ℕ → List Point → ℕ → TraceFacet → Type 0
-SeatStands n w words history cycle (serving job) = ServerStands n w words history cycle job
-SeatStands n w words history cycle f = Unit {0}
+abbrev pub SeatTracks : Numbers → Facts → List ℕ → List Point → ℕ → TraceFacet → Type 0
+SeatTracks n w words history cycle (serving job) = ServerStands n w words history cycle job
+SeatTracks n w words history cycle f = Unit {0}
 
 -- the seat is that of this server
 abbrev pub ServerIs : TraceFacet → ℕ → Type 0
@@ -91,7 +91,7 @@ AreSole facets = (seat other : ℕ) (f g : TraceFacet) (s : ℕ) → slice_get f
 -- what servers keep stands, and none has a second seat
 pub record AreServing (n : Numbers) (w : Facts) (words : List ℕ) (facets : List TraceFacet) (history : List Point)
     (cycle : ℕ) : Type 0 where
-  pub each : (seat : ℕ) (f : TraceFacet) → slice_get facets seat ≡ Some f → SeatStands n w words history cycle f
+  pub each : (seat : ℕ) (f : TraceFacet) → slice_get facets seat ≡ Some f → SeatTracks n w words history cycle f
   pub sole : AreSole facets
 
 -- what is kept of tracing

@@ -21,17 +21,21 @@ pub record RecordStands (words : List ℕ) (address : ℕ) (fields : List Value)
   pub each : (i : ℕ) (v : Value) → slice_get fields i ≡ Some v
       → (slice_index words (address + 1 + i) ≡ value_word v) × FitsValue v
 
--- What tracing asks: the history is legal; the entry of a good name is taken with its generation; a name whose entry
--- is so taken was made, and fits a word; and where it names an object, the object's record stands at its address.
+-- where a taken name is that of an object, a record with the object's fields stands at the address of its entry
+abbrev pub RecordsStand : Numbers → Facts → List ℕ → List Point → Type 0
+RecordsStand n w words history = (x : Name) (fields : List Value) → IsTaken n words x.entry x.generation
+    → fields_of (state_of w history) x ≡ Some fields
+    → RecordStands words (entry_of n words x.entry).address fields
+
+-- What tracing asks: the history is legal, and made names fit a word; the entry of a good name is taken with its
+-- generation, and a name whose entry is so taken was made; and records stand.
 pub record HeapStands (n : Numbers) (w : Facts) (words : List ℕ) (history : List Point) : Type 0 where
   pub size : length words ≡ total n
   pub legal : IsLegal w history
   pub fit : (x : Name) → Contains (names_made history) x → FitsName x
   pub taken : (x : Name) → IsGood w history x → IsTaken n words x.entry x.generation
   pub made : (x : Name) → IsTaken n words x.entry x.generation → Contains (names_made history) x
-  pub records : (x : Name) (fields : List Value) → IsTaken n words x.entry x.generation
-      → fields_of (state_of w history) x ≡ Some fields
-      → RecordStands words (entry_of n words x.entry).address fields
+  pub records : RecordsStand n w words history
 
 -- objects keep their sizes
 abbrev pub SizesStay : Heap → Heap → Type 0

@@ -56,10 +56,10 @@ pub record IsReady (n : Numbers) (w : Facts) (words : List ℕ) (facets : List T
 -- ---- parts of steps
 
 -- the reply makes no object and changes none
-abbrev pub IsPlain : Call → Reply → Type 0
-IsPlain c (reply.Made x) = ⊥
-IsPlain (call.Put to field from) reply.Done = ⊥
-IsPlain c r = Unit {0}
+abbrev pub LeavesObjects : Call → Reply → Type 0
+LeavesObjects c (reply.Made x) = ⊥
+LeavesObjects (call.Put to field from) reply.Done = ⊥
+LeavesObjects c r = Unit {0}
 
 -- the facet of one seat changes
 abbrev pub with_facet : TraceScene → ℕ → TraceFacet → TraceScene
@@ -97,7 +97,7 @@ abbrev pub next_scan : Scan → Option Scan
 next_scan scan = if scan.next + 1 == scan.fields then None else Some (record scan { next = scan.next + 1 })
 
 -- the field that a put is to store: a root refers to the object, which has the field, and this is its address
-pub record MayPut (n : Numbers) (w : Facts) (s : TraceScene) (m root : ℕ) (object : Name) (fields : List Value)
+pub record AimsAt (n : Numbers) (w : Facts) (s : TraceScene) (m root : ℕ) (object : Name) (fields : List Value)
     (field address : ℕ) : Type 0 where
   pub refers : RefersTo (state_of w s.history) m root object fields
   pub inside : field < length fields
@@ -123,7 +123,7 @@ pub data TraceStep (n : Numbers) (w : Facts) (cycle : ℕ) (s after : TraceScene
       → TraceStep n w cycle s after
   -- a reply that changes no object
   Decides : (words : List ℕ) → AgreeOnTrace n s.words words → (m : ℕ) (c : Call) (r : Reply)
-      → IsLawful (state_of w s.history) (Did m c r) → IsPlain c r → after ≡ with_reply s words m c r
+      → IsLawful (state_of w s.history) (Did m c r) → LeavesObjects c r → after ≡ with_reply s words m c r
       → TraceStep n w cycle s after
   -- a `new` publishes its entry
   Makes : (seat m root count : ℕ) (x : Name) (word : ℕ) → slice_get s.facets seat ≡ Some apart
@@ -132,12 +132,12 @@ pub data TraceStep (n : Numbers) (w : Facts) (cycle : ℕ) (s after : TraceScene
       → TraceStep n w cycle s after
   -- a put looks at its field and finds a name
   Finds : (seat m root : ℕ) (object : Name) (fields : List Value) (field address : ℕ) (old : Name)
-      → slice_get s.facets seat ≡ Some apart → MayPut n w s m root object fields field address
+      → slice_get s.facets seat ≡ Some apart → AimsAt n w s m root object fields field address
       → value_in s.words address field ≡ Ref old → after ≡ with_facet s seat (looking object field old)
       → TraceStep n w cycle s after
   -- or finds none
   Passes : (seat m root : ℕ) (object : Name) (fields : List Value) (field address : ℕ)
-      → slice_get s.facets seat ≡ Some apart → MayPut n w s m root object fields field address
+      → slice_get s.facets seat ≡ Some apart → AimsAt n w s m root object fields field address
       → IsNoRef (value_in s.words address field) → after ≡ with_facet s seat (storing object field)
       → TraceStep n w cycle s after
   -- it finds its barrier slot filled

@@ -1,6 +1,6 @@
 //! Worked examples: a small heap at its first snapshot, and states of it that are refused.
 
-ghost use Rattle.mako_shades.specs.Examples.{small, small_facts, small_words, small_seats, small_history, forgetful_seats, inventive_seats, hasty_seats, words_too_soon, linked_words, linked_history};
+ghost use Rattle.mako_shades.specs.Examples.{small, small_facts, small_words, small_seats, small_history, forgetful_seats, inventive_seats, hasty_seats, words_too_soon, linked_words, linked_seats, linked_history};
 ghost use Rattle.mako_shades.specs.Holding.{TracingHolds};
 ghost use Rattle.mako_shades.specs.Serving.{Tracks};
 ghost use Rattle.mako_shades.specs.Stands.{HeapStands};
@@ -24,8 +24,13 @@ pub fn words_alone_make_no_objects()
     ensures { ¬ HeapStands small small_facts words_too_soon small_history }
 {}
 
-/// Where the board was marked and nobody is still to read it, while the object that it named at the snapshot is neither
-/// marked nor on its way to be, the object would be lost.
+/// The board's field names an object that no root names, and the board is marked. Where its entry is on the server's
+/// stack the invariant holds: the field is still to be read.
+pub fn an_object_is_still_to_be_found()
+    ensures { TracingHolds small small_facts linked_words linked_seats linked_history 1 }
+{}
+
+/// Where nobody is still to read it, while the object is neither marked nor on its way to be, the object would be lost.
 pub fn an_object_passed_over_is_refused()
     ensures { ¬ TracingHolds small small_facts linked_words forgetful_seats linked_history 1 }
 {}
