@@ -18,6 +18,7 @@ use Rattle.mako_names.specs.Uses.{IsUseSlot}
 use Rattle.mako_phases.specs.Orders.{names_in, loaded_names, MayLeave, ServerFits, IsResting, IsAtOwn, IsAtLeaving, ServerStands, SeatStands, AreSeated, PhaseOrder, AreDrained, AreUnladen}
 use Rattle.mako_phases.specs.Steps.{IsPhaseWord}
 use Rattle.mako_phases.specs.Laws.{SlotsAreEmpty, IsStill, IsStaying, IsReadyForSnapshot, IsOpeningFacet, IsRootOrEntry}
+use Rattle.mako_phases.proofs.Members.{no_member}
 use Rattle.mako_phases.proofs.Frames.{root_within, the_words, the_seats}
 use Rattle.mako_phases.proofs.Parts.{phase_found}
 use Rattle.std.proofs.lemmas.Nat.{div-mul-add, mod-mul-add}
@@ -91,9 +92,6 @@ tablets_in_evac n words facets o seat s d t at ended laden here =
     phase_found n words o.part o.pending o.shape o.words_stand ∙ clear_evac o.part s d t at ended st.fits
 
 -- ---- the names of the roots loaded
-
-no_member : {A : Type 0} (x : A) → Contains [] x → ⊥
-no_member x c = let l : c.0 < 0 = c.1 in omega arith
 
 named : (v : Value) (x : Name) → Contains (names_in v) x → v ≡ Ref x
 named Null x c = absurd (no_member x c)

@@ -1,6 +1,7 @@
 //! Laws of the order of the phases and of live counts. The functions do nothing; what they ensure is for contracts and
 //! proofs.
 
+ghost use Rattle.mako_phases.specs.Choosing.{FindingsAreChosenOf, FindingsBegin, FindingsGoOn, FindingsStay, TabletsAreChosenOnce};
 ghost use Rattle.mako_phases.specs.Laws.{ChoosingIsStill, CyclesEndLast, EndedHaveNoLeaving, EpochsAreNotAhead, NamesRest, OpeningsAreInOrder, SnapshotsAreReady, StepsKeepPhaseOrder, TabletsAreClearedInEvac, TabletsStay, WaitingAreNotLeaving};
 ghost use Rattle.mako_phases.specs.LiveSteps.{CountsEnd, EntryWordsMark, LivesAreCounted, LivesCountTheReached, PastCountsBegin, PastCountsStay, SizesAreThose, StepsKeepCounts, SumsAreOne};
 ghost use Rattle.mako_phases.specs.Snapshots.{SnapshotsAreOne};
@@ -65,4 +66,15 @@ pub fn the_counts_tell()
     ensures sizes { SizesAreThose }
     ensures counted { LivesAreCounted }
     ensures reached { LivesCountTheReached }
+{}
+
+/// What the collector finds of tops and live words stands as long as nobody stores one (`stay`), from nothing (`begin`)
+/// tablet by tablet (`next`) and server by server (`server`). So what it chooses in the end is the choice of the words,
+/// in which each tablet stands once (`once`).
+pub fn findings_are_the_words()
+    ensures begin { FindingsBegin }
+    ensures stay { FindingsStay }
+    ensures next { FindingsGoOn }
+    ensures server { FindingsAreChosenOf }
+    ensures once { TabletsAreChosenOnce }
 {}
