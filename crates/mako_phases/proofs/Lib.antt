@@ -9,6 +9,7 @@ pub mod Members
 pub mod Notices
 pub mod PartChanges
 pub mod Parts
+pub mod Reaching
 pub mod Says
 pub mod Seats
 pub mod Sizes
