@@ -1,12 +1,15 @@
 pub mod AllPhases
+pub mod Choosing
 pub mod Collector
 pub mod Frames
 pub mod LiveLaws
 pub mod Lives
 pub mod MarkSteps
+pub mod Members
 pub mod Notices
 pub mod PartChanges
 pub mod Parts
+pub mod Reaching
 pub mod Says
 pub mod Seats
 pub mod Sizes

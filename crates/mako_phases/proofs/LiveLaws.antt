@@ -15,7 +15,8 @@ use Rattle.mako_model.proofs.Closed.{closed_heap, made_are_objects}
 use Rattle.mako_phases.specs.Marked.{IsMarked}
 use Rattle.mako_phases.specs.Lives.{LiveFacet, elsewhere, counting, counter_of, live_count, own_count, owed_to, IsCounted, IsSum, CounterStands, CountFits, AreCounted, ArePast}
 use Rattle.mako_phases.specs.LiveSteps.{AgreeOnLives, MarksAreTheReached, CountsReached}
-use Rattle.mako_phases.proofs.Lives.{no_member, sum_to, count_past, live_past}
+use Rattle.mako_phases.proofs.Members.{no_member}
+use Rattle.mako_phases.proofs.Lives.{sum_to, count_past, live_past}
 
 -- ---- the beginning, and the end
 

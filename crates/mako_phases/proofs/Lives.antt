@@ -19,10 +19,8 @@ use Rattle.mako_phases.specs.Marked.{IsMarked}
 use Rattle.mako_phases.proofs.MarkSteps.{marked_same as marked_stays}
 use Rattle.mako_phases.specs.Lives.{LiveFacet, elsewhere, counting, counter_of, record_size, live_in, own_count, owed_to, AreOnce, IsCounted, IsSum, CounterStands, CountFits, AreCounted}
 use Rattle.mako_phases.specs.LiveSteps.{LiveScene, CountsStandIn, AgreeOnLives, OldMarksStay, OldMarksAdd, LiveStep, Unseen, Begins, Marks, Counts}
+use Rattle.mako_phases.proofs.Members.{no_member}
 use Rattle.mako_phases.proofs.Frames.{get_map, map_frame, agree_else, written, IsEntry}
-
-pub no_member : {A : Type 0} (x : A) → Contains [] x → ⊥
-no_member x c = let l : c.0 < 0 = c.1 in omega arith
 
 once_push : (xs : List Name) (x : Name) → AreOnce xs → (¬ Contains xs x) → AreOnce (xs ++ x ∷ [])
 once_push [] x once not = ((λ c. no_member x c), tt)

@@ -1,27 +1,24 @@
--- What the order of the phases says, and that openings are in it.
-use Rattle.std.proofs.Common.{◌≡◌, ◌≢◌, ℕ, zero, suc, ◌+◌, ◌*◌, ◌/◌, ◌%◌, ◌<◌, ◌≤◌, inl, ⊎_elim, List, [], Contains, length, map, slice_get, Some, Bool, sym, ap, subst, refl, ◌∙◌, arith}
+-- What the order of the phases tells.
+use Rattle.std.proofs.Common.{◌≡◌, ℕ, zero, suc, ◌+◌, ◌*◌, ◌/◌, ◌%◌, ◌<◌, ◌≤◌, inl, ⊎_elim, List, [], Contains, slice_get, Some, Bool, sym, ap, subst, refl, ◌∙◌, arith}
 use Rattle.std.proofs.lemmas.Bool.{cases_eq}
 use Rattle.std.proofs.lemmas.List.Elements.{Contains-append_cases, Contains-append_left, Contains-append_right, Contains-push, Contains-push_cases}
 use Rattle.mako_words.specs.declared.name.Name.{Name}
 use Rattle.mako_words.specs.declared.value.Value.{Value}
 use Rattle.mako_words.specs.declared.value.Value.TheVariants.{Null, Num, Ref}
 use Rattle.mako_words.specs.declared.phase_word.PhaseWord.TheVariants.{Evac}
-use Rattle.mako_words.specs.Phases.{phase_at, cycle_of}
+use Rattle.mako_words.specs.Phases.{cycle_of}
 use Rattle.mako_words.specs.Values.{value_at}
 use Rattle.mako_shape.specs.declared.numbers.Numbers.{Numbers}
-use Rattle.mako_shape.specs.Limits.{IsShape}
-use Rattle.mako_shape.specs.Places.{Place, phase, demand, root, barrier, work, ghost, notice, leaving, entry, Within, word_at, total}
+use Rattle.mako_shape.specs.Places.{root, leaving, entry, Within, word_at}
 use Rattle.mako_shape.specs.Belongings.{server_of_tablet}
-use Rattle.mako_names.specs.Tables.{entry_of}
-use Rattle.mako_phases.specs.Facets.{Part, idle, pausing, rooting, tracing, choosing, evacuating, stopped, TabletStage, ServerStage, resting, clearing, Admission, PhaseFacet, mutating, serving, collecting, role_of, phase_during, cycle_during, IsRestful}
-use Rattle.mako_names.specs.Uses.{IsUseSlot}
-use Rattle.mako_phases.specs.Orders.{names_in, loaded_names, MayLeave, ServerFits, IsResting, IsAtOwn, IsAtLeaving, ServerStands, SeatStands, AreSeated, PhaseOrder, AreDrained, AreUnladen}
-use Rattle.mako_phases.specs.Steps.{IsPhaseWord}
-use Rattle.mako_phases.specs.Laws.{SlotsAreEmpty, IsStill, IsStaying, IsReadyForSnapshot, IsOpeningFacet, IsRootOrEntry}
+use Rattle.mako_names.specs.Tables.{entry_of, phase_of}
+use Rattle.mako_phases.specs.Facets.{Part, idle, pausing, rooting, tracing, choosing, evacuating, stopped, TabletStage, ServerStage, clearing, PhaseFacet, serving, collecting, phase_during, cycle_during, IsRestful}
+use Rattle.mako_phases.specs.Orders.{names_in, loaded_names, MayLeave, ServerFits, ServerStands, PhaseOrder, AreDrained, AreUnladen}
+use Rattle.mako_phases.specs.Laws.{SlotsAreEmpty, IsStill, IsStaying, IsReadyForSnapshot}
+use Rattle.mako_phases.proofs.Members.{no_member}
 use Rattle.mako_phases.proofs.Frames.{root_within, the_words, the_seats}
 use Rattle.mako_phases.proofs.Parts.{phase_found}
 use Rattle.std.proofs.lemmas.Nat.{div-mul-add, mod-mul-add}
-use Rattle.std.proofs.lemmas.Option.{same_Some}
 use Rattle.mako_shape.proofs.Rows.{row-below}
 
 pub names_rest : (n : Numbers) (words : List ℕ) (facets : List PhaseFacet) (o : PhaseOrder n words facets)
@@ -33,11 +30,18 @@ names_rest n words facets o rest = (o.words_stand.slots rest, server_rests)
         let st : ServerStands n words o.part s stage ended laden = o.each seat (serving s stage ended laden) here in
         st.rests rest
 
+pub part_phase : (n : Numbers) (words : List ℕ) (facets : List PhaseFacet) → PhaseOrder n words facets
+    → (seat : ℕ) (part : Part) (pending : List Name) → slice_get facets seat ≡ Some (collecting part pending)
+    → phase_of n words ≡ phase_during part
+unfolding phase_of
+part_phase n words facets o seat part pending here =
+    phase_found n words part pending o.shape (the_words n words facets o seat part pending here)
+
 pub epochs_behind : (n : Numbers) (words : List ℕ) (facets : List PhaseFacet) → PhaseOrder n words facets
-    → (e : ℕ) → Within n (entry e) → (entry_of n words e).epoch ≤ cycle_of (phase_at (word_at n words phase))
+    → (e : ℕ) → Within n (entry e) → (entry_of n words e).epoch ≤ cycle_of (phase_of n words)
 epochs_behind n words facets o e within =
     subst (λ p. (entry_of n words e).epoch ≤ cycle_of p)
-    (sym (phase_found n words o.part o.pending o.shape o.words_stand)) (o.words_stand.epochs e within)
+    (sym (part_phase n words facets o o.seat o.part o.pending o.here)) (o.words_stand.epochs e within)
 
 -- ---- the choice
 
@@ -84,16 +88,13 @@ clear_evac (evacuating c k) s d t at ended fits = ap (λ (x : ℕ). Evac x) (sym
 
 pub tablets_in_evac : (n : Numbers) (words : List ℕ) (facets : List PhaseFacet) → PhaseOrder n words facets
     → (seat s d t : ℕ) (at : TabletStage) (ended : ℕ) (laden : Bool)
-    → slice_get facets seat ≡ Some (serving s (clearing d t at) ended laden) → phase_at (word_at n words phase) ≡ Evac d
+    → slice_get facets seat ≡ Some (serving s (clearing d t at) ended laden) → phase_of n words ≡ Evac d
 tablets_in_evac n words facets o seat s d t at ended laden here =
     let st : ServerStands n words o.part s (clearing d t at) ended laden =
     o.each seat (serving s (clearing d t at) ended laden) here in
-    phase_found n words o.part o.pending o.shape o.words_stand ∙ clear_evac o.part s d t at ended st.fits
+    part_phase n words facets o o.seat o.part o.pending o.here ∙ clear_evac o.part s d t at ended st.fits
 
 -- ---- the names of the roots loaded
-
-no_member : {A : Type 0} (x : A) → Contains [] x → ⊥
-no_member x c = let l : c.0 < 0 = c.1 in omega arith
 
 named : (v : Value) (x : Name) → Contains (names_in v) x → v ≡ Ref x
 named Null x c = absurd (no_member x c)
@@ -165,67 +166,6 @@ snapshot_ready n words facets o seat cycle pending here =
       pends =
           λ x c. loaded_is n words (n.mutators * n.roots) (omega arith) x
           (subst (λ (l : List Name). Contains l x) w.pends c);
-    }
-
--- ---- the opening
-
-pub opening_order : (n : Numbers) (words : List ℕ) (facets : List PhaseFacet) (seat : ℕ) → IsShape n
-    → length words ≡ total n
-    → slice_get facets seat ≡ Some (collecting (idle 0) [])
-    → ((other : ℕ) (f : PhaseFacet) → slice_get facets other ≡ Some f → other ≢ seat → IsOpeningFacet n f)
-    → AreSeated n (map role_of facets)
-    → ((p : Place) → IsPhaseWord p → (¬ IsRootOrEntry p) → Within n p → word_at n words p ≡ 0)
-    → ((e : ℕ) → Within n (entry e) → (entry_of n words e).epoch ≡ 0)
-    → PhaseOrder n words facets
-opening_order n words facets seat shape size here others seated none epochs = record {
-  shape = shape;
-  seat = seat;
-  part = idle 0;
-  pending = [];
-  here = here;
-  words_stand = record {
-    size = size;
-    phase_is = none phase tt (λ x. x) tt;
-    bound = omega arith;
-    asked = (let e = none demand tt (λ x. x) tt in omega arith);
-    slots = λ rest p is within. slot p is within;
-    pends = refl;
-    leavings = λ t within. inl (none (leaving t) tt (λ x. x) within);
-    tellers = λ s k within e. absurd (let z = none (notice s k) tt (λ x. x) within in omega arith);
-    tell_once = λ s k j in_k in_j e f. absurd (let z = none (notice s k) tt (λ x. x) in_k in omega arith);
-    epochs = λ e within. let z = epochs e within in omega arith;
-  };
-  each = λ other f at.
-      ⊎_elim (λ same. at_seat other f same at) (λ ne. stands f (others other f at ne)) (cases_eq other seat);
-  seated = seated;
-}
-  where
-    slot : (p : Place) → IsUseSlot p → Within n p → word_at n words p ≡ 0
-    slot (barrier m k) is within = none (barrier m k) tt (λ x. x) within
-    slot (work s k) is within = none (work s k) tt (λ x. x) within
-    slot (ghost a b k) is within = none (ghost a b k) tt (λ x. x) within
-    slot p is within = absurd is
-
-    at_seat : (other : ℕ) (f : PhaseFacet) → other ≡ seat → slice_get facets other ≡ Some f
-        → SeatStands n words (idle 0) f
-    at_seat other f same at =
-        subst (SeatStands n words (idle 0))
-        (same_Some (collecting (idle 0) []) f (sym here ∙ ap (slice_get facets) (sym same) ∙ at)) tt
-
-    rests : (stage : ServerStage) → stage ≡ resting → IsResting stage
-    rests stage e = subst IsResting (sym e) tt
-
-    stands : (f : PhaseFacet) → IsOpeningFacet n f → SeatStands n words (idle 0) f
-    stands (mutating admission) is = subst (λ (s : Admission). SeatStands n words (idle 0) (mutating s)) (sym is) tt
-    stands (collecting part pending) is = absurd is
-    stands (serving s stage ended laden) is = record {
-      known = is.0;
-      fits = (rests stage is.1, is.2);
-      rests = λ r. is.3;
-      own = subst (IsAtOwn n s) (sym is.1) tt;
-      passed = λ u within own has. none (leaving u) tt (λ x. x) within;
-      at_leaving = λ u at. absurd (subst (λ (g : ServerStage). IsAtLeaving g u) is.1 at);
-      told = λ k within e. absurd (let z = none (notice s k) tt (λ x. x) within in omega arith);
     }
 
 -- ---- the end of a cycle

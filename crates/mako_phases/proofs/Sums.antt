@@ -1,26 +1,13 @@
 -- A sum over names of which none stands twice depends on the names alone.
-use Rattle.std.proofs.Common.{◌≡◌, ℕ, ◌+◌, ◌<◌, ◌⊎◌, inl, inr, ⊎_elim, List, [], ◌∷◌, ◌++◌, Contains, sum_by, sym, ap, subst, refl, ◌∙◌, arith}
+use Rattle.std.proofs.Common.{◌≡◌, ℕ, ◌+◌, ◌⊎◌, inl, inr, ⊎_elim, List, [], ◌∷◌, ◌++◌, Contains, sum_by, sym, ap, subst, refl, ◌∙◌, arith}
 use Rattle.std.proofs.lemmas.List.Sums.{sum_by-cons, sum_by-append}
-use Rattle.std.proofs.lemmas.List.Elements.{Contains-append_cases, Contains-append_left, Contains-append_right, Contains-push, Contains-push_cases}
+use Rattle.std.proofs.lemmas.List.Elements.{Contains-append_cases, Contains-append_left, Contains-append_right}
 use Rattle.mako_words.specs.declared.name.Name.{Name}
 use Rattle.mako_shape.specs.declared.numbers.Numbers.{Numbers}
 use Rattle.mako_model.specs.declared.point.Point.{Point}
 use Rattle.mako_model.specs.Legal.{Facts, state_of}
+use Rattle.mako_phases.proofs.Members.{no_member, head_or, first_in, later_in}
 use Rattle.mako_phases.specs.Lives.{record_size, AreOnce, IsCounted, IsSum}
-
-no_member : (x : Name) → Contains [] x → ⊥
-no_member x c = let l : c.0 < 0 = c.1 in omega arith
-
-head_or : (xs : List Name) (x y : Name) → Contains (x ∷ xs) y → (x ≡ y) ⊎ Contains xs y
-head_or xs x y c =
-    ⊎_elim (λ first. ⊎_elim (λ none. absurd (no_member y none)) (λ e. inl e) (Contains-push_cases [] x y first))
-    (λ more. inr more) (Contains-append_cases (x ∷ []) xs y c)
-
-first_in : (x : Name) (xs : List Name) → Contains (x ∷ xs) x
-first_in x xs = Contains-append_left (x ∷ []) xs x (Contains-push [] x)
-
-later_in : (k : Name) (xs : List Name) (x : Name) → Contains xs x → Contains (k ∷ xs) x
-later_in k xs x c = Contains-append_right (k ∷ []) xs x c
 
 split_at : (ys : List Name) (x : Name) → Contains ys x → (a : List Name) × (b : List Name) × (ys ≡ a ++ x ∷ b)
 split_at [] x c = absurd (no_member x c)

@@ -1,17 +1,19 @@
 -- The worked examples.
-use Rattle.std.proofs.Common.{◌≡◌, ◌≢◌, ℕ, zero, suc, ◌+◌, ◌^◌, ◌<◌, ⊎_elim, List, [], map, slice_get, Some, false, sym, ap, subst, refl, ◌∙◌, arith}
+use Rattle.std.proofs.Common.{◌≡◌, ◌≢◌, ℕ, zero, suc, ◌+◌, ◌^◌, ◌<◌, ⊎_elim, List, [], ◌∷◌, map, slice_get, Some, false, sym, ap, subst, refl, ◌∙◌, arith}
 use Rattle.std.proofs.lemmas.Option.{same_Some, none-some}
 use Rattle.mako_shape.specs.Limits.{IsShape}
 use Rattle.mako_shape.specs.Places.{Place, phase, demand, root, barrier, work, ghost, notice, leaving, entry, Within, word_at, total, index}
 use Rattle.mako_names.specs.Examples.{small}
 use Rattle.mako_names.specs.Tables.{entry_of}
+use Rattle.mako_pause.specs.Choices.{candidates_from, put_in, in_order, choice}
+use Rattle.mako_phases.specs.Choosing.{used_upto, chosen_upto}
 use Rattle.mako_phases.specs.Facets.{idle, resting, outside, PhaseFacet, mutating, serving, mutator, server, collector, role_of}
 use Rattle.mako_phases.specs.Orders.{WordsStand, ServerStands, AreSeated, PhaseOrder}
 use Rattle.mako_phases.specs.Steps.{IsPhaseWord, PhaseOrderIn}
-use Rattle.mako_phases.specs.Laws.{IsOpeningFacet, IsRootOrEntry}
-use Rattle.mako_phases.specs.Examples.{idle_facets, opened, traced_too_soon, shaded_too_soon, leaving_too_soon, told_too_soon, ended_too_soon}
+use Rattle.mako_phases.specs.Reaching.{IsOpeningFacet, IsRootOrEntry, IsPhaseOpening}
+use Rattle.mako_phases.specs.Examples.{idle_facets, opened, traced_too_soon, shaded_too_soon, leaving_too_soon, told_too_soon, ended_too_soon, all_live}
 use Rattle.mako_phases.proofs.Frames.{the_words, the_seats}
-use Rattle.mako_phases.proofs.Says.{opening_order}
+use Rattle.mako_phases.proofs.Reaching.{opening_order}
 
 small_shape : IsShape small
 unfolding total
@@ -127,9 +129,21 @@ epochs (suc (suc zero)) within = refl
 epochs (suc (suc (suc zero))) within = refl
 epochs (suc (suc (suc (suc e)))) within = absurd (omega arith)
 
-pub opened_order : PhaseOrderIn small opened
+opened_is : IsPhaseOpening small opened
 unfolding total
-opened_order = opening_order small opened.words opened.facets 2 small_shape refl refl others small_seated zeros epochs
+opened_is = record {
+  shape = small_shape;
+  size = refl;
+  seat = 2;
+  here = refl;
+  others = others;
+  seated = small_seated;
+  words = zeros;
+  epochs = epochs;
+}
+
+pub opened_order : PhaseOrderIn small opened
+opened_order = opening_order small opened opened_is
 
 -- ---- what is wrong in its place
 
@@ -167,3 +181,17 @@ ended_refused o =
     the_seats small ended_too_soon.words ended_too_soon.facets o 2 (idle 0) [] refl 1 (serving 0 resting 1 false)
     refl in
     differ 1 0 refl refl st.fits.1
+
+-- ---- a choice
+
+pub opened_chosen : chosen_upto small opened.words 1 1 ≡ 0 ∷ []
+unfolding chosen_upto used_upto choice in_order candidates_from put_in index
+opened_chosen = refl
+
+pub live_not_chosen : chosen_upto small all_live 1 1 ≡ []
+unfolding chosen_upto used_upto choice in_order candidates_from put_in index
+live_not_chosen = refl
+
+pub past_chosen : chosen_upto small all_live 2 1 ≡ 0 ∷ []
+unfolding chosen_upto used_upto choice in_order candidates_from put_in index
+past_chosen = refl

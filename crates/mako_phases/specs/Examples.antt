@@ -1,6 +1,7 @@
 -- Worked examples: the opening of a small heap, and what is wrong in its place.
 use Rattle.std.specs.Prelude.{ℕ, ◌+◌, ◌^◌, List, [], ◌∷◌, slice_set, false}
-use Rattle.mako_shape.specs.Places.{barrier, notice, leaving, index}
+use Rattle.mako_words.specs.Lives.{live_word}
+use Rattle.mako_shape.specs.Places.{barrier, notice, leaving, live, index}
 use Rattle.mako_names.specs.Examples.{small, words_with}
 use Rattle.mako_phases.specs.Facets.{idle, resting, outside, PhaseFacet, mutating, serving, collecting}
 use Rattle.mako_phases.specs.Steps.{PhaseScene}
@@ -32,3 +33,7 @@ told_too_soon = record opened { words = slice_set (words_with 0 0) (index small 
 -- the same, but the server has ended cycle 1
 abbrev pub ended_too_soon : PhaseScene
 ended_too_soon = record opened { facets = idle_facets 1 }
+
+-- the words of the opening, where the live word of cycle 1 has both words of the board's record
+abbrev pub all_live : List ℕ
+all_live = slice_set (words_with 0 0) (index small (live 0)) (live_word (record { cycle = 1; words = 2 }))

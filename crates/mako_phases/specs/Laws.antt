@@ -1,26 +1,19 @@
--- What is true of the order of the phases.
-use Rattle.std.specs.Prelude.{ℕ, ◌≡◌, ◌≢◌, ◌+◌, ◌*◌, ◌<◌, ◌≤◌, List, [], length, map, slice_get, Some, Bool, false}
+-- What the order of the phases tells.
+use Rattle.std.specs.Prelude.{ℕ, ◌≡◌, ◌+◌, ◌*◌, ◌≤◌, List, slice_get, Some, Bool, false}
 use Rattle.std.specs.List.{Contains}
 use Rattle.mako_words.specs.declared.name.Name.{Name}
 use Rattle.mako_words.specs.declared.value.Value.TheVariants.{Ref}
 use Rattle.mako_words.specs.declared.phase_word.PhaseWord.TheVariants.{Evac}
-use Rattle.mako_words.specs.Phases.{phase_at, cycle_of}
+use Rattle.mako_words.specs.Phases.{cycle_of}
 use Rattle.mako_words.specs.Values.{value_at}
 use Rattle.mako_shape.specs.declared.numbers.Numbers.{Numbers}
-use Rattle.mako_shape.specs.Limits.{IsShape}
-use Rattle.mako_shape.specs.Places.{Place, phase, root, leaving, entry, Within, word_at, total}
+use Rattle.mako_shape.specs.Places.{Place, root, leaving, entry, Within, word_at}
 use Rattle.mako_shape.specs.Belongings.{server_of_tablet}
-use Rattle.mako_names.specs.Tables.{entry_of}
+use Rattle.mako_names.specs.Tables.{entry_of, phase_of}
 use Rattle.mako_phases.specs.Marked.{IsMarked}
-use Rattle.mako_phases.specs.Facets.{Part, idle, rooting, choosing, evacuating, TabletStage, ServerStage, resting, clearing, Admission, outside, PhaseFacet, mutating, serving, collecting, role_of, cycle_during, IsRestful, IsNotAdmitted}
+use Rattle.mako_phases.specs.Facets.{Part, rooting, choosing, evacuating, TabletStage, ServerStage, clearing, Admission, PhaseFacet, mutating, serving, collecting, phase_during, cycle_during, IsRestful, IsNotAdmitted}
 use Rattle.mako_names.specs.Uses.{IsUseSlot}
-use Rattle.mako_phases.specs.Orders.{TracesIn, AreSeated, PhaseOrder, AreDrained, AreUnladen}
-use Rattle.mako_phases.specs.Steps.{PhaseScene, PhaseStep, IsPhaseWord}
-
--- each kind of step keeps it
-abbrev pub StepsKeepPhaseOrder : Type 0
-StepsKeepPhaseOrder = (n : Numbers) (s after : PhaseScene) → PhaseOrder n s.words s.facets → AreDrained s.facets
-    → PhaseStep n s after → PhaseOrder n after.words after.facets
+use Rattle.mako_phases.specs.Orders.{TracesIn, PhaseOrder, AreDrained, AreUnladen}
 
 -- no slot holds a name
 abbrev pub SlotsAreEmpty : Numbers → List ℕ → Type 0
@@ -31,10 +24,16 @@ abbrev pub NamesRest : Type 0
 NamesRest = (n : Numbers) (words : List ℕ) (facets : List PhaseFacet) (o : PhaseOrder n words facets) → IsRestful o.part
     → SlotsAreEmpty n words × AreUnladen facets
 
+-- the phase is that of the collector's part
+abbrev pub PhasesAreOfParts : Type 0
+PhasesAreOfParts = (n : Numbers) (words : List ℕ) (facets : List PhaseFacet) → PhaseOrder n words facets
+    → (seat : ℕ) (part : Part) (pending : List Name) → slice_get facets seat ≡ Some (collecting part pending)
+    → phase_of n words ≡ phase_during part
+
 -- no entry has the epoch of a cycle to come
 abbrev pub EpochsAreNotAhead : Type 0
 EpochsAreNotAhead = (n : Numbers) (words : List ℕ) (facets : List PhaseFacet) → PhaseOrder n words facets
-    → (e : ℕ) → Within n (entry e) → (entry_of n words e).epoch ≤ cycle_of (phase_at (word_at n words phase))
+    → (e : ℕ) → Within n (entry e) → (entry_of n words e).epoch ≤ cycle_of (phase_of n words)
 
 -- outside evacuation and the choice no tablet is leaving
 abbrev pub IsStaying : Part → Type 0
@@ -70,7 +69,7 @@ ChoosingIsStill = (n : Numbers) (words : List ℕ) (facets : List PhaseFacet) �
 abbrev pub TabletsAreClearedInEvac : Type 0
 TabletsAreClearedInEvac = (n : Numbers) (words : List ℕ) (facets : List PhaseFacet) → PhaseOrder n words facets
     → (seat s d t : ℕ) (at : TabletStage) (ended : ℕ) (laden : Bool)
-    → slice_get facets seat ≡ Some (serving s (clearing d t at) ended laden) → phase_at (word_at n words phase) ≡ Evac d
+    → slice_get facets seat ≡ Some (serving s (clearing d t at) ended laden) → phase_of n words ≡ Evac d
 
 -- where Trace is about to be stored, all is ready for the snapshot of the next cycle
 pub record IsReadyForSnapshot (n : Numbers) (words : List ℕ) (facets : List PhaseFacet) (cycle : ℕ)
@@ -88,27 +87,6 @@ SnapshotsAreReady = (n : Numbers) (words : List ℕ) (facets : List PhaseFacet) 
     → (seat cycle : ℕ) (pending : List Name)
     → slice_get facets seat ≡ Some (collecting (rooting cycle (n.mutators * n.roots)) pending)
     → IsReadyForSnapshot n words facets cycle pending
-
--- the opening: all words that the order reads are 0 but roots and entries, and each seat is where it begins
-abbrev pub IsOpeningFacet : Numbers → PhaseFacet → Type 0
-IsOpeningFacet n (mutating admission) = admission ≡ outside
-IsOpeningFacet n (serving s stage ended laden) = (s < n.servers) × (stage ≡ resting) × (ended ≡ 0) × (laden ≡ false)
-IsOpeningFacet n f = ⊥
-
-abbrev pub IsRootOrEntry : Place → Type 0
-IsRootOrEntry (root m q) = Unit {0}
-IsRootOrEntry (entry e) = Unit {0}
-IsRootOrEntry p = ⊥
-
-abbrev pub OpeningsAreInOrder : Type 0
-OpeningsAreInOrder = (n : Numbers) (words : List ℕ) (facets : List PhaseFacet) (seat : ℕ) → IsShape n
-    → length words ≡ total n
-    → slice_get facets seat ≡ Some (collecting (idle 0) [])
-    → ((other : ℕ) (f : PhaseFacet) → slice_get facets other ≡ Some f → other ≢ seat → IsOpeningFacet n f)
-    → AreSeated n (map role_of facets)
-    → ((p : Place) → IsPhaseWord p → (¬ IsRootOrEntry p) → Within n p → word_at n words p ≡ 0)
-    → ((e : ℕ) → Within n (entry e) → (entry_of n words e).epoch ≡ 0)
-    → PhaseOrder n words facets
 
 -- where Idle is about to be stored, each server has ended the cycle
 abbrev pub CyclesEndLast : Type 0

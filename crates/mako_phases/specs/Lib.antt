@@ -1,3 +1,4 @@
+pub mod Choosing
 pub mod Examples
 pub mod Facets
 pub mod Laws
@@ -5,5 +6,6 @@ pub mod LiveSteps
 pub mod Lives
 pub mod Marked
 pub mod Orders
+pub mod Reaching
 pub mod Snapshots
 pub mod Steps

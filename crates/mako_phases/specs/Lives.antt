@@ -52,8 +52,8 @@ owed_to n (Some p) t = if tablet_of_entry n p.0.entry == t then p.1 else 0
 
 -- ---- sums over names
 
--- no name stands twice in the list
-abbrev pub AreOnce : List Name → Type 0
+-- nothing stands twice in the list
+abbrev pub AreOnce : {A : Type 0} → List A → Type 0
 AreOnce [] = Unit {0}
 AreOnce (x ∷ xs) = (¬ Contains xs x) × AreOnce xs
 

@@ -1,8 +1,10 @@
 //! Laws of the order of the phases and of live counts. The functions do nothing; what they ensure is for contracts and
 //! proofs.
 
-ghost use Rattle.mako_phases.specs.Laws.{ChoosingIsStill, CyclesEndLast, EndedHaveNoLeaving, EpochsAreNotAhead, NamesRest, OpeningsAreInOrder, SnapshotsAreReady, StepsKeepPhaseOrder, TabletsAreClearedInEvac, TabletsStay, WaitingAreNotLeaving};
+ghost use Rattle.mako_phases.specs.Choosing.{FindingsAreChosenOf, FindingsBegin, FindingsGoOn, FindingsStay, TabletsAreChosenOnce};
+ghost use Rattle.mako_phases.specs.Laws.{ChoosingIsStill, CyclesEndLast, EndedHaveNoLeaving, EpochsAreNotAhead, NamesRest, PhasesAreOfParts, SnapshotsAreReady, TabletsAreClearedInEvac, TabletsStay, WaitingAreNotLeaving};
 ghost use Rattle.mako_phases.specs.LiveSteps.{CountsEnd, EntryWordsMark, LivesAreCounted, LivesCountTheReached, PastCountsBegin, PastCountsStay, SizesAreThose, StepsKeepCounts, SumsAreOne};
+ghost use Rattle.mako_phases.specs.Reaching.{OpeningsAreInOrder, ReachedAreInOrder, StepsKeepPhaseOrder};
 ghost use Rattle.mako_phases.specs.Snapshots.{SnapshotsAreOne};
 
 /// Each kind of step keeps the order of the phases, for any number of seats.
@@ -10,16 +12,18 @@ pub fn steps_keep_the_order()
     ensures { StepsKeepPhaseOrder }
 {}
 
-/// The opening is in order.
-pub fn openings_are_in_order()
-    ensures { OpeningsAreInOrder }
+/// The opening is in order, and so is all that is reached from it.
+pub fn all_reached_are_in_order()
+    ensures opening { OpeningsAreInOrder }
+    ensures reached { ReachedAreInOrder }
 {}
 
-/// What the order tells of a cycle: outside of tracing no slot holds a name and no server has anything to work on; no
-/// entry has the epoch of a cycle to come; no tablet is leaving but from the choice to the end of evacuation; a server is
-/// at a tablet only in evacuation; once a server has ended the cycle, none of its tablets is leaving; and Idle is
-/// stored only after each server has ended.
+/// What the order tells of a cycle: the phase is that of the collector's part; outside of tracing no slot holds a name
+/// and no server has anything to work on; no entry has the epoch of a cycle to come; no tablet is leaving but from the
+/// choice to the end of evacuation; a server is at a tablet only in evacuation; once a server has ended the cycle, none
+/// of its tablets is leaving; and Idle is stored only after each server has ended.
 pub fn the_order_tells()
+    ensures phase { PhasesAreOfParts }
     ensures rest { NamesRest }
     ensures epochs { EpochsAreNotAhead }
     ensures stay { TabletsStay }
@@ -65,4 +69,15 @@ pub fn the_counts_tell()
     ensures sizes { SizesAreThose }
     ensures counted { LivesAreCounted }
     ensures reached { LivesCountTheReached }
+{}
+
+/// What the collector finds of tops and live words stands as long as nobody stores one (`stay`), from nothing (`begin`)
+/// tablet by tablet (`next`) and server by server (`server`). So what it chooses in the end is the choice of the words,
+/// in which each tablet stands once (`once`).
+pub fn findings_are_the_words()
+    ensures begin { FindingsBegin }
+    ensures stay { FindingsStay }
+    ensures next { FindingsGoOn }
+    ensures server { FindingsAreChosenOf }
+    ensures once { TabletsAreChosenOnce }
 {}
