@@ -1,10 +1,12 @@
 pub mod Splits
 pub mod Digits
 pub mod Checked
+pub mod Commands
 pub mod NameLists
 pub mod Loops
 pub mod Takes
 pub mod Sections
+pub mod Counted
 pub mod Spelled
 pub mod Accepted
 pub mod Parsed

@@ -88,12 +88,17 @@ place_takes names name root e =
     let h = position-Some (bytes_eq name) names root [] e in
     (h.0, sym ((bytes_eq-Decides name (get_or names root [])).0 h.1))
 
+-- a name without a place is not there
+pub no_place : (names : List (List ℕ)) (name : List ℕ) → place_at names name ≡ None → list_any (bytes_eq name) names ≡ false
+unfolding place_at
+no_place names name e =
+    list_any-none (bytes_eq name) names (ltb-false _ _ (not_placed (ltb (position_or_len (bytes_eq name) names) (length names)) (position_or_len (bytes_eq name) names) (ap is_some e)))
+
 -- a name without a place differs from each
 pub place_none : (names : List (List ℕ)) (name : List ℕ) → place_at names name ≡ None → (root : ℕ) → root < length names → name_of names root ≢ name
 unfolding place_at
 place_none names name e root below same =
-    let past = ltb-false _ _ (not_placed (ltb (position_or_len (bytes_eq name) names) (length names)) (position_or_len (bytes_eq name) names) (ap is_some e)) in
-    let none = list_any-none (bytes_eq name) names past in
+    let none = no_place names name e in
     absurd (none_at (bytes_eq name) names root [] none below ((bytes_eq-Decides name (get_or names root [])).1 (sym same)))
   where
     none_at : {X : Type 0} (p : X → Bool) (xs : List X) (i : ℕ) (d : X) → list_any p xs ≡ false → i < length xs → p (get_or xs i d) ≡ true → ⊥

@@ -19,13 +19,13 @@ IsScriptOrMemory s (Err (Bad kind line)) = ⊥
 abbrev pub IsFirstAmongSettings : List ℕ → Kind → ℕ → Type 0
 IsFirstAmongSettings bytes kind line = 1 ≤ line → line ≤ 11 → kind ≢ Words → IsFirstFault bytes kind line
 
--- what is told of bytes that are no script
+-- what is told of bytes that are no script: a fault at one of their lines
 abbrev pub TellsFault : List ℕ → ScriptFault → Type 0
-TellsFault bytes (Bad kind line) = IsFirstAmongSettings bytes kind line
+TellsFault bytes (Bad kind line) = (1 ≤ line) × IsFirstAmongSettings bytes kind line
 TellsFault bytes Memory = ⊥
 
--- the bytes are no script, or their script is not accepted
+-- the bytes are no script, with a fault at one of their lines, or they are a script that is not accepted
 abbrev pub IsRefused : List ℕ → Kind → ℕ → Type 0
 IsRefused bytes kind line =
-    (((s : ScriptView) → ¬ IsScript bytes s) × IsFirstAmongSettings bytes kind line)
+    (((s : ScriptView) → ¬ IsScript bytes s) × (1 ≤ line) × IsFirstAmongSettings bytes kind line)
     ⊎ ((kind ≡ Form) × (line ≡ 0) × ((s : ScriptView) × IsScript bytes s × ¬ IsAccepted s))

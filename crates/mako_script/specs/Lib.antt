@@ -1,5 +1,6 @@
 pub mod Answers
 pub mod Checks
+pub mod CommandLines
 pub mod Examples
 pub mod FaultTexts
 pub mod Faults

@@ -1,12 +1,17 @@
 //! The first fault of a text that is no script.
 
-ghost use Rattle.std.specs.Prelude.{◌≡◌, ◌≤◌, ◌<◌, ◌+◌, ◌∷◌, [], length, map, min, IfErr, IfNone, IfOk, IfSome, IsSome, OnOk};
+ghost use Rattle.std.specs.Prelude.{◌≡◌, List, Some, ◌≤◌, ◌<◌, ◌+◌, ◌∷◌, [], drop, length, map, min, option_map, IfErr, IfNone, IfOk, IfSome, IsSome, OnOk};
 ghost use Rattle.std.specs.Bool.{OnTrue};
 ghost use Rattle.std.specs.List.{list_all};
 ghost use Rattle.mako_script.specs.Answers.{IsFirstAmongSettings};
 ghost use Rattle.mako_script.specs.Checks.{HaveSettings, IsCut, IsLine, IsSettingLine, IsValue};
+ghost use Rattle.mako_script.specs.CommandLines.{AreArguments, IsArgument, IsRead, is_among, with_name};
 ghost use Rattle.mako_script.specs.Faults.{IsFirstFault, is_printable};
-ghost use Rattle.mako_script.specs.Reading.{key_view, keys, lines_of, numbers_in, words_of};
+ghost use Rattle.mako_script.specs.Names.{board_name};
+ghost use Rattle.mako_script.specs.Programs.{ProgramView};
+ghost use Rattle.mako_script.specs.Reading.{calls_at, key_view, keys, lines_of, numbers_in, sections_at, words_behind, words_of};
+ghost use Rattle.mako_script.specs.Scripts.{ScriptView};
+ghost use Rattle.mako_script.specs.Texts.{IsScript};
 ghost use Rattle.mako_shape.specs.Limits.{all_entries, max_entries};
 
 use crate::command::{Argument, Command};
@@ -136,6 +141,7 @@ fn settings(lines: &mut Lines, table: &[Key]) -> Result<ArrayVec<u32, SETTINGS>,
     ensures count { IfOk result (λ v. length v.items ≡ 11) }
     ensures read { IfOk result (λ v. HaveSettings (lines_of lines.old.rest.now) v.items) }
     ensures line { OnOk result (lines.new.line ≡ 11) }
+    ensures left { OnOk result (lines_of lines.new.rest.now ≡ drop 11 (lines_of lines.old.rest.now)) }
     ensures fault { IfErr result (λ f. IsFirstFault lines.old.rest.now f.kind f.line) }
 {
     let mut values = ArrayVec::new();
@@ -150,12 +156,16 @@ fn settings(lines: &mut Lines, table: &[Key]) -> Result<ArrayVec<u32, SETTINGS>,
 }
 
 /// Whether a word is one of these names.
-fn is_among(names: &[&[u8]], word: &[u8]) -> bool {
-    names.iter().any(|name| *name == word)
+fn is_among(names: &[&[u8]], word: &[u8]) -> bool
+    ensures { result ≡ is_among (map (λ name. name.now) names.now) word.now }
+{
+    names.contains(&word)
 }
 
 /// The fault of an argument, if it has one.
-fn argument_fault(names: &[&[u8]], roots: usize, kind: Argument, word: &[u8]) -> Option<Kind> {
+fn argument_fault(names: &[&[u8]], roots: usize, kind: Argument, word: &[u8]) -> Option<Kind>
+    ensures none { IfNone result (IsArgument (map (λ name. name.now) names.now) roots kind word.now) }
+{
     let number = match kind {
         Argument::Defined | Argument::Read if !is_spelled_as_name(word) => return Some(Kind::Word),
         Argument::Defined if !is_among(names, word) && names.len() >= roots => {
@@ -176,7 +186,8 @@ fn argument_fault(names: &[&[u8]], roots: usize, kind: Argument, word: &[u8]) ->
 /// The words behind the first of a line, if they are as many as this.
 fn arguments(count: usize, text: &[u8]) -> Option<Words>
     requires { count ≤ 3 }
-    ensures { IfSome result (λ words. length words.items ≡ count) }
+    ensures count { IfSome result (λ words. length words.items ≡ count) }
+    ensures words { IfSome result (λ words. map (λ word. word.now) words.items ≡ words_behind text.now) }
 {
     let mut words = Words::new();
     let mut rest = text;
@@ -198,6 +209,7 @@ fn arguments_fault(
     words: &[&[u8]],
 ) -> Option<Kind>
     requires { length kinds.now ≡ length words.now }
+    ensures none { IfNone result (AreArguments (map (λ name. name.now) names.now) roots kinds.now (map (λ word. word.now) words.now)) }
 {
     let mut first: Option<Kind> = None;
     for i in 0..kinds.len() {
@@ -212,7 +224,9 @@ fn arguments_fault(
 
 /// The name that a command line defines, if it defines a new one.
 fn command<'a>(names: &[&[u8]], roots: usize, line: &'a [u8]) -> Result<Option<&'a [u8]>, Kind>
-    ensures { IfOk result (λ new. IsSome new → length names.now < roots) }
+    ensures room { IfOk result (λ new. IsSome new → length names.now < roots) }
+    ensures read { IfOk result (λ new. IsRead roots (map (λ name. name.now) names.now) (words_of line.now)
+        (with_name (map (λ name. name.now) names.now) (option_map (λ name. name.now) new))) }
 {
     let (word, rest) = split_word(line);
     let Ok(command) = Command::named(word) else {
@@ -235,6 +249,8 @@ fn command<'a>(names: &[&[u8]], roots: usize, line: &'a [u8]) -> Result<Option<&
 fn section(lines: &mut Lines, roots: usize, before: usize) -> Result<usize, Fault>
     requires { roots ≤ 32 }
     ensures shorter { IfOk result (λ _. length lines.new.rest.now < length lines.old.rest.now) }
+    ensures read { IfOk result (λ count. (p : ProgramView) × (calls_at roots before (board_name ∷ []) (lines_of lines.old.rest.now) ≡ Some (p, lines_of lines.new.rest.now))
+        × (count ≡ before + length p.calls)) }
     ensures later { min (lines.old.line + 1) 4294967295 ≤ lines.new.line }
     ensures fault { IfErr result (λ f. min (lines.old.line + 1) 4294967295 ≤ f.line) }
 {
@@ -264,6 +280,7 @@ fn section(lines: &mut Lines, roots: usize, before: usize) -> Result<usize, Faul
 fn sections(lines: &mut Lines, roots: usize) -> Result<usize, Fault>
     requires { roots ≤ 32 }
     ensures count { IfOk result (λ count. count ≤ 16) }
+    ensures read { IfOk result (λ count. (ps : List ProgramView) × (sections_at 16 roots 0 (lines_of lines.old.rest.now) ≡ Some ps) × (count ≡ length ps)) }
     ensures later { min (lines.old.line + 1) 4294967295 ≤ lines.new.line }
     ensures fault { IfErr result (λ f. min (lines.old.line + 1) 4294967295 ≤ f.line) }
 {
@@ -295,9 +312,11 @@ fn too_many_entries(values: &[u32]) -> bool
     }
 }
 
-/// The first fault of the text, if it has one. It takes no memory.
+/// The first fault of the text, if it is that of no script. It takes no memory.
 pub fn check(text: &[u8]) -> Result<(), Fault>
-    ensures { IfErr result (λ f. IsFirstAmongSettings text.now f.kind f.line) }
+    ensures script { OnOk result ((s : ScriptView) × IsScript text.now s) }
+    ensures first { IfErr result (λ f. IsFirstAmongSettings text.now f.kind f.line) }
+    ensures line { IfErr result (λ f. 1 ≤ f.line) }
 {
     let mut lines = Lines {
         rest: text,

@@ -54,10 +54,11 @@ fn script(alloc: Global, bytes: &[u8]) -> Result<Script, Refusal>
 
 /// The first fault of bytes that are no script.
 fn fault(bytes: &[u8]) -> ScriptFault
+    requires { (s : ScriptView) → ¬ IsScript bytes.now s }
     ensures { TellsFault bytes.now result }
 {
     match check(bytes) {
-        Ok(()) => FORM,
+        Ok(()) => unreachable!(),
         Err(Fault { kind, line }) => ScriptFault::Bad { kind, line },
     }
 }
@@ -81,8 +82,8 @@ fn accepted(script: Script) -> Result<Script, ScriptFault>
     }
 }
 
-/// Reads a script. `Bad` comes where the bytes are no script, with their first fault, and where they are a script that
-/// is not carried out so far.
+/// Reads a script. `Bad` comes where the bytes are no script, with their first fault, and with the kind `Form` and line 0
+/// where they are a script that is not carried out so far.
 pub fn parse(alloc: Global, bytes: &[u8]) -> Result<Script, ScriptFault>
     ensures ok { IfOk result (IsScript bytes.now) }
     ensures accepted { IfOk result (λ s. NeedsNoCycle (facts_of s)) }

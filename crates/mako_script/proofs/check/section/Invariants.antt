@@ -1,4 +1,6 @@
-use Rattle.std.proofs.Common.{◌≤◌, length}
+use Rattle.std.proofs.Common.{◌≤◌, length, map}
+use Rattle.mako_script.specs.Reading.{lines_of}
+use Rattle.mako_script.proofs.Counted.{CallsSoFar}
 use Rattle.mako_script.proofs.check.section.Given as goal
 
 abbrev pub invariant-commands : goal.invariant-commands
@@ -6,6 +8,7 @@ invariant-commands l = record {
   few : length l.names.items ≤ 32;
   left : length l.lines.rest.now ≤ length l.initial.lines.rest.now;
   line : l.initial.lines.line ≤ l.lines.line;
+  read : CallsSoFar l.roots l.before l.commands (map (λ name. name.now) l.names.items) (lines_of l.initial.lines.rest.now) (lines_of l.lines.rest.now);
 }
 
 abbrev pub decreases-commands : goal.decreases-commands

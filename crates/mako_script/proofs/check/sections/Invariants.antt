@@ -1,8 +1,14 @@
 use Rattle.std.proofs.Common.{◌≤◌, length}
+use Rattle.mako_script.specs.Reading.{lines_of}
+use Rattle.mako_script.proofs.Counted.{SectionsSoFar}
 use Rattle.mako_script.proofs.check.sections.Given as goal
 
 abbrev pub invariant-sections : goal.invariant-sections
-invariant-sections l = record { few : l.sections ≤ 16; line : l.initial.lines.line ≤ l.lines.line }
+invariant-sections l = record {
+  few : l.sections ≤ 16;
+  line : l.initial.lines.line ≤ l.lines.line;
+  read : SectionsSoFar l.roots l.sections l.commands (lines_of l.initial.lines.rest.now) (lines_of l.lines.rest.now);
+}
 
 abbrev pub decreases-sections : goal.decreases-sections
 decreases-sections l = length l.lines.rest.now

@@ -24,7 +24,11 @@ returns-in-Ok-clause-refused c =
 pub returns-in-Err-Bad-clause-only : goal.returns-in-Err-Bad-clause-only
 returns-in-Err-Bad-clause-only c = λ s accepted is. absurd (no_script c.args.bytes.now (c.in-Err-Bad.ensures.bad (ap Err c.in-Err-Bad.field-0-is)) s is)
 
+pub fault-requires : goal.fault-requires
+fault-requires c = no_script c.args.bytes.now (c.in-Err-Bad.ensures.bad (ap Err c.in-Err-Bad.field-0-is))
+
 pub returns-in-Err-Bad-clause-refused : goal.returns-in-Err-Bad-clause-refused
 returns-in-Err-Bad-clause-refused c = λ kind line e.
     let same : c.fault.result ≡ Bad kind line = cc in
-    inl (no_script c.args.bytes.now (c.in-Err-Bad.ensures.bad (ap Err c.in-Err-Bad.field-0-is)), subst (TellsFault c.args.bytes.now) same c.fault.ensures)
+    let told = subst (TellsFault c.args.bytes.now) same c.fault.ensures in
+    inl (no_script c.args.bytes.now (c.in-Err-Bad.ensures.bad (ap Err c.in-Err-Bad.field-0-is)), told.0, told.1)
