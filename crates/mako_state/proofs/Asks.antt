@@ -35,13 +35,13 @@ use Rattle.mako_seat.specs.declared.seat.Seat.{Seat}
 use Rattle.mako_seat.specs.declared.seat.Seat.TheVariants.{Mutator, Server, Collector}
 use Rattle.mako_seat.specs.Seats.{next_of, Fits}
 use Rattle.mako_state.specs.CoreStates.{CoreState}
-use Rattle.mako_state.specs.Invariants.{MutatorStands, SeatStands, WholeInvariant}
+use Rattle.mako_state.specs.Invariants.{MutatorStands, WholeInvariant}
 use Rattle.mako_state.specs.Rests.{StageRests, AskRests, TaskRests, task_ended, ended_of, ServerRests, CollectorRests}
 use Rattle.mako_state.proofs.Attempts.{Scene, At, driver}
 use Rattle.mako_state.proofs.AsksAtRoots.{Asks, PhaseIsIdle, in_words, idle_packed, idle_cycle, at_place, phase_packed, phase_cycle, arriving_asks, leaving_asks, rooting_asks}
 use Rattle.mako_state.proofs.AsksAtObjects.{entering_asks, getting_asks, putting_asks}
 use Rattle.mako_state.proofs.AsksOfNew.{allocating_asks}
-use Rattle.mako_state.proofs.Others.{phase_idle, phase_known}
+use Rattle.mako_state.proofs.Others.{ended_one, ended_low, phase_idle, phase_known}
 use Rattle.mako_state.proofs.Scenes.{scene_of, caller_is, of_scene}
 
 -- ---- an attempt, by its stage
@@ -76,21 +76,10 @@ module _ (n : Numbers) (w : Facts) (st : CoreState) (inv : WholeInvariant n w st
   finished_few : word_at n st.words finished ≤ n.mutators
   finished_few =
       let most : sum_by ended_of st.seats ≤ n.mutators =
-      sum_seated ended_of st.seats n.mutators one (λ i v at some. low i v (inv.seats i v at) some) in
+      sum_seated ended_of st.seats n.mutators (ended_one n w st inv)
+      (λ i v at some. ended_low n w st inv i v (inv.seats i v at) some) in
       let is = inv.rests.finished in
       omega arith
-    where
-      task_one : (t : Task) → task_ended t ≤ 1
-      task_one TaskEnded = omega arith
-      task_one t = omega arith
-
-      one : (v : Seat) → ended_of v ≤ 1
-      one (Mutator d) = task_one d.progress.task
-      one v = omega arith
-
-      low : (i : ℕ) (v : Seat) → SeatStands n w st.front i v → 1 ≤ ended_of v → i < n.mutators
-      low i (Mutator d) stands some = stands.in_range
-      low i v stands some = absurd (omega arith)
 
   -- ---- a mutator
   module _ (m : ℕ) (d : Driving) (here : slice_get st.seats m ≡ Some (Mutator d)) where

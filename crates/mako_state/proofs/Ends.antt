@@ -55,14 +55,24 @@ module _ (n : Numbers) (w : Facts) (front : Seen) (h : Heap) (m : ℕ) (mutator 
 
   -- an attempt of a call with nothing asked; of a collect only where no cycle may run
   pub attempt_starts : (c : Call) → (c ≡ call.Collect → n.cycles ≡ 0) → Starts n w front h m (Attempting (opening caller c last None slot))
-  attempt_starts (call.New q fields) spent = record { says = tt; sought = tt; rests = tt; running = refl; standing = refl; work = refl; bare = refl }
-  attempt_starts (call.Num q number) spent = record { says = tt; sought = tt; rests = tt; running = refl; standing = refl; work = refl; bare = refl }
-  attempt_starts (call.CopyRoot to from) spent = record { says = tt; sought = tt; rests = tt; running = refl; standing = refl; work = refl; bare = refl }
-  attempt_starts (call.DropRoot q) spent = record { says = tt; sought = tt; rests = tt; running = refl; standing = refl; work = refl; bare = refl }
-  attempt_starts (call.Get to from field) spent = record { says = tt; sought = tt; rests = tt; running = refl; standing = refl; work = refl; bare = refl }
-  attempt_starts (call.Put to field from) spent = record { says = tt; sought = tt; rests = tt; running = refl; standing = refl; work = refl; bare = refl }
-  attempt_starts (call.Show q) spent = record { says = tt; sought = tt; rests = tt; running = refl; standing = refl; work = refl; bare = refl }
-  attempt_starts call.Collect spent = record { says = tt; sought = tt; rests = spent refl; running = refl; standing = refl; work = refl; bare = refl }
+  attempt_starts call.Collect spent = record {
+    says = tt;
+    sought = tt;
+    rests = spent refl;
+    running = refl;
+    standing = refl;
+    work = refl;
+    bare = refl;
+  }
+  attempt_starts c spent = record {
+    says = tt;
+    sought = tt;
+    rests = tt;
+    running = refl;
+    standing = refl;
+    work = refl;
+    bare = refl;
+  }
 
   -- the next task of a program
   pub task_starts : (o : Option Call) → (o ≡ Some call.Collect → n.cycles ≡ 0) → Starts n w front h m (task_for caller o last (record { asked = None; barrier_at = slot }))

@@ -29,7 +29,7 @@ use Rattle.mako_alloc.specs.declared.progress.Part.{Part}
 use Rattle.mako_alloc.specs.declared.progress.Part.TheVariants.{Header, Field, Top, Entry}
 use Rattle.mako_mutator.specs.declared.call_stage.CallStage.{CallStage}
 use Rattle.mako_mutator.specs.declared.call_stage.CallStage.TheVariants.{Allocating}
-use Rattle.mako_mutator.specs.declared.allocating.AllocStage.TheVariants.{StoringRoot, GivingTurn as GivingNewTurn}
+use Rattle.mako_mutator.specs.declared.allocating.AllocStage.TheVariants.{StoringRoot}
 use Rattle.mako_mutator.specs.Drivers as drivers
 use Rattle.mako_names.specs.Tables.{EntryStands, entry_of, phase_of, settled_of, published}
 use Rattle.mako_names.proofs.Counts.{names_in_order}
@@ -52,9 +52,8 @@ use Rattle.mako_layout.proofs.Entries.{address_fits}
 use Rattle.mako_layout.proofs.Outside.{new_published}
 use Rattle.mako_state.specs.Invariants.{left_facet, name_facets, layout_state, WholeInvariant}
 use Rattle.mako_state.specs.Works.{stage_work, part_work}
-use Rattle.mako_state.proofs.Attempts.{Scene, At, Result, driver, after, replied_at, heap, gates, works, laid, gate_here, work_here, seat_here, root_here, moved_work, onward, next_left, facets_after}
+use Rattle.mako_state.proofs.Attempts.{Scene, At, driver, after, replied_at, heap, gates, works, laid, gate_here, work_here, seat_here, root_here, moved_work, onward, next_left, facets_after}
 use Rattle.mako_state.proofs.GateStages.{seeking, present}
-use Rattle.mako_state.proofs.ObjectReplies.{carried_stored}
 use Rattle.mako_state.proofs.Onward.{with_driver, decides, resting}
 use Rattle.mako_state.proofs.Points.{own_reply}
 use Rattle.mako_state.proofs.RootStages.{has_value}
@@ -257,9 +256,3 @@ module _ (x : Scene) (within : Bool) (q f passed : ℕ) (note : Option Reason) (
           (with_point x.st.front (Did x.m (call.New q f) (reply.Made (record { entry = name.entry; generation = g })))) (answered (name_facets x.st.seats) x.m left)) e
           (subst (λ z. NamesHold x.n x.w (set x.st.words (index x.n (entry name.entry)) (entry_word (published (entry_of x.n x.st.words name.entry).generation z (index x.n (region_word made.home made.top)))))
           (with_point x.st.front (Did x.m (call.New q f) (reply.Made (record { entry = name.entry; generation = (entry_of x.n x.st.words name.entry).generation })))) (answered (name_facets x.st.seats) x.m left)) c kept)
-
-  -- the root of the object that was made is stored
-  pub made_root_stored : (at : At x within (Allocating (StoringRoot q name t))) → let u = Allocating (GivingNewTurn name t) in
-      drivers.IsKnown (after x u) → Result x within (Allocating (StoringRoot q name t)) u (words_after (record { word = index x.n (root x.m q); op = Store (value_word (Ref name)) }) x.st.words)
-  made_root_stored at known =
-      carried_stored x within (Allocating (StoringRoot q name t)) (Allocating (GivingNewTurn name t)) at q (Ref name) at.stands.known.progress.task.known.stage.0 refl refl known tt tt tt refl refl

@@ -52,7 +52,7 @@ module _ (n : Numbers) (w : Facts) (st : CoreState) (inv : WholeInvariant n w st
       (subst (λ ks. Evacuation n (record (layout_state n w st) { words = λ p. word_at n us p; works = ks })) (sym (map_kept work_facet st.seats i v u here work)) kept)
 
   -- how many mutators are at their ends
-  ended_one : (v : Seat) → ended_of v ≤ 1
+  pub ended_one : (v : Seat) → ended_of v ≤ 1
   ended_one (Mutator d) = task_one d.progress.task
     where
       task_one : (t : Task) → task_ended t ≤ 1
@@ -63,7 +63,7 @@ module _ (n : Numbers) (w : Facts) (st : CoreState) (inv : WholeInvariant n w st
   ended_one (Server s) = omega arith
   ended_one (Collector c) = omega arith
 
-  ended_low : (i : ℕ) (v : Seat) → SeatStands n w st.front i v → 1 ≤ ended_of v → i < n.mutators
+  pub ended_low : (i : ℕ) (v : Seat) → SeatStands n w st.front i v → 1 ≤ ended_of v → i < n.mutators
   ended_low i (Mutator d) stands one = stands.in_range
   ended_low i (Server s) stands one = absurd (omega arith)
   ended_low i (Collector c) stands one = absurd (omega arith)
