@@ -32,20 +32,20 @@ turned word name =
     one_answer (bytes_eq name word) (bytes_eq word name) (bytes_eq-Decides name word)
     (λ e. sym ((bytes_eq-Decides word name).0 e), λ same. (bytes_eq-Decides word name).1 (sym same))
 
-among_any : (names : List (List ℕ)) (word : List ℕ) → is_among names word ≡ list_any (bytes_eq word) names
+pub among_any : (names : List (List ℕ)) (word : List ℕ) → is_among names word ≡ list_any (bytes_eq word) names
 among_any [] word = refl
 among_any (name ∷ names) word =
     (λ i. turned word name i || list_any (λ (n : List ℕ). bytes_eq n word) names) ∙ ap (λ (b : Bool). bytes_eq word name || b) (among_any names word)
 
 -- a name that is among others has a place there
-among_place : (names : List (List ℕ)) (word : List ℕ) → is_among names word ≡ true → (root : ℕ) × (place_at names word ≡ Some root)
+pub among_place : (names : List (List ℕ)) (word : List ℕ) → is_among names word ≡ true → (root : ℕ) × (place_at names word ≡ Some root)
 among_place names word is = by (place_at names word) refl
   where
     by : (o : Option ℕ) → place_at names word ≡ o → (root : ℕ) × (place_at names word ≡ Some root)
     by (Some root) e = (root, e)
     by None e = absurd (true≢false (sym is ∙ among_any names word ∙ no_place names word e))
 
-not_placed : (names : List (List ℕ)) (word : List ℕ) → is_among names word ≡ false → is_some (place_at names word) ≡ false
+pub not_placed : (names : List (List ℕ)) (word : List ℕ) → is_among names word ≡ false → is_some (place_at names word) ≡ false
 not_placed names word none = by (place_at names word) refl
   where
     by : (o : Option ℕ) → place_at names word ≡ o → is_some o ≡ false
@@ -92,7 +92,7 @@ arguments_read names roots kinds words same are =
 
 -- ---- lines
 
-first_kind : (command : Command) → defines command ≡ true → slice_get (kinds_of command) 0 ≡ Some arguments.Defined
+pub first_kind : (command : Command) → defines command ≡ true → slice_get (kinds_of command) 0 ≡ Some arguments.Defined
 first_kind New e = refl
 first_kind Num e = refl
 first_kind Copy e = refl

@@ -2,6 +2,9 @@ pub mod Splits
 pub mod Digits
 pub mod Checked
 pub mod Commands
+pub mod FirstArguments
+pub mod Clean
+pub mod FirstOfCommand
 pub mod NameLists
 pub mod Loops
 pub mod Takes

@@ -29,7 +29,7 @@ not_in lines from at setting is = omega (arith, is.behind, is.before)
 pub not_between : (lines : List (List ℕ)) (at : ℕ) → at < 11 → IsBetween lines at → ⊥
 not_between lines at setting is = omega (arith, is.behind)
 
-number_is : (word : List ℕ) (n m : ℕ) → word ≡ decimal n → n < 10000000000 → IsNumber word m → m ≡ n
+pub number_is : (word : List ℕ) (n m : ℕ) → word ≡ decimal n → n < 10000000000 → IsNumber word m → m ≡ n
 number_is word n m spelled few is = decimal_injective m n (omega (arith, is.1)) (omega arith) (sym is.0 ∙ spelled)
 
 -- its number is one, and in its range

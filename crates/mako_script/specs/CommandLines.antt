@@ -1,13 +1,17 @@
 -- A command line by itself, among the names that are defined before it.
-use Rattle.std.specs.Prelude.{◌≡◌, ℕ, ◌<◌, ◌⊎◌, Bool, true, List, [], ◌∷◌, ◌++◌, length, slice_get, Option, Some, None, Ok}
+use Rattle.std.specs.Prelude.{◌≡◌, ℕ, ◌<◌, ◌≤◌, ◌⊎◌, Bool, true, false, List, [], ◌∷◌, ◌++◌, length, slice_get, Option, Some, None, Ok, Err, nat_lt, if◌then◌else◌}
 use Rattle.std.specs.List.{list_any}
 use Rattle.std.specs.Str.{bytes_eq}
 use Rattle.mako_model.specs.declared.call.Call.{Call}
 use Rattle.mako_script.specs.declared.command.Argument.{Argument}
 use Rattle.mako_script.specs.declared.command.Argument.TheVariants.{Defined, Read, Fields, Index, Number}
+use Rattle.mako_script.specs.declared.command.Command.{Command}
+use Rattle.mako_script.specs.declared.fault.Kind.{Kind}
+use Rattle.mako_script.specs.declared.fault.Kind.TheVariants as faults
 use Rattle.mako_script.specs.Names.{is_name}
 use Rattle.mako_script.specs.Checks.{IsValue}
-use Rattle.mako_script.specs.Lines.{word_in}
+use Rattle.mako_script.specs.Faults.{rank}
+use Rattle.mako_script.specs.Lines.{greatest, word_in, HasArgument, IsCommand, IsNumber}
 use Rattle.mako_script.specs.Reading.{command_at}
 
 abbrev pub is_among : List (List ℕ) → List ℕ → Bool
@@ -21,10 +25,53 @@ IsArgument names roots Fields word = (n : ℕ) × IsValue 0 14 word (Ok n)
 IsArgument names roots Index word = (n : ℕ) × IsValue 0 13 word (Ok n)
 IsArgument names roots Number word = (n : ℕ) × IsValue 0 4294967295 word (Ok n)
 
+-- what is wrong with a word as an argument of this kind
+abbrev pub ArgumentFault : List (List ℕ) → ℕ → Argument → List ℕ → Kind → Type 0
+ArgumentFault names roots Defined word faults.Word = is_name word ≡ false
+ArgumentFault names roots Defined word faults.Names = (is_name word ≡ true) × (is_among names word ≡ false) × (roots ≤ length names)
+ArgumentFault names roots Defined word fault = ⊥
+ArgumentFault names roots Read word faults.Word = is_name word ≡ false
+ArgumentFault names roots Read word faults.Undefined = (is_name word ≡ true) × (is_among names word ≡ false)
+ArgumentFault names roots Read word fault = ⊥
+ArgumentFault names roots Fields word fault = IsValue 0 14 word (Err fault)
+ArgumentFault names roots Index word fault = IsValue 0 13 word (Err fault)
+ArgumentFault names roots Number word fault = IsValue 0 4294967295 word (Err fault)
+
 -- the words may stand there as arguments of these kinds
 abbrev pub AreArguments : List (List ℕ) → ℕ → List Argument → List (List ℕ) → Type 0
 AreArguments names roots kinds words =
     (place : ℕ) → (kind : Argument) → slice_get kinds place ≡ Some kind → IsArgument names roots kind (word_in words place)
+
+-- one of the words has this fault, and none a fault that is told before it
+pub record IsLeastFault (names : List (List ℕ)) (roots : ℕ) (kinds : List Argument) (words : List (List ℕ)) (fault : Kind) : Type 0 where
+  pub place : ℕ
+  pub kind : Argument
+  pub among : slice_get kinds place ≡ Some kind
+  pub has : ArgumentFault names roots kind (word_in words place) fault
+  pub least : (other : ℕ) → (k : Argument) → (f : Kind) → slice_get kinds other ≡ Some k → ArgumentFault names roots k (word_in words other) f → rank fault ≤ rank f
+
+-- of two faults the one that is told before the other
+abbrev pub told_first : Option Kind → Option Kind → Option Kind
+told_first None found = found
+told_first (Some first) None = Some first
+told_first (Some first) (Some found) = if nat_lt (rank found) (rank first) then Some found else Some first
+
+-- what is wrong with the words as a command
+abbrev pub CommandFault : List (List ℕ) → ℕ → List (List ℕ) → Kind → Type 0
+CommandFault names roots words faults.Word = (command : Command) → ¬ IsCommand words command
+CommandFault names roots words faults.Number =
+    (kind : Argument) × (word : List ℕ) × (most : ℕ) × HasArgument words kind word × (greatest kind ≡ Some most) × ((n : ℕ) → ¬ IsNumber word n)
+CommandFault names roots words faults.Range =
+    (kind : Argument) × (word : List ℕ) × (most : ℕ) × (n : ℕ) × HasArgument words kind word × (greatest kind ≡ Some most) × IsNumber word n × (most < n)
+CommandFault names roots words faults.Undefined = (name : List ℕ) × HasArgument words Read name × (is_among names name ≡ false)
+CommandFault names roots words faults.Names =
+    (name : List ℕ) × HasArgument words Defined name × (is_among names name ≡ false) × (roots ≤ length names)
+CommandFault names roots words fault = ⊥
+
+-- the words have this fault, and none that is told before it
+pub record IsFirstOfCommand (names : List (List ℕ)) (roots : ℕ) (words : List (List ℕ)) (fault : Kind) : Type 0 where
+  pub has : CommandFault names roots words fault
+  pub least : (other : Kind) → CommandFault names roots words other → rank fault ≤ rank other
 
 -- the names behind a line that may define one
 abbrev pub with_name : List (List ℕ) → Option (List ℕ) → List (List ℕ)

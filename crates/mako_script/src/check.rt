@@ -1,11 +1,12 @@
 //! The first fault of a text that is no script.
 
-ghost use Rattle.std.specs.Prelude.{◌≡◌, List, Some, ◌≤◌, ◌<◌, ◌+◌, ◌∷◌, [], drop, length, map, min, option_map, IfErr, IfNone, IfOk, IfSome, IsSome, OnOk};
+ghost use Rattle.std.specs.Prelude.{◌≡◌, ◌≢◌, List, Some, ◌≤◌, ◌<◌, ◌+◌, ◌∷◌, [], drop, length, map, min, option_map, IfErr, IfNone, IfOk, IfSome, IsSome, OnOk};
 ghost use Rattle.std.specs.Bool.{OnTrue};
 ghost use Rattle.std.specs.List.{list_all};
 ghost use Rattle.mako_script.specs.Answers.{IsFirstAmongSettings};
+ghost use Rattle.mako_script.specs.declared.fault.Kind.{Kind};
 ghost use Rattle.mako_script.specs.Checks.{HaveSettings, IsCut, IsLine, IsSettingLine, IsValue};
-ghost use Rattle.mako_script.specs.CommandLines.{AreArguments, IsArgument, IsRead, is_among, with_name};
+ghost use Rattle.mako_script.specs.CommandLines.{AreArguments, ArgumentFault, CommandFault, IsArgument, IsFirstOfCommand, IsLeastFault, IsRead, is_among, told_first, with_name};
 ghost use Rattle.mako_script.specs.Faults.{IsFirstFault, is_printable};
 ghost use Rattle.mako_script.specs.Names.{board_name};
 ghost use Rattle.mako_script.specs.Programs.{ProgramView};
@@ -165,6 +166,7 @@ fn is_among(names: &[&[u8]], word: &[u8]) -> bool
 /// The fault of an argument, if it has one.
 fn argument_fault(names: &[&[u8]], roots: usize, kind: Argument, word: &[u8]) -> Option<Kind>
     ensures none { IfNone result (IsArgument (map (λ name. name.now) names.now) roots kind word.now) }
+    ensures some { IfSome result (ArgumentFault (map (λ name. name.now) names.now) roots kind word.now) }
 {
     let number = match kind {
         Argument::Defined | Argument::Read if !is_spelled_as_name(word) => return Some(Kind::Word),
@@ -187,6 +189,7 @@ fn argument_fault(names: &[&[u8]], roots: usize, kind: Argument, word: &[u8]) ->
 fn arguments(count: usize, text: &[u8]) -> Option<Words>
     requires { count ≤ 3 }
     ensures count { IfSome result (λ words. length words.items ≡ count) }
+    ensures other { IfNone result (length (words_behind text.now) ≢ count) }
     ensures words { IfSome result (λ words. map (λ word. word.now) words.items ≡ words_behind text.now) }
 {
     let mut words = Words::new();
@@ -201,6 +204,17 @@ fn arguments(count: usize, text: &[u8]) -> Option<Words>
     if rest.is_empty() { Some(words) } else { None }
 }
 
+/// Of two faults of one line that which is told: the first in the order of the kinds.
+fn earlier(first: Option<Kind>, found: Option<Kind>) -> Option<Kind>
+    ensures { result ≡ told_first first found }
+{
+    match (first, found) {
+        (Some(kind), Some(other)) if other.rank() < kind.rank() => Some(other),
+        (Some(kind), _) => Some(kind),
+        (None, found) => found,
+    }
+}
+
 /// The first of the faults that the arguments have.
 fn arguments_fault(
     names: &[&[u8]],
@@ -210,14 +224,11 @@ fn arguments_fault(
 ) -> Option<Kind>
     requires { length kinds.now ≡ length words.now }
     ensures none { IfNone result (AreArguments (map (λ name. name.now) names.now) roots kinds.now (map (λ word. word.now) words.now)) }
+    ensures some { IfSome result (IsLeastFault (map (λ name. name.now) names.now) roots kinds.now (map (λ word. word.now) words.now)) }
 {
     let mut first: Option<Kind> = None;
     for i in 0..kinds.len() {
-        first = match (first, argument_fault(names, roots, kinds[i], words[i])) {
-            (Some(kind), Some(other)) if other < kind => Some(other),
-            (None, fault) => fault,
-            (first, _) => first,
-        };
+        first = earlier(first, argument_fault(names, roots, kinds[i], words[i]));
     }
     first
 }
@@ -225,6 +236,8 @@ fn arguments_fault(
 /// The name that a command line defines, if it defines a new one.
 fn command<'a>(names: &[&[u8]], roots: usize, line: &'a [u8]) -> Result<Option<&'a [u8]>, Kind>
     ensures room { IfOk result (λ new. IsSome new → length names.now < roots) }
+    ensures fault { IfErr result (IsFirstOfCommand (map (λ name. name.now) names.now) roots (words_of line.now)) }
+    ensures none { IfOk result (λ _. (fault : Kind) → ¬ CommandFault (map (λ name. name.now) names.now) roots (words_of line.now) fault) }
     ensures read { IfOk result (λ new. IsRead roots (map (λ name. name.now) names.now) (words_of line.now)
         (with_name (map (λ name. name.now) names.now) (option_map (λ name. name.now) new))) }
 {

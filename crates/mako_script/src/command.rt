@@ -1,6 +1,6 @@
 //! The commands of scripts: their words, their arguments, and the calls that they stand for.
 
-ghost use Rattle.std.specs.Prelude.{◌≡◌, ◌≤◌, length};
+ghost use Rattle.std.specs.Prelude.{◌≡◌, ◌≤◌, length, IfErr};
 ghost use Rattle.mako_script.specs.Reading.{Gives, command_named, kinds_of, defines, call_of, FitCall};
 
 use crate::refusal::Refusal;
@@ -36,7 +36,8 @@ pub enum Argument {
 impl Command {
     /// The command of a word.
     pub fn named(word: &[u8]) -> Result<Command, Refusal>
-        ensures { Gives (λ c. c) result (command_named word.now) }
+        ensures read { Gives (λ c. c) result (command_named word.now) }
+        ensures kind { IfErr result (λ e. e ≡ Refusal.Bad) }
     {
         if word == b"new".as_slice() {
             Ok(Command::New)

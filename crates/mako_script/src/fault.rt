@@ -2,13 +2,14 @@
 
 ghost use Rattle.std.specs.Prelude.{◌≡◌, ◌≤◌, length};
 ghost use Rattle.mako_script.specs.FaultTexts.{fault_text, kind_text};
+ghost use Rattle.mako_script.specs.Faults.{rank};
 
 use crate::line::{Line, add, add_number};
 use std::fmt;
 use thiserror::Error;
 
 /// What is wrong with a line. Of several faults in one line the first in this order is told.
-#[derive(Clone, Copy, Debug, PartialEq, Eq, PartialOrd, Ord)]
+#[derive(Clone, Copy, Debug, PartialEq, Eq)]
 pub enum Kind {
     /// A byte is not in 32 to 126.
     NotAscii,
@@ -41,6 +42,13 @@ pub enum Kind {
 }
 
 impl Kind {
+    /// The place of the kind in the order in which faults of one line are told.
+    pub fn rank(self) -> u8
+        ensures { result ≡ rank self }
+    {
+        self as u8
+    }
+
     /// The name that is printed.
     pub fn name(self) -> &'static str
         ensures name { result.now ≡ kind_text self }
