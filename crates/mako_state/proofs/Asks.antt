@@ -103,7 +103,8 @@ module _ (n : Numbers) (w : Facts) (st : CoreState) (inv : WholeInvariant n w st
         let idle = phase_idle n w st inv m d here stands runs in
         let word = word_at n st.words phase in
         let k : Caller = record { shape = n; mutator = m } in
-        subst (λ (j : Caller). CanStep (calling.stage_next j c.slot c.stage) st.words (calling.StageFits j.shape c.stage))
+        subst (λ (j : Caller). CanStep (calling.stage_next j c.slot c.stage) st.words
+        (calling.StageFits j.shape c.stage))
         (sym (known.same ∙ caller_is n w st inv m d stands))
         (subst (λ s. CanStep (calling.stage_next k c.slot s) st.words (calling.StageFits n s)) (sym rests.0)
         (at_word phase tt, tt, (idle_packed word idle, idle_cycle word n.cycles idle)))
@@ -136,7 +137,8 @@ module _ (n : Numbers) (w : Facts) (st : CoreState) (inv : WholeInvariant n w st
   server_asks : (v : Serving) → v.tracer.shape ≡ n → (s : ServerStage) → ServerRests (word_at n st.words phase) s →
       CanStep (serving.stage_next v.tracer s) st.words (serving.StageFits v.tracer s)
   server_asks v shape Turning rests =
-      subst (λ (j : Numbers). CanStep (does (index j phase) Load) st.words (λ z. IsPackedPhase z × PhaseFits j (phase_at z)))
+      subst (λ (j : Numbers). CanStep (does (index j phase) Load) st.words
+      (λ z. IsPackedPhase z × PhaseFits j (phase_at z)))
       (sym shape) (at_word phase tt, tt, phase_turned)
   server_asks v shape ServerEnded rests = tt
   server_asks v shape s rests = absurd rests
@@ -153,7 +155,8 @@ module _ (n : Numbers) (w : Facts) (st : CoreState) (inv : WholeInvariant n w st
       subst (λ (j : Numbers). CanStep (does (index j finished) Load) st.words (λ z. z ≤ j.mutators)) (sym shape)
       (at_word finished tt, tt, finished_few)
   collector_asks c shape (Idle StoringStop) rests =
-      subst (λ (j : Numbers). CanStep (does (index j phase) (Store (phase_word (Stop c.kept.cycle)))) st.words (λ z. Unit {0}))
+      subst (λ (j : Numbers). CanStep (does (index j phase) (Store (phase_word (Stop c.kept.cycle)))) st.words
+      (λ z. Unit {0}))
       (sym shape) (at_word phase tt, tt, tt)
   collector_asks c shape CollectorEnded rests = tt
   collector_asks c shape s rests = absurd rests

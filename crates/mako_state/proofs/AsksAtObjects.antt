@@ -65,7 +65,8 @@ module _ (x : Scene) where
         let o = word_of_address x.n a in
         let fits : o + z < x.n.words = elim (cases_lt 0 z) [
           | inl some ↦
-              (let last = field_in_region x within s at object a using is hand (z - 1) here (omega arith) in omega arith)
+              (let last = field_in_region x within s at object a using is hand (z - 1) here (omega arith) in
+              omega arith)
           | inr none ↦ (let first = address_word x.n a is in omega arith)
         ] in
         let end = index_below x.n (region_word r (o + z)) (address_in_range x.n a is, fits) in

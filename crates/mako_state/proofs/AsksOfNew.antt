@@ -66,8 +66,11 @@ module _ (x : Scene) (within : Bool) where
         let g = tablet_gate_found x t low in
         (at_place x (tablet_gate t) low, g.room, g.packed)
     search_asks TurnedAway at =
-        let low = tablet_low TurnedAway at in
-        (at_place x (tablet_gate t) low, tablet_counted x within (stage TurnedAway) at t low (is_admitted x.n x.m t), tt)
+        let low = tablet_low TurnedAway at in (
+          at_place x (tablet_gate t) low,
+          tablet_counted x within (stage TurnedAway) at t low (is_admitted x.n x.m t),
+          tt,
+        )
     search_asks TakingTurn at = (at_place x (turn t) (tablet_low TakingTurn at), tt, tt)
     search_asks LoadingLeaving at = (at_place x (leaving t) (tablet_low LoadingLeaving at), tt, tt)
     search_asks LoadingTop at = (at_place x (top t) (tablet_low LoadingTop at), tt, top_low at)

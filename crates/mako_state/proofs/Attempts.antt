@@ -81,10 +81,20 @@ module _ (x : Scene) where
 
   -- before and after a step within the attempt
   abbrev pub driver : Bool → CallStage → Driving
-  driver within s = record { caller = k; calls = x.calls; replies = x.replies; progress = record { done = x.done; within = within; task = Attempting (attempt s) } }
+  driver within s = record {
+    caller = k;
+    calls = x.calls;
+    replies = x.replies;
+    progress = record { done = x.done; within = within; task = Attempting (attempt s) };
+  }
 
   abbrev pub after : CallStage → Driving
-  after s = record { caller = k; calls = x.calls; replies = x.replies ++ []; progress = record { done = x.done; within = true; task = Attempting (attempt s) } }
+  after s = record {
+    caller = k;
+    calls = x.calls;
+    replies = x.replies ++ [];
+    progress = record { done = x.done; within = true; task = Attempting (attempt s) };
+  }
 
   -- after the step from one stage to another, whatever it tells
   abbrev pub fed_to : Bool → CallStage → CallStage → Driving
@@ -92,7 +102,8 @@ module _ (x : Scene) where
     caller = k;
     calls = x.calls;
     replies = x.replies ++ told_reply (event_by x.m x.call (decided s) (decided t));
-    progress = attempt_on k x.calls (record { done = x.done; within = within; task = Attempting (attempt s) }) (attempt t) (outcome_in t);
+    progress = attempt_on k x.calls (record { done = x.done; within = within; task = Attempting (attempt s) })
+        (attempt t) (outcome_in t);
   }
 
   -- and the invariant then
@@ -105,7 +116,12 @@ module _ (x : Scene) where
 
   -- after a step that tells this reply
   abbrev pub replied_at : CallStage → Reply → Driving
-  replied_at t r = record { caller = k; calls = x.calls; replies = x.replies ++ r ∷ []; progress = record { done = x.done; within = true; task = Attempting (attempt t) } }
+  replied_at t r = record {
+    caller = k;
+    calls = x.calls;
+    replies = x.replies ++ r ∷ [];
+    progress = record { done = x.done; within = true; task = Attempting (attempt t) };
+  }
 
   -- the mutator is at this stage
   pub record At (within : Bool) (s : CallStage) : Type 0 where
@@ -139,39 +155,54 @@ module _ (x : Scene) where
     pub work_here : slice_get works x.m ≡ Some (stage_work x.n s)
     work_here = map_at work_facet x.st.seats x.m (Mutator (driver within s)) at.here
 
-    pub seat_here : evacuations.Seat (layout_state x.n x.w x.st) x.m (mutator_at x.m (stage_standing x.n s)) (stage_work x.n s)
+    pub seat_here : evacuations.Seat (layout_state x.n x.w x.st) x.m (mutator_at x.m (stage_standing x.n s))
+        (stage_work x.n s)
     seat_here = record { gate = gate_here; work = work_here }
 
     -- the lists of facets after the step
     relaid : (us : List ℕ) (front : Seen) (d : Driving) (gs : List GateFacet) (ks : List Work) →
-        map (gate_facet x.n) (set x.st.seats x.m (Mutator d)) ≡ gs → map work_facet (set x.st.seats x.m (Mutator d)) ≡ ks →
-        Evacuation x.n (laid us front gs ks) → Evacuation x.n (layout_state x.n x.w (with_driver x.n x.w x.st x.inv x.m us front d))
+        map (gate_facet x.n) (set x.st.seats x.m (Mutator d)) ≡ gs →
+        map work_facet (set x.st.seats x.m (Mutator d)) ≡ ks →
+        Evacuation x.n (laid us front gs ks) →
+        Evacuation x.n (layout_state x.n x.w (with_driver x.n x.w x.st x.inv x.m us front d))
     relaid us front d gs ks e f kept =
         subst (λ q. Evacuation x.n (laid us front q (map work_facet (set x.st.seats x.m (Mutator d))))) (sym e)
         (subst (λ q. Evacuation x.n (laid us front gs q)) (sym f) kept)
 
     -- the gate facet changes, or the work, or neither, to those of this driver
     pub moved_gate : (us : List ℕ) (front : Seen) (d : Driving) → work_facet (Mutator d) ≡ stage_work x.n s →
-        Evacuation x.n (laid us front (set gates x.m (gate_facet x.n (Mutator d))) works) → Evacuation x.n (layout_state x.n x.w (with_driver x.n x.w x.st x.inv x.m us front d))
-    moved_gate us front d same kept = relaid us front d _ _ (map_to (gate_facet x.n) x.st.seats x.m (Mutator d) (gate_facet x.n (Mutator d)) refl)
+        Evacuation x.n (laid us front (set gates x.m (gate_facet x.n (Mutator d))) works) →
+        Evacuation x.n (layout_state x.n x.w (with_driver x.n x.w x.st x.inv x.m us front d))
+    moved_gate us front d same kept =
+        relaid us front d _ _ (map_to (gate_facet x.n) x.st.seats x.m (Mutator d) (gate_facet x.n (Mutator d)) refl)
         (map_kept work_facet x.st.seats x.m (Mutator (driver within s)) (Mutator d) at.here same) kept
 
-    pub moved_work : (us : List ℕ) (front : Seen) (d : Driving) → gate_facet x.n (Mutator d) ≡ mutator_at x.m (stage_standing x.n s) →
-        Evacuation x.n (laid us front gates (set works x.m (work_facet (Mutator d)))) → Evacuation x.n (layout_state x.n x.w (with_driver x.n x.w x.st x.inv x.m us front d))
-    moved_work us front d same kept = relaid us front d _ _ (map_kept (gate_facet x.n) x.st.seats x.m (Mutator (driver within s)) (Mutator d) at.here same)
+    pub moved_work : (us : List ℕ) (front : Seen) (d : Driving) →
+        gate_facet x.n (Mutator d) ≡ mutator_at x.m (stage_standing x.n s) →
+        Evacuation x.n (laid us front gates (set works x.m (work_facet (Mutator d)))) →
+        Evacuation x.n (layout_state x.n x.w (with_driver x.n x.w x.st x.inv x.m us front d))
+    moved_work us front d same kept =
+        relaid us front d _ _
+        (map_kept (gate_facet x.n) x.st.seats x.m (Mutator (driver within s)) (Mutator d) at.here same)
         (map_to work_facet x.st.seats x.m (Mutator d) (work_facet (Mutator d)) refl) kept
 
-    pub moved_neither : (us : List ℕ) (front : Seen) (d : Driving) → gate_facet x.n (Mutator d) ≡ mutator_at x.m (stage_standing x.n s) →
-        work_facet (Mutator d) ≡ stage_work x.n s → Evacuation x.n (laid us front gates works) → Evacuation x.n (layout_state x.n x.w (with_driver x.n x.w x.st x.inv x.m us front d))
-    moved_neither us front d same_gate same_work kept = relaid us front d _ _ (map_kept (gate_facet x.n) x.st.seats x.m (Mutator (driver within s)) (Mutator d) at.here same_gate)
+    pub moved_neither : (us : List ℕ) (front : Seen) (d : Driving) →
+        gate_facet x.n (Mutator d) ≡ mutator_at x.m (stage_standing x.n s) →
+        work_facet (Mutator d) ≡ stage_work x.n s → Evacuation x.n (laid us front gates works) →
+        Evacuation x.n (layout_state x.n x.w (with_driver x.n x.w x.st x.inv x.m us front d))
+    moved_neither us front d same_gate same_work kept =
+        relaid us front d _ _
+        (map_kept (gate_facet x.n) x.st.seats x.m (Mutator (driver within s)) (Mutator d) at.here same_gate)
         (map_kept work_facet x.st.seats x.m (Mutator (driver within s)) (Mutator d) at.here same_work) kept
 
     -- ---- roots
-    pub root_here : (q : ℕ) (v : Value) → q < x.n.roots → root_of heap x.m q ≡ Some v → WordStands (stage_carried s) q (word_at x.n x.st.words (root x.m q)) v
+    pub root_here : (q : ℕ) (v : Value) → q < x.n.roots → root_of heap x.m q ≡ Some v →
+        WordStands (stage_carried s) q (word_at x.n x.st.words (root x.m q)) v
     root_here q v low is = x.inv.roots x.m q (Mutator (driver within s)) v at.here at.stands.in_range low is
 
     pub stands_after : (d : Driving) → drivers.IsKnown d → d.caller ≡ k → d.calls ≡ x.calls → d.replies ≡ x.replies →
-        TaskSays heap x.m d.progress.task → TaskSought x.w x.st.front x.m d.progress.task → MutatorStands x.n x.w x.st.front x.m d
+        TaskSays heap x.m d.progress.task → TaskSought x.w x.st.front x.m d.progress.task →
+        MutatorStands x.n x.w x.st.front x.m d
     stands_after d known caller_is calls_are replies_are says sought = record {
       known = known;
       shape = ap (λ (c : Caller). c.shape) caller_is;
@@ -194,7 +225,8 @@ module _ (x : Scene) where
       pub own : OwnRoots x.n heap us x.m (after t)
       pub layout : Evacuation x.n (layout_state x.n x.w (with_driver x.n x.w x.st x.inv x.m us x.st.front (after t)))
 
-    pub onward : (t : CallStage) (us : List ℕ) → Onwards t us → WholeInvariant x.n x.w (with_driver x.n x.w x.st x.inv x.m us x.st.front (after t))
+    pub onward : (t : CallStage) (us : List ℕ) → Onwards t us →
+        WholeInvariant x.n x.w (with_driver x.n x.w x.st x.inv x.m us x.st.front (after t))
     onward t us o = goes_on x.n x.w x.st x.inv x.m (driver within s) (after t) us (record {
       here = at.here;
       same = o.same;
@@ -214,12 +246,17 @@ module _ (x : Scene) where
       pub says : StageSays heap x.m x.call t
       pub sought : StageSought x.w x.st.front x.m x.call t
       pub rests : StageRests x.n t
-      pub own : (q : ℕ) (v : Value) → q < x.n.roots → root_of heap x.m q ≡ Some v → WordStands (stage_carried t) q (word_at x.n x.st.words (root x.m q)) v
-      pub layout : Evacuation x.n (layout_state x.n x.w (with_driver x.n x.w x.st x.inv x.m x.st.words x.st.front (after t)))
+      pub own : (q : ℕ) (v : Value) → q < x.n.roots → root_of heap x.m q ≡ Some v →
+          WordStands (stage_carried t) q (word_at x.n x.st.words (root x.m q)) v
+      pub layout : Evacuation x.n
+          (layout_state x.n x.w (with_driver x.n x.w x.st x.inv x.m x.st.words x.st.front (after t)))
 
     pub loads : (t : CallStage) (i : ℕ) → Loads t →
-        WholeInvariant x.n x.w (with_driver x.n x.w x.st x.inv x.m (words_after (record { word = i; op = Load }) x.st.words) x.st.front (after t))
-    loads t i o = subst (λ us. WholeInvariant x.n x.w (with_driver x.n x.w x.st x.inv x.m us x.st.front (after t))) (sym (load_back x.st.words i))
+        WholeInvariant x.n x.w
+        (with_driver x.n x.w x.st x.inv x.m (words_after (record { word = i; op = Load }) x.st.words) x.st.front
+        (after t))
+    loads t i o = subst (λ us. WholeInvariant x.n x.w (with_driver x.n x.w x.st x.inv x.m us x.st.front (after t)))
+        (sym (load_back x.st.words i))
         (onward t x.st.words (record {
           known = o.known;
           says = o.says;
@@ -243,26 +280,33 @@ module _ (x : Scene) where
       pub same : SameTables x.n x.st.words us
       pub roots : SameRoots x.n x.st.words us x.m
       pub own : OwnRoots x.n (heap_after heap (Did x.m x.call r)) us x.m (replied_at t r)
-      pub layout : Evacuation x.n (layout_state x.n x.w (with_driver x.n x.w x.st x.inv x.m us (with_point x.st.front (Did x.m x.call r)) (replied_at t r)))
+      pub layout : Evacuation x.n
+          (layout_state x.n x.w
+          (with_driver x.n x.w x.st x.inv x.m us (with_point x.st.front (Did x.m x.call r)) (replied_at t r)))
 
     -- the call is the next one that is left
     pub next_left : decided s ≡ None → drop (length x.replies) x.calls ≡ x.call ∷ drop (length x.replies + 1) x.calls
     next_left undecided =
         let known = at.stands.known in
         let none : length x.replies ≡ x.done + 0 = known.replies ∙ ap (λ o. x.done + ahead o) undecided in
-        drop_at x.calls (length x.replies) x.call (ap (slice_get x.calls) (let e : length x.replies ≡ x.done = omega arith in e) ∙ known.progress.task.call)
+        drop_at x.calls (length x.replies) x.call
+        (ap (slice_get x.calls) (let e : length x.replies ≡ x.done = omega arith in e) ∙ known.progress.task.call)
 
-    pub left_after : (t : CallStage) (r : Reply) → drop (length (x.replies ++ r ∷ [])) x.calls ≡ drop (length x.replies + 1) x.calls
+    pub left_after : (t : CallStage) (r : Reply) →
+        drop (length (x.replies ++ r ∷ [])) x.calls ≡ drop (length x.replies + 1) x.calls
     left_after t r = ap (λ j. drop j x.calls) (length-append x.replies (r ∷ []))
 
     pub facets_after : (t : CallStage) (r : Reply) →
-        name_facets (set x.st.seats x.m (Mutator (replied_at t r))) ≡ answered (name_facets x.st.seats) x.m (drop (length x.replies + 1) x.calls)
+        name_facets (set x.st.seats x.m (Mutator (replied_at t r))) ≡ answered (name_facets x.st.seats) x.m
+        (drop (length x.replies + 1) x.calls)
     facets_after t r = λ i. record (name_facets x.st.seats) {
-      left = map_to left_facet x.st.seats x.m (Mutator (replied_at t r)) (drop (length x.replies + 1) x.calls) (left_after t r) i;
+      left = map_to left_facet x.st.seats x.m (Mutator (replied_at t r)) (drop (length x.replies + 1) x.calls)
+          (left_after t r) i;
     }
 
     pub answers : (t : CallStage) (r : Reply) (us : List ℕ) → Answering t r us →
-        WholeInvariant x.n x.w (with_driver x.n x.w x.st x.inv x.m us (with_point x.st.front (Did x.m x.call r)) (replied_at t r))
+        WholeInvariant x.n x.w
+        (with_driver x.n x.w x.st x.inv x.m us (with_point x.st.front (Did x.m x.call r)) (replied_at t r))
     answers t r us a =
         let p : Point = Did x.m x.call r in
         let next : slice_get (map left_facet x.st.seats) x.m ≡ Some (x.call ∷ drop (length x.replies + 1) x.calls) =
@@ -273,8 +317,14 @@ module _ (x : Scene) where
           lawful = a.lawful;
           names = subst (NamesHold x.n x.w us (with_point x.st.front p)) (sym (facets_after t r))
               (step_kept x.n x.w scene
-              (record { words = us; front = with_point x.st.front p; facets = answered (name_facets x.st.seats) x.m (drop (length x.replies + 1) x.calls) })
-              x.inv.script.facts (Decides us x.m x.call r (drop (length x.replies + 1) x.calls) next (Plain x.call r a.plain a.lawful) a.same.leaves) x.inv.names);
+              (record {
+                words = us;
+                front = with_point x.st.front p;
+                facets = answered (name_facets x.st.seats) x.m (drop (length x.replies + 1) x.calls);
+              })
+              x.inv.script.facts
+              (Decides us x.m x.call r (drop (length x.replies + 1) x.calls) next
+              (Plain x.call r a.plain a.lawful) a.same.leaves) x.inv.names);
           roots = a.roots;
           own = a.own;
           stands = record {
@@ -287,7 +337,8 @@ module _ (x : Scene) where
             says = subst (λ h. StageSays h x.m x.call t) (sym (state_push x.w x.st.front.history p)) a.says;
             sought = a.sought;
           };
-          rests = resting x.n x.w x.st x.inv x.m us (driver within s) (replied_at t r) at.here (rests_of x.n x.st.words us a.same) refl a.rests;
+          rests = resting x.n x.w x.st x.inv x.m us (driver within s) (replied_at t r) at.here
+              (rests_of x.n x.st.words us a.same) refl a.rests;
           layout = a.layout;
         })
 
@@ -297,15 +348,27 @@ module _ (x : Scene) where
       pub words : (t : ℕ) → words_by x.w t p ≡ 0
 
     -- the layout after such a point, where a word is stored at most that no layout reads
-    pub told_layout : (p : Point) (us : List ℕ) → LeavesObjects p → LeavesLayout x.n (λ q. word_at x.n x.st.words q) (λ q. word_at x.n us q) →
-        LeavesGates x.n (λ q. word_at x.n x.st.words q) (λ q. word_at x.n us q) → Evacuation x.n (laid us (with_point x.st.front p) gates works)
+    pub told_layout : (p : Point) (us : List ℕ) → LeavesObjects p →
+        LeavesLayout x.n (λ q. word_at x.n x.st.words q) (λ q. word_at x.n us q) →
+        LeavesGates x.n (λ q. word_at x.n x.st.words q) (λ q. word_at x.n us q) →
+        Evacuation x.n (laid us (with_point x.st.front p) gates works)
     told_layout p us objects off gates_off =
-        let history_is : state_of x.w (x.st.front.history ++ p ∷ []) ≡ heap_after heap p = state_push x.w x.st.front.history p in
-        let made_is : (λ t. words_made x.w t x.st.front.history) ≡ (λ t. words_made x.w t (x.st.front.history ++ p ∷ [])) =
+        let history_is : state_of x.w (x.st.front.history ++ p ∷ []) ≡ heap_after heap p =
+        state_push x.w x.st.front.history p in
+        let made_is : (λ t. words_made x.w t x.st.front.history) ≡
+        (λ t. words_made x.w t (x.st.front.history ++ p ∷ [])) =
         λ q t. (let e : words_made x.w t x.st.front.history ≡ words_made x.w t (x.st.front.history ++ p ∷ []) =
         omega (arith, sum_by_push (words_by x.w t) x.st.front.history p, objects.words t) in e) q in
         let state : State = layout_state x.n x.w x.st in
-        subst (λ d. Evacuation x.n (record { words = λ q. word_at x.n us q; heap = state_of x.w (x.st.front.history ++ p ∷ []); gates = gates; works = works; choice = nothing_chosen x.n; made = d })) made_is
+        subst (λ d. Evacuation x.n (record {
+          words = λ q. word_at x.n us q;
+          heap = state_of x.w (x.st.front.history ++ p ∷ []);
+          gates = gates;
+          works = works;
+          choice = nothing_chosen x.n;
+          made = d;
+        })) made_is
         (each_step_keeps x.n x.inv.script.shape state x.m _ x.inv.layout
-        (outside x.m (λ q. word_at x.n us q) (state_of x.w (x.st.front.history ++ p ∷ [])) (λ t. words_made x.w t x.st.front.history) off gates_off
+        (outside x.m (λ q. word_at x.n us q) (state_of x.w (x.st.front.history ++ p ∷ []))
+        (λ t. words_made x.w t x.st.front.history) off gates_off
         (λ name. ap (λ h. fields_of h name) history_is ∙ objects.fields name) (λ t. refl)))

@@ -54,7 +54,8 @@ module _ (n : Numbers) (w : Facts) (front : Seen) (h : Heap) (m : ℕ) (mutator 
   caller = record { shape = n; mutator = mutator }
 
   -- an attempt of a call with nothing asked; of a collect only where no cycle may run
-  pub attempt_starts : (c : Call) → (c ≡ call.Collect → n.cycles ≡ 0) → Starts n w front h m (Attempting (opening caller c last None slot))
+  pub attempt_starts : (c : Call) → (c ≡ call.Collect → n.cycles ≡ 0) →
+      Starts n w front h m (Attempting (opening caller c last None slot))
   attempt_starts call.Collect spent = record {
     says = tt;
     sought = tt;
@@ -75,13 +76,30 @@ module _ (n : Numbers) (w : Facts) (front : Seen) (h : Heap) (m : ℕ) (mutator 
   }
 
   -- the next task of a program
-  pub task_starts : (o : Option Call) → (o ≡ Some call.Collect → n.cycles ≡ 0) → Starts n w front h m (task_for caller o last (record { asked = None; barrier_at = slot }))
-  task_starts None spent = record { says = tt; sought = tt; rests = tt; running = refl; standing = refl; work = refl; bare = refl }
+  pub task_starts : (o : Option Call) → (o ≡ Some call.Collect → n.cycles ≡ 0) →
+      Starts n w front h m (task_for caller o last (record { asked = None; barrier_at = slot }))
+  task_starts None spent = record {
+    says = tt;
+    sought = tt;
+    rests = tt;
+    running = refl;
+    standing = refl;
+    work = refl;
+    bare = refl;
+  }
   task_starts (Some c) spent = attempt_starts c (λ e. spent (ap Some e))
 
   -- a wait for a cycle where none is left
   pub wait_starts : n.cycles ≡ 0 → Starts n w front h m (awaiting caller (record { asked = None; barrier_at = slot }))
-  wait_starts spent = record { says = tt; sought = tt; rests = (refl, spent); running = refl; standing = refl; work = refl; bare = refl }
+  wait_starts spent = record {
+    says = tt;
+    sought = tt;
+    rests = (refl, spent);
+    running = refl;
+    standing = refl;
+    work = refl;
+    bare = refl;
+  }
 
 -- ---- what is asked after an attempt: nothing, where no cycle runs
 pub answer_asks : (c : Call) (r : Reply) → asked_of c (Answer r) ≡ None
@@ -119,15 +137,22 @@ arrives_no_collect c a e = subst Arrives e a
 
 module _ (x : Scene) (within : Bool) where
   -- a program with a collect is one of a heap whose cycles are spent
-  pub collects_spent : (s : CallStage) → At x within s → (i : ℕ) → slice_get x.calls i ≡ Some call.Collect → x.n.cycles ≡ 0
+  pub collects_spent : (s : CallStage) → At x within s → (i : ℕ) → slice_get x.calls i ≡ Some call.Collect →
+      x.n.cycles ≡ 0
   collects_spent s at i is = ⊎_elim (λ e. sym x.inv.script.facts.cycles ∙ e)
       (λ room. absurd (room.no_collect x.m i x.calls at.stands.program is)) x.inv.script.form
 
   -- the driver whose task is another one, after the attempt
   abbrev pub turned_to : ℕ → Bool → Task → Driving
-  turned_to done inside_ task = record { caller = k x; calls = x.calls; replies = x.replies ++ []; progress = record { done = done; within = inside_; task = task } }
+  turned_to done inside_ task = record {
+    caller = k x;
+    calls = x.calls;
+    replies = x.replies ++ [];
+    progress = record { done = done; within = inside_; task = task };
+  }
 
-  rid_start : (done : ℕ) (b : Bool) (t : Task) → drivers.IsKnown (turned_to done b t) → Starts x.n x.w x.st.front (heap x) x.m t → Rid x within (turned_to done b t) away
+  rid_start : (done : ℕ) (b : Bool) (t : Task) → drivers.IsKnown (turned_to done b t) →
+      Starts x.n x.w x.st.front (heap x) x.m t → Rid x within (turned_to done b t) away
   rid_start done b t known starts = record {
     known = known;
     caller = refl;
@@ -143,51 +168,71 @@ module _ (x : Scene) (within : Bool) where
   }
 
   -- it leaves the own gate, to this task
-  own_left : (o : Attempt) (at : At x within (Leaving (FromOwn o))) (done : ℕ) (b : Bool) (t : Task) → drivers.IsKnown (turned_to done b t) →
-      Starts x.n x.w x.st.front (heap x) x.m t → WholeInvariant x.n x.w (with_driver x.n x.w x.st x.inv x.m (operated x within (mutator_gate x.m) (Sub 1)) x.st.front (turned_to done b t))
+  own_left : (o : Attempt) (at : At x within (Leaving (FromOwn o))) (done : ℕ) (b : Bool) (t : Task) →
+      drivers.IsKnown (turned_to done b t) →
+      Starts x.n x.w x.st.front (heap x) x.m t →
+      WholeInvariant x.n x.w
+      (with_driver x.n x.w x.st x.inv x.m (operated x within (mutator_gate x.m) (Sub 1)) x.st.front
+      (turned_to done b t))
   own_left o at done b t known starts =
-      gate_step x within (Leaving (FromOwn o)) at (turned_to done b t) away (mutator_gate x.m) (Sub 1) at.stands.in_range (own_gate x.m) refl refl
-      (rid_start done b t known starts) (gate.departs x.m at.stands.in_range (makes x within (mutator_gate x.m) (Sub 1) at.stands.in_range))
+      gate_step x within (Leaving (FromOwn o)) at (turned_to done b t) away (mutator_gate x.m)
+      (Sub 1) at.stands.in_range (own_gate x.m) refl refl
+      (rid_start done b t known starts)
+      (gate.departs x.m at.stands.in_range (makes x within (mutator_gate x.m) (Sub 1) at.stands.in_range))
 
   abbrev next_keep : Keep
   next_keep = record { asked = None; barrier_at = x.slot }
 
   -- an answer: on to the next call
-  pub answered_left : (r : Reply) (at : At x within (Leaving (FromOwn (Answer r)))) → drivers.IsKnown (fed_to x within (Leaving (FromOwn (Answer r))) (Ended (Answer r))) →
+  pub answered_left : (r : Reply) (at : At x within (Leaving (FromOwn (Answer r)))) →
+      drivers.IsKnown (fed_to x within (Leaving (FromOwn (Answer r))) (Ended (Answer r))) →
       Result x within (Leaving (FromOwn (Answer r))) (Ended (Answer r)) (operated x within (mutator_gate x.m) (Sub 1))
   answered_left r at known =
       let o = slice_get x.calls (x.done + 1) in
-      let after : Option ℕ → Driving = λ asked. turned_to (x.done + 1) false (task_for (k x) o false (record { asked = asked; barrier_at = x.slot })) in
+      let after : Option ℕ → Driving = λ asked. turned_to (x.done + 1) false
+      (task_for (k x) o false (record { asked = asked; barrier_at = x.slot })) in
       let asks = answer_asks x.call r in
-      subst (λ asked. WholeInvariant x.n x.w (with_driver x.n x.w x.st x.inv x.m (operated x within (mutator_gate x.m) (Sub 1)) x.st.front (after asked))) (sym asks)
+      subst (λ asked. WholeInvariant x.n x.w (with_driver x.n x.w x.st x.inv x.m
+      (operated x within (mutator_gate x.m) (Sub 1)) x.st.front (after asked))) (sym asks)
       (own_left (Answer r) at (x.done + 1) false (task_for (k x) o false next_keep)
       (subst (λ asked. drivers.IsKnown (after asked)) asks known)
-      (task_starts x.n x.w x.st.front (heap x) x.m x.m false x.slot o (λ e. collects_spent (Leaving (FromOwn (Answer r))) at (x.done + 1) e)))
+      (task_starts x.n x.w x.st.front (heap x) x.m x.m false x.slot o
+      (λ e. collects_spent (Leaving (FromOwn (Answer r))) at (x.done + 1) e)))
 
   -- a pause: the attempt again
-  again_starts : (s : CallStage) → At x within s → Arrives x.call → Starts x.n x.w x.st.front (heap x) x.m (Attempting (opening (k x) x.call x.last None x.slot))
-  again_starts s at arrives = attempt_starts x.n x.w x.st.front (heap x) x.m x.m x.last x.slot x.call (λ e. absurd (arrives_no_collect x.call arrives e))
+  again_starts : (s : CallStage) → At x within s → Arrives x.call →
+      Starts x.n x.w x.st.front (heap x) x.m (Attempting (opening (k x) x.call x.last None x.slot))
+  again_starts s at arrives = attempt_starts x.n x.w x.st.front (heap x) x.m x.m x.last x.slot x.call
+      (λ e. absurd (arrives_no_collect x.call arrives e))
 
   pub paused_left : (r : Reason) (at : At x within (Leaving (FromOwn (Paused r)))) → Arrives x.call →
       drivers.IsKnown (fed_to x within (Leaving (FromOwn (Paused r))) (Ended (Paused r))) →
       Result x within (Leaving (FromOwn (Paused r))) (Ended (Paused r)) (operated x within (mutator_gate x.m) (Sub 1))
   paused_left r at arrives known =
-      let after : Option ℕ → Driving = λ asked. turned_to x.done true (Attempting (opening (k x) x.call x.last asked x.slot)) in
+      let after : Option ℕ → Driving = λ asked. turned_to x.done true
+      (Attempting (opening (k x) x.call x.last asked x.slot)) in
       let asks = pause_asks x.call r arrives in
-      subst (λ asked. WholeInvariant x.n x.w (with_driver x.n x.w x.st x.inv x.m (operated x within (mutator_gate x.m) (Sub 1)) x.st.front (after asked))) (sym asks)
-      (own_left (Paused r) at x.done true (Attempting (opening (k x) x.call x.last None x.slot)) (subst (λ asked. drivers.IsKnown (after asked)) asks known)
+      subst (λ asked. WholeInvariant x.n x.w (with_driver x.n x.w x.st x.inv x.m
+      (operated x within (mutator_gate x.m) (Sub 1)) x.st.front (after asked))) (sym asks)
+      (own_left (Paused r) at x.done true (Attempting (opening (k x) x.call x.last None x.slot))
+      (subst (λ asked. drivers.IsKnown (after asked)) asks known)
       (again_starts (Leaving (FromOwn (Paused r))) at arrives))
 
   -- a shut gate: the arrival is taken back, and the attempt made again
   pub refused_left : (found : ℕ) (at : At x within (Leaving (Refused found))) → Arrives x.call →
       drivers.IsKnown (fed_to x within (Leaving (Refused found)) (Ended (Paused (Stopped found)))) →
-      Result x within (Leaving (Refused found)) (Ended (Paused (Stopped found))) (operated x within (mutator_gate x.m) (Sub 1))
+      Result x within (Leaving (Refused found)) (Ended (Paused (Stopped found)))
+      (operated x within (mutator_gate x.m) (Sub 1))
   refused_left found at arrives known =
-      let after : Option ℕ → Driving = λ asked. turned_to x.done true (Attempting (opening (k x) x.call x.last asked x.slot)) in
+      let after : Option ℕ → Driving = λ asked. turned_to x.done true
+      (Attempting (opening (k x) x.call x.last asked x.slot)) in
       let asks = pause_asks x.call (Stopped found) arrives in
-      subst (λ asked. WholeInvariant x.n x.w (with_driver x.n x.w x.st x.inv x.m (operated x within (mutator_gate x.m) (Sub 1)) x.st.front (after asked))) (sym asks)
-      (gate_step x within (Leaving (Refused found)) at (after None) away (mutator_gate x.m) (Sub 1) at.stands.in_range (own_gate x.m) refl refl
-      (rid_start x.done true (Attempting (opening (k x) x.call x.last None x.slot)) (subst (λ asked. drivers.IsKnown (after asked)) asks known)
+      subst (λ asked. WholeInvariant x.n x.w (with_driver x.n x.w x.st x.inv x.m
+      (operated x within (mutator_gate x.m) (Sub 1)) x.st.front (after asked))) (sym asks)
+      (gate_step x within (Leaving (Refused found)) at (after None) away (mutator_gate x.m) (Sub 1) at.stands.in_range
+      (own_gate x.m) refl refl
+      (rid_start x.done true (Attempting (opening (k x) x.call x.last None x.slot))
+      (subst (λ asked. drivers.IsKnown (after asked)) asks known)
       (again_starts (Leaving (Refused found)) at arrives))
       (gate.steps_back x.m at.stands.in_range (makes x within (mutator_gate x.m) (Sub 1) at.stands.in_range)))
 
@@ -196,8 +241,11 @@ module _ (x : Scene) (within : Bool) where
       drivers.IsKnown (fed_to x within (Leaving (FromOwn NoRoom)) (Ended NoRoom)) →
       Result x within (Leaving (FromOwn NoRoom)) (Ended NoRoom) (operated x within (mutator_gate x.m) (Sub 1))
   full_left at spent known =
-      let after : Option ℕ → Driving = λ asked. turned_to x.done true (awaiting (k x) (record { asked = asked; barrier_at = x.slot })) in
+      let after : Option ℕ → Driving = λ asked. turned_to x.done true
+      (awaiting (k x) (record { asked = asked; barrier_at = x.slot })) in
       let asks = full_asks x.call in
-      subst (λ asked. WholeInvariant x.n x.w (with_driver x.n x.w x.st x.inv x.m (operated x within (mutator_gate x.m) (Sub 1)) x.st.front (after asked))) (sym asks)
-      (own_left NoRoom at x.done true (awaiting (k x) next_keep) (subst (λ asked. drivers.IsKnown (after asked)) asks known)
+      subst (λ asked. WholeInvariant x.n x.w (with_driver x.n x.w x.st x.inv x.m
+      (operated x within (mutator_gate x.m) (Sub 1)) x.st.front (after asked))) (sym asks)
+      (own_left NoRoom at x.done true (awaiting (k x) next_keep)
+      (subst (λ asked. drivers.IsKnown (after asked)) asks known)
       (wait_starts x.n x.w x.st.front (heap x) x.m x.m false x.slot spent))

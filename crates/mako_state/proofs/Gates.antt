@@ -36,22 +36,64 @@ pub record IsGate (p : Place) : Type 0 where
 
 pub own_gate : (m : ℕ) → IsGate (mutator_gate m)
 own_gate m = record {
-  apart = record { not_phase = λ e. omega arith; not_demand = λ e. omega arith; not_finished = λ e. omega arith; not_home = λ e. omega arith; not_entry = λ e. omega arith; no_slot = λ e. e };
-  off = record { not_phase = λ e. omega arith; not_home = λ e. omega arith; not_top = λ e. omega arith; not_leaving = λ e. omega arith; not_entry = λ e. omega arith; not_region = λ e. omega arith };
+  apart = record {
+    not_phase = λ e. omega arith;
+    not_demand = λ e. omega arith;
+    not_finished = λ e. omega arith;
+    not_home = λ e. omega arith;
+    not_entry = λ e. omega arith;
+    no_slot = λ e. e;
+  };
+  off = record {
+    not_phase = λ e. omega arith;
+    not_home = λ e. omega arith;
+    not_top = λ e. omega arith;
+    not_leaving = λ e. omega arith;
+    not_entry = λ e. omega arith;
+    not_region = λ e. omega arith;
+  };
   no_root = λ e. omega arith;
 }
 
 pub a_tablet_gate : (t : ℕ) → IsGate (tablet_gate t)
 a_tablet_gate t = record {
-  apart = record { not_phase = λ e. omega arith; not_demand = λ e. omega arith; not_finished = λ e. omega arith; not_home = λ e. omega arith; not_entry = λ e. omega arith; no_slot = λ e. e };
-  off = record { not_phase = λ e. omega arith; not_home = λ e. omega arith; not_top = λ e. omega arith; not_leaving = λ e. omega arith; not_entry = λ e. omega arith; not_region = λ e. omega arith };
+  apart = record {
+    not_phase = λ e. omega arith;
+    not_demand = λ e. omega arith;
+    not_finished = λ e. omega arith;
+    not_home = λ e. omega arith;
+    not_entry = λ e. omega arith;
+    no_slot = λ e. e;
+  };
+  off = record {
+    not_phase = λ e. omega arith;
+    not_home = λ e. omega arith;
+    not_top = λ e. omega arith;
+    not_leaving = λ e. omega arith;
+    not_entry = λ e. omega arith;
+    not_region = λ e. omega arith;
+  };
   no_root = λ e. omega arith;
 }
 
 pub a_turn : (t : ℕ) → IsGate (turn t)
 a_turn t = record {
-  apart = record { not_phase = λ e. omega arith; not_demand = λ e. omega arith; not_finished = λ e. omega arith; not_home = λ e. omega arith; not_entry = λ e. omega arith; no_slot = λ e. e };
-  off = record { not_phase = λ e. omega arith; not_home = λ e. omega arith; not_top = λ e. omega arith; not_leaving = λ e. omega arith; not_entry = λ e. omega arith; not_region = λ e. omega arith };
+  apart = record {
+    not_phase = λ e. omega arith;
+    not_demand = λ e. omega arith;
+    not_finished = λ e. omega arith;
+    not_home = λ e. omega arith;
+    not_entry = λ e. omega arith;
+    no_slot = λ e. e;
+  };
+  off = record {
+    not_phase = λ e. omega arith;
+    not_home = λ e. omega arith;
+    not_top = λ e. omega arith;
+    not_leaving = λ e. omega arith;
+    not_entry = λ e. omega arith;
+    not_region = λ e. omega arith;
+  };
   no_root = λ e. omega arith;
 }
 
@@ -75,19 +117,23 @@ module _ (x : Scene) (within : Bool) where
   operated p op = words_after (record { word = index x.n p; op = op }) x.st.words
 
   -- what such an operation makes of the words by place
-  pub makes : (p : Place) (op : Op) → Within x.n p → Makes x.n (λ r. word_at x.n x.st.words r) (λ r. word_at x.n (operated p op) r) p op
+  pub makes : (p : Place) (op : Op) → Within x.n p →
+      Makes x.n (λ r. word_at x.n x.st.words r) (λ r. word_at x.n (operated p op) r) p op
   makes p op there = acts_make x.n x.st.words p op x.inv.names.hold.size there
 
-  pub gate_step : (s : CallStage) (at : At x within s) (d : Driving) (q : Standing) (p : Place) (op : Op) → Within x.n p → IsGate p →
+  pub gate_step : (s : CallStage) (at : At x within s) (d : Driving) (q : Standing) (p : Place) (op : Op) →
+      Within x.n p → IsGate p →
       stage_work x.n s ≡ idle → stage_carried s ≡ None → Rid d q →
-      GateAction x.n (λ r. word_at x.n x.st.words r) (λ r. word_at x.n (operated p op) r) x.m (mutator_at x.m (stage_standing x.n s)) (mutator_at x.m q) →
+      GateAction x.n (λ r. word_at x.n x.st.words r) (λ r. word_at x.n (operated p op) r) x.m
+      (mutator_at x.m (stage_standing x.n s)) (mutator_at x.m q) →
       WholeInvariant x.n x.w (with_driver x.n x.w x.st x.inv x.m (operated p op) x.st.front d)
   gate_step s at d q p op there is_gate empty free rid action =
       let us = operated p op in
       let v = after_op op (slice_index x.st.words (index x.n p)) in
       let state = layout_state x.n x.w x.st in
       let number : d.caller.mutator ≡ x.m = ap (λ (c : Caller). c.mutator) rid.caller in
-      let seat : evacuations.Seat state x.m (mutator_at x.m (stage_standing x.n s)) idle = subst (evacuations.Seat state x.m (mutator_at x.m (stage_standing x.n s))) empty (seat_here x within s at) in
+      let seat : evacuations.Seat state x.m (mutator_at x.m (stage_standing x.n s)) idle =
+      subst (evacuations.Seat state x.m (mutator_at x.m (stage_standing x.n s))) empty (seat_here x within s at) in
       let facet_is : gate_facet x.n (Mutator d) ≡ mutator_at x.m q = λ i. mutator_at (number i) (rid.standing i) in
       goes_on x.n x.w x.st x.inv x.m (driver x within s) d us (record {
         here = at.here;
@@ -95,7 +141,8 @@ module _ (x : Scene) (within : Bool) where
         roots = λ i r other low in_row. same_roots x.n x.st.words p v there is_gate.no_root i r low in_row;
         own = λ r u low is. subst (λ c. WordStands c r (word_at x.n us (root x.m r)) u) (sym rid.bare)
             (same_roots x.n x.st.words p v there is_gate.no_root x.m r at.stands.in_range low
-            ∙ subst (λ c. WordStands c r (word_at x.n x.st.words (root x.m r)) u) free (root_here x within s at r u low is));
+            ∙ subst (λ c. WordStands c r (word_at x.n x.st.words (root x.m r)) u) free
+            (root_here x within s at r u low is));
         calls = rid.calls;
         replies = rid.replies;
         stands = record {
@@ -119,7 +166,8 @@ module _ (x : Scene) (within : Bool) where
       })
 
   -- within the attempt
-  pub rid_after : (t : CallStage) → drivers.IsKnown (after x t) → StageSays (heap x) x.m x.call t → StageSought x.w x.st.front x.m x.call t → StageRests x.n t →
+  pub rid_after : (t : CallStage) → drivers.IsKnown (after x t) → StageSays (heap x) x.m x.call t →
+      StageSought x.w x.st.front x.m x.call t → StageRests x.n t →
       stage_work x.n t ≡ idle → stage_carried t ≡ None → Rid (after x t) (stage_standing x.n t)
   rid_after t known says sought rests work bare = record {
     known = known;

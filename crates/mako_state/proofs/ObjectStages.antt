@@ -54,8 +54,10 @@ module _ (x : Scene) where
 
   module _ (within : Bool) where
     -- ---- the entry, and the home
-    pub entry_loaded : (e : Errand) (at : At x within (Entering e LoadingEntry)) → let t = Entering e (LoadingHome (entry_at (word_at x.n x.st.words (entry e.object.entry)))) in
-        drivers.IsKnown (after x t) → Result x within (Entering e LoadingEntry) t (read (index x.n (entry e.object.entry)))
+    pub entry_loaded : (e : Errand) (at : At x within (Entering e LoadingEntry)) →
+        let t = Entering e (LoadingHome (entry_at (word_at x.n x.st.words (entry e.object.entry)))) in
+        drivers.IsKnown (after x t) →
+        Result x within (Entering e LoadingEntry) t (read (index x.n (entry e.object.entry)))
     unfolding entry_of
     entry_loaded e at known_after =
         let s = Entering e LoadingEntry in
@@ -67,18 +69,26 @@ module _ (x : Scene) where
           known = known_after;
           says = at.stands.says;
           sought = tt;
-          rests = (x.inv.rests.each x.m (Mutator (driver x within s)) at.here, lies_at_home x e.object.entry taken.within taken.taken);
+          rests = (
+            x.inv.rests.each x.m (Mutator (driver x within s)) at.here,
+            lies_at_home x e.object.entry taken.within taken.taken,
+          );
           own = λ p v low is. root_here x within s at p v low is;
           layout = moved_work x within s at x.st.words x.st.front (after x t) refl
               (each_step_keeps x.n x.inv.script.shape (layout_state x.n x.w x.st) x.m _ x.inv.layout
-              (load_entry x.m e.object.entry (mutator_at x.m (stage_standing x.n s)) (seat_here x within s at) taken.within (is_admitted x.n x.m (tablet_of x.n e.object)) taken.taken));
+              (load_entry x.m e.object.entry (mutator_at x.m (stage_standing x.n s))
+              (seat_here x within s at) taken.within (is_admitted x.n x.m (tablet_of x.n e.object)) taken.taken));
         })
 
     -- the record lies in the home, so that the view goes on at its address
-    home_step : (e : Errand) (found : EntryWord) (at : At x within (Entering e (LoadingHome found))) (t : CallStage) → drivers.IsKnown (after x t) →
-        StageSays (heap x) x.m x.call t → StageRests x.n t → StageSought x.w x.st.front x.m x.call t → stage_carried t ≡ None →
-        stage_standing x.n t ≡ at_tablet (tablet_of x.n e.object) → stage_work x.n t ≡ uses_at x.n e.object.entry found.address →
-        WholeInvariant x.n x.w (with_driver x.n x.w x.st x.inv x.m (read (index x.n (home (tablet_of x.n e.object)))) x.st.front (after x t))
+    home_step : (e : Errand) (found : EntryWord) (at : At x within (Entering e (LoadingHome found))) (t : CallStage) →
+        drivers.IsKnown (after x t) →
+        StageSays (heap x) x.m x.call t → StageRests x.n t → StageSought x.w x.st.front x.m x.call t →
+        stage_carried t ≡ None →
+        stage_standing x.n t ≡ at_tablet (tablet_of x.n e.object) →
+        stage_work x.n t ≡ uses_at x.n e.object.entry found.address →
+        WholeInvariant x.n x.w
+        (with_driver x.n x.w x.st x.inv x.m (read (index x.n (home (tablet_of x.n e.object)))) x.st.front (after x t))
     home_step e found at t known_after says rests sought bare stands using =
         let s = Entering e (LoadingHome found) in
         let known = at.stands.known.progress.task.known in
@@ -89,35 +99,44 @@ module _ (x : Scene) where
           says = says;
           sought = sought;
           rests = rests;
-          own = λ p v low is. subst (λ c. WordStands c p (word_at x.n x.st.words (root x.m p)) v) (sym bare) (root_here x within s at p v low is);
+          own = λ p v low is. subst (λ c. WordStands c p (word_at x.n x.st.words (root x.m p)) v) (sym bare)
+              (root_here x within s at p v low is);
           layout = moved_work x within s at x.st.words x.st.front (after x t) (ap (mutator_at x.m) stands)
               (subst (λ u. Evacuation x.n (laid x x.st.words x.st.front (gates x) (set (works x) x.m u))) (sym using)
               (each_step_keeps x.n x.inv.script.shape (layout_state x.n x.w x.st) x.m _ x.inv.layout
-              (load_home x.m e.object.entry (region_of_address x.n found.address) (word_of_address x.n found.address) (mutator_at x.m (stage_standing x.n s)) (seat_here x within s at)
+              (load_home x.m e.object.entry (region_of_address x.n found.address) (word_of_address x.n found.address)
+              (mutator_at x.m (stage_standing x.n s)) (seat_here x within s at)
               (resting.1 ∙ sym (x.inv.rests.homes (tablet_of x.n e.object) t_in)))));
         })
 
-    pub home_loaded : (e : Errand) (found : EntryWord) (at : At x within (Entering e (LoadingHome found))) (a : Access) → e.access ≡ a →
+    pub home_loaded : (e : Errand) (found : EntryWord) (at : At x within (Entering e (LoadingHome found)))
+        (a : Access) → e.access ≡ a →
         let t = at_object e found.address in drivers.IsKnown (after x t) →
-        WholeInvariant x.n x.w (with_driver x.n x.w x.st x.inv x.m (read (index x.n (home (tablet_of x.n e.object)))) x.st.front (after x t))
+        WholeInvariant x.n x.w
+        (with_driver x.n x.w x.st x.inv x.m (read (index x.n (home (tablet_of x.n e.object)))) x.st.front (after x t))
     home_loaded e found at (Gets get) is known =
         let resting = x.inv.rests.each x.m (Mutator (driver x within (Entering e (LoadingHome found)))) at.here in
         let located : Located = record { object = e.object; address = found.address } in
         let to : Access → CallStage = λ a. at_record located a in
-        subst (λ a. WholeInvariant x.n x.w (with_driver x.n x.w x.st x.inv x.m (read (index x.n (home (tablet_of x.n e.object)))) x.st.front (after x (to a)))) (sym is)
+        subst (λ a. WholeInvariant x.n x.w (with_driver x.n x.w x.st x.inv x.m
+        (read (index x.n (home (tablet_of x.n e.object)))) x.st.front (after x (to a)))) (sym is)
         (home_step e found at (Getting located get GetHeader) (subst (λ a. drivers.IsKnown (after x (to a))) is known)
         (subst (λ a. AccessSays (heap x) x.m x.call e.object a) is at.stands.says) tt tt refl refl refl)
     home_loaded e found at (Puts put) is known =
         let resting = x.inv.rests.each x.m (Mutator (driver x within (Entering e (LoadingHome found)))) at.here in
         let located : Located = record { object = e.object; address = found.address } in
         let to : Access → CallStage = λ a. at_record located a in
-        subst (λ a. WholeInvariant x.n x.w (with_driver x.n x.w x.st x.inv x.m (read (index x.n (home (tablet_of x.n e.object)))) x.st.front (after x (to a)))) (sym is)
+        subst (λ a. WholeInvariant x.n x.w (with_driver x.n x.w x.st x.inv x.m
+        (read (index x.n (home (tablet_of x.n e.object)))) x.st.front (after x (to a)))) (sym is)
         (home_step e found at (Putting located put PutHeader) (subst (λ a. drivers.IsKnown (after x (to a))) is known)
-        (subst (λ a. AccessSays (heap x) x.m x.call e.object a) is at.stands.says) (subst AccessRests is resting.0) tt refl refl refl)
+        (subst (λ a. AccessSays (heap x) x.m x.call e.object a) is at.stands.says)
+        (subst AccessRests is resting.0) tt refl refl refl)
 
     -- ---- the header, where there is that field
-    pub get_header_loaded : (l : Located) (get : GetArgs) (at : At x within (Getting l get GetHeader)) → get.field < slice_index x.st.words l.address →
-        let t = Getting l get GetField in drivers.IsKnown (after x t) → Result x within (Getting l get GetHeader) t (read l.address)
+    pub get_header_loaded : (l : Located) (get : GetArgs) (at : At x within (Getting l get GetHeader)) →
+        get.field < slice_index x.st.words l.address →
+        let t = Getting l get GetField in drivers.IsKnown (after x t) →
+        Result x within (Getting l get GetHeader) t (read l.address)
     get_header_loaded l get at less known_after =
         let s = Getting l get GetHeader in
         let t = Getting l get GetField in
@@ -127,15 +146,24 @@ module _ (x : Scene) where
         let count = here.header in
         loads x within s at t l.address (record {
           known = known_after;
-          says = (at.stands.says, (here.fields, here.are, (let more : get.field < length here.fields = omega arith in more)));
+          says = (
+            at.stands.says,
+            (
+              here.fields,
+              here.are,
+              (let more : get.field < length here.fields = omega arith in more),
+            ),
+          );
           sought = tt;
           rests = tt;
           own = λ p v low is. root_here x within s at p v low is;
           layout = moved_neither x within s at x.st.words x.st.front (after x t) refl refl x.inv.layout;
         })
 
-    pub put_header_loaded : (l : Located) (put : PutArgs) (at : At x within (Putting l put PutHeader)) → put.field < slice_index x.st.words l.address →
-        let t = Putting l put StoringField in drivers.IsKnown (after x t) → Result x within (Putting l put PutHeader) t (read l.address)
+    pub put_header_loaded : (l : Located) (put : PutArgs) (at : At x within (Putting l put PutHeader)) →
+        put.field < slice_index x.st.words l.address →
+        let t = Putting l put StoringField in drivers.IsKnown (after x t) →
+        Result x within (Putting l put PutHeader) t (read l.address)
     put_header_loaded l put at less known_after =
         let s = Putting l put PutHeader in
         let t = Putting l put StoringField in
@@ -145,7 +173,14 @@ module _ (x : Scene) where
         let count = here.header in
         loads x within s at t l.address (record {
           known = known_after;
-          says = (at.stands.says, (here.fields, here.are, (let more : put.field < length here.fields = omega arith in more)));
+          says = (
+            at.stands.says,
+            (
+              here.fields,
+              here.are,
+              (let more : put.field < length here.fields = omega arith in more),
+            ),
+          );
           sought = tt;
           rests = tt;
           own = λ p v low is. root_here x within s at p v low is;
@@ -156,21 +191,30 @@ module _ (x : Scene) where
     pub owes_nothing : (y a : ℕ) → OwesNothing x.n (uses_at x.n y a)
     owes_nothing y a t = (refl, refl)
 
-    pub forgotten : (s : CallStage) (at : At x within s) (y a : ℕ) → stage_work x.n s ≡ uses_at x.n y a → (us : List ℕ) (front : Seen) →
-        Evacuation x.n (laid x us front (gates x) (works x)) → Evacuation x.n (laid x us front (gates x) (set (works x) x.m idle))
+    pub forgotten : (s : CallStage) (at : At x within s) (y a : ℕ) → stage_work x.n s ≡ uses_at x.n y a →
+        (us : List ℕ) (front : Seen) →
+        Evacuation x.n (laid x us front (gates x) (works x)) →
+        Evacuation x.n (laid x us front (gates x) (set (works x) x.m idle))
     forgotten s at y a using us front kept =
         each_step_keeps x.n x.inv.script.shape (laid x us front (gates x) (works x)) x.m _ kept
-        (forget x.m (mutator_at x.m (stage_standing x.n s)) (uses_at x.n y a) (record { gate = gate_here x within s at; work = work_here x within s at ∙ ap Some using }) (owes_nothing y a))
+        (forget x.m (mutator_at x.m (stage_standing x.n s)) (uses_at x.n y a)
+        (record { gate = gate_here x within s at; work = work_here x within s at ∙ ap Some using })
+        (owes_nothing y a))
 
     -- an answer at the record that changes no more than a root, which is still to be stored, if any
-    pub answered_there : (s t : CallStage) (r : Reply) (at : At x within s) (y a : ℕ) → decided s ≡ None → drivers.IsKnown (replied_at x t r) →
-        IsLawful (heap x) (Did x.m x.call r) → IsPlain r → StageSays (heap_after (heap x) (Did x.m x.call r)) x.m x.call t →
-        StageSought x.w (with_point x.st.front (Did x.m x.call r)) x.m x.call t → StageRests x.n t → stage_standing x.n t ≡ stage_standing x.n s →
+    pub answered_there : (s t : CallStage) (r : Reply) (at : At x within s) (y a : ℕ) → decided s ≡ None →
+        drivers.IsKnown (replied_at x t r) →
+        IsLawful (heap x) (Did x.m x.call r) → IsPlain r →
+        StageSays (heap_after (heap x) (Did x.m x.call r)) x.m x.call t →
+        StageSought x.w (with_point x.st.front (Did x.m x.call r)) x.m x.call t → StageRests x.n t →
+        stage_standing x.n t ≡ stage_standing x.n s →
         stage_work x.n s ≡ uses_at x.n y a → stage_work x.n t ≡ idle → LeavesObjects x within s at (Did x.m x.call r) →
         OwnRoots x.n (heap_after (heap x) (Did x.m x.call r)) x.st.words x.m (replied_at x t r) →
-        WholeInvariant x.n x.w (with_driver x.n x.w x.st x.inv x.m (read a) (with_point x.st.front (Did x.m x.call r)) (replied_at x t r))
+        WholeInvariant x.n x.w
+        (with_driver x.n x.w x.st x.inv x.m (read a) (with_point x.st.front (Did x.m x.call r)) (replied_at x t r))
     answered_there s t r at y a undecided known lawful plain says sought rests standing using rid objects own =
-        subst (λ us. WholeInvariant x.n x.w (with_driver x.n x.w x.st x.inv x.m us (with_point x.st.front (Did x.m x.call r)) (replied_at x t r))) (sym (load_back x.st.words a))
+        subst (λ us. WholeInvariant x.n x.w (with_driver x.n x.w x.st x.inv x.m us
+        (with_point x.st.front (Did x.m x.call r)) (replied_at x t r))) (sym (load_back x.st.words a))
         (answers x within s at t r x.st.words (record {
           open_ = undecided;
           known = known;
@@ -182,9 +226,12 @@ module _ (x : Scene) where
           same = same_tables x.n x.st.words x.inv.names.hold.size;
           roots = λ j p other low in_row. refl;
           own = own;
-          layout = moved_work x within s at x.st.words (with_point x.st.front (Did x.m x.call r)) (replied_at x t r) (ap (mutator_at x.m) standing)
-              (subst (λ u. Evacuation x.n (laid x x.st.words (with_point x.st.front (Did x.m x.call r)) (gates x) (set (works x) x.m u))) (sym rid)
+          layout = moved_work x within s at x.st.words (with_point x.st.front (Did x.m x.call r)) (replied_at x t r)
+              (ap (mutator_at x.m) standing)
+              (subst (λ u. Evacuation x.n (laid x x.st.words (with_point x.st.front (Did x.m x.call r)) (gates x)
+              (set (works x) x.m u))) (sym rid)
               (forgotten s at y a using x.st.words (with_point x.st.front (Did x.m x.call r))
-              (told_layout x within s at (Did x.m x.call r) x.st.words objects (only_look x.n (λ p. word_at x.n x.st.words p))
+              (told_layout x within s at (Did x.m x.call r) x.st.words objects
+              (only_look x.n (λ p. word_at x.n x.st.words p))
               (record { tablets = λ a b. refl; owns = λ a b. refl; turns = λ a b. refl }))));
         }))

@@ -41,11 +41,17 @@ pub record SameRests (n : Numbers) (ws us : List ℕ) : Type 0 where
   pub finished : word_at n us finished ≡ word_at n ws finished
 
 abbrev pub rests_of : (n : Numbers) (ws us : List ℕ) → SameTables n ws us → SameRests n ws us
-rests_of n ws us same = record { phase_is = same.leaves.same phase tt tt; homes = same.homes; demand = same.demand; finished = same.finished }
+rests_of n ws us same = record {
+  phase_is = same.leaves.same phase tt tt;
+  homes = same.homes;
+  demand = same.demand;
+  finished = same.finished;
+}
 
 -- the roots of the other mutators
 abbrev pub SameRoots : Numbers → List ℕ → List ℕ → ℕ → Type 0
-SameRoots n ws us m = (i q : ℕ) → i ≢ m → i < n.mutators → q < n.roots → word_at n us (root i q) ≡ word_at n ws (root i q)
+SameRoots n ws us m = (i q : ℕ) → i ≢ m → i < n.mutators → q < n.roots →
+    word_at n us (root i q) ≡ word_at n ws (root i q)
 
 -- the roots of one mutator, with what it has still to store
 abbrev pub OwnRoots : Numbers → Heap → List ℕ → ℕ → Driving → Type 0
@@ -69,11 +75,13 @@ module _ (n : Numbers) (w : Facts) (st : CoreState) (inv : WholeInvariant n w st
         demand = same.demand ∙ inv.rests.demand;
         homes = λ t low. same.homes t low ∙ inv.rests.homes t low;
         finished = same.finished ∙ inv.rests.finished ∙ sym total_is;
-        each = λ i v at. ⊎_elim (λ t. subst (SeatRests n us (set st.seats m (Mutator after))) t.1 mine) (λ t. others v (inv.rests.each i v t.1))
+        each = λ i v at. ⊎_elim (λ t. subst (SeatRests n us (set st.seats m (Mutator after))) t.1 mine)
+            (λ t. others v (inv.rests.each i v t.1))
             (at_set st.seats m i (Mutator after) v at);
       }
     where
-      carry : (v : Seat) → sum_by ended_of (set st.seats m (Mutator after)) ≡ sum_by ended_of st.seats → word_at n us phase ≡ word_at n st.words phase →
+      carry : (v : Seat) → sum_by ended_of (set st.seats m (Mutator after)) ≡ sum_by ended_of st.seats →
+          word_at n us phase ≡ word_at n st.words phase →
           SeatRests n st.words st.seats v → SeatRests n us (set st.seats m (Mutator after)) v
       carry (Mutator other) e f r = r
       carry (Server s) e f r = subst (λ p. ServerRests p s.stage) (sym f) r
@@ -120,17 +128,20 @@ module _ (n : Numbers) (w : Facts) (st : CoreState) (inv : WholeInvariant n w st
         script = inv.script;
         count = length-set st.seats m (Mutator after) ∙ inv.count;
         seats = λ i v at. ⊎_elim
-            (λ t. subst (SeatStands n w st.front i) t.1 (subst (λ k. MutatorStands n w st.front k after) (sym t.0) g.stands))
+            (λ t. subst (SeatStands n w st.front i) t.1
+            (subst (λ k. MutatorStands n w st.front k after) (sym t.0) g.stands))
             (λ t. inv.seats i v t.1) (at_set st.seats m i (Mutator after) v at);
         names = subst (NamesHold n w us st.front) (sym facets_are)
             (step_kept n w (record { words = st.words; front = st.front; facets = name_facets st.seats })
-            (record { words = us; front = st.front; facets = name_facets st.seats }) inv.script.facts (Stores us g.leaves) inv.names);
+            (record { words = us; front = st.front; facets = name_facets st.seats }) inv.script.facts
+            (Stores us g.leaves) inv.names);
         layout = g.layout;
         roots = λ i q s v at low in_row is. ⊎_elim
             (λ t. subst (λ u. WordStands (carried_facet u) q (word_at n us (root i q)) v) t.1
             (subst (λ k. WordStands (carried_facet (Mutator after)) q (word_at n us (root k q)) v) (sym t.0)
             (g.own q v in_row (ap (λ k. root_of (state_of w st.front.history) k q) (sym t.0) ∙ is))))
-            (λ t. subst (λ x. WordStands (carried_facet s) q x v) (sym (g.roots i q t.0 low in_row)) (inv.roots i q s v t.1 low in_row is))
+            (λ t. subst (λ x. WordStands (carried_facet s) q x v) (sym (g.roots i q t.0 low in_row))
+            (inv.roots i q s v t.1 low in_row is))
             (at_set st.seats m i (Mutator after) s at);
         rests = g.rests;
       }

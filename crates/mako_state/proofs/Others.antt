@@ -44,12 +44,16 @@ use Rattle.mako_state.proofs.Words.{load_back, same_tables, stored_off_layout, s
 
 module _ (n : Numbers) (w : Facts) (st : CoreState) (inv : WholeInvariant n w st) where
   -- a layout in which the lists of facets are as before
-  pub same_layout : (us : List ℕ) (i : ℕ) (v u : Seat) → slice_get st.seats i ≡ Some v → gate_facet n u ≡ gate_facet n v → work_facet u ≡ work_facet v →
+  pub same_layout : (us : List ℕ) (i : ℕ) (v u : Seat) → slice_get st.seats i ≡ Some v →
+      gate_facet n u ≡ gate_facet n v → work_facet u ≡ work_facet v →
       Evacuation n (record (layout_state n w st) { words = λ p. word_at n us p }) →
       Evacuation n (layout_state n w (record { words = us; seats = set st.seats i u; front = st.front }))
   same_layout us i v u here gate work kept =
-      subst (λ gs. Evacuation n (record (layout_state n w st) { words = λ p. word_at n us p; gates = gs; works = map work_facet (set st.seats i u) })) (sym (map_kept (gate_facet n) st.seats i v u here gate))
-      (subst (λ ks. Evacuation n (record (layout_state n w st) { words = λ p. word_at n us p; works = ks })) (sym (map_kept work_facet st.seats i v u here work)) kept)
+      subst (λ gs. Evacuation n (record (layout_state n w st)
+      { words = λ p. word_at n us p; gates = gs; works = map work_facet (set st.seats i u) }))
+      (sym (map_kept (gate_facet n) st.seats i v u here gate))
+      (subst (λ ks. Evacuation n (record (layout_state n w st) { words = λ p. word_at n us p; works = ks }))
+      (sym (map_kept work_facet st.seats i v u here work)) kept)
 
   -- how many mutators are at their ends
   pub ended_one : (v : Seat) → ended_of v ≤ 1
@@ -69,17 +73,21 @@ module _ (n : Numbers) (w : Facts) (st : CoreState) (inv : WholeInvariant n w st
   ended_low i (Collector c) stands one = absurd (omega arith)
 
   -- ---- a mutator that waits where cycles are spent
-  pub waited : (m : ℕ) (d after : Driving) (i : ℕ) → slice_get st.seats m ≡ Some (Mutator d) → MutatorStands n w st.front m d → drivers.IsKnown after →
-      after.caller ≡ d.caller → after.calls ≡ d.calls → after.replies ≡ d.replies → standing_of d ≡ away → work_of d ≡ idle → carried_of d ≡ None → task_ended d.progress.task ≡ 0 →
+  pub waited : (m : ℕ) (d after : Driving) (i : ℕ) → slice_get st.seats m ≡ Some (Mutator d) →
+      MutatorStands n w st.front m d → drivers.IsKnown after →
+      after.caller ≡ d.caller → after.calls ≡ d.calls → after.replies ≡ d.replies → standing_of d ≡ away →
+      work_of d ≡ idle → carried_of d ≡ None → task_ended d.progress.task ≡ 0 →
       Starts n w st.front (state_of w st.front.history) m after.progress.task →
-      WholeInvariant n w (with_driver n w st inv m (words_after (record { word = i; op = Load }) st.words) st.front after)
+      WholeInvariant n w
+      (with_driver n w st inv m (words_after (record { word = i; op = Load }) st.words) st.front after)
   waited m d after i here stands known caller calls replies standing work bare running starts =
       subst (λ us. WholeInvariant n w (with_driver n w st inv m us st.front after)) (sym (load_back st.words i))
       (goes_on n w st inv m d after st.words (record {
         here = here;
         same = same_tables n st.words inv.names.hold.size;
         roots = λ j q other low in_row. refl;
-        own = λ q v low is. subst (λ c. WordStands c q (word_at n st.words (root m q)) v) (bare ∙ sym starts.bare) (inv.roots m q (Mutator d) v here stands.in_range low is);
+        own = λ q v low is. subst (λ c. WordStands c q (word_at n st.words (root m q)) v) (bare ∙ sym starts.bare)
+            (inv.roots m q (Mutator d) v here stands.in_range low is);
         calls = calls;
         replies = replies;
         stands = record {
@@ -95,13 +103,17 @@ module _ (n : Numbers) (w : Facts) (st : CoreState) (inv : WholeInvariant n w st
         rests = starts.rests;
         ended = starts.running ∙ sym running;
         layout = same_layout st.words m (Mutator d) (Mutator after) here
-            (λ j. mutator_at (caller j).mutator ((starts.standing ∙ sym standing) j)) (starts.work ∙ sym work) inv.layout;
+            (λ j. mutator_at (caller j).mutator ((starts.standing ∙ sym standing) j))
+            (starts.work ∙ sym work) inv.layout;
       }))
 
   -- ---- a mutator comes to its end
-  pub finishes : (m : ℕ) (d after : Driving) → slice_get st.seats m ≡ Some (Mutator d) → MutatorStands n w st.front m d → drivers.IsKnown after →
-      after.caller ≡ d.caller → after.calls ≡ d.calls → after.replies ≡ d.replies → d.progress.task ≡ Finishing → after.progress.task ≡ TaskEnded →
-      WholeInvariant n w (with_driver n w st inv m (words_after (record { word = index n finished; op = Add 1 }) st.words) st.front after)
+  pub finishes : (m : ℕ) (d after : Driving) → slice_get st.seats m ≡ Some (Mutator d) →
+      MutatorStands n w st.front m d → drivers.IsKnown after →
+      after.caller ≡ d.caller → after.calls ≡ d.calls → after.replies ≡ d.replies → d.progress.task ≡ Finishing →
+      after.progress.task ≡ TaskEnded →
+      WholeInvariant n w
+      (with_driver n w st inv m (words_after (record { word = index n finished; op = Add 1 }) st.words) st.front after)
   finishes m d after here stands known caller calls replies was is =
       let v = after_op (Add 1) (slice_index st.words (index n finished)) in
       let us = set st.words (index n finished) v in
@@ -112,19 +124,26 @@ module _ (n : Numbers) (w : Facts) (st : CoreState) (inv : WholeInvariant n w st
       let more : sum_by ended_of (set st.seats m (Mutator after)) ≡ sum_by ended_of st.seats + 1 = omega arith in
       let most : sum_by ended_of (set st.seats m (Mutator after)) ≤ n.mutators =
       sum_seated ended_of (set st.seats m (Mutator after)) n.mutators ended_one
-      (λ i u at one. ⊎_elim (λ t. subst (λ k. k < n.mutators) (sym t.0) stands.in_range) (λ t. ended_low i u (inv.seats i u t.1) one) (at_set st.seats m i (Mutator after) u at)) in
+      (λ i u at one. ⊎_elim (λ t. subst (λ k. k < n.mutators) (sym t.0) stands.in_range)
+      (λ t. ended_low i u (inv.seats i u t.1) one) (at_set st.seats m i (Mutator after) u at)) in
       let found = inv.rests.finished in
       let shape = inv.script.shape.in_range.each in
       let word_is : word_at n us finished ≡ sum_by ended_of (set st.seats m (Mutator after)) =
-      word_same n st.words finished v size tt ∙ one_more (word_at n st.words finished) (let e : word_at n st.words finished < 2 ^ 17 = omega (arith, shape) in e) ∙ (let e : word_at n st.words finished + 1 ≡ sum_by ended_of (set st.seats m (Mutator after)) = omega arith in e) in
+      word_same n st.words finished v size tt ∙ one_more (word_at n st.words finished)
+      (let e : word_at n st.words finished < 2 ^ 17 = omega (arith, shape) in e) ∙
+      (let e : word_at n st.words finished + 1 ≡ sum_by ended_of (set st.seats m (Mutator after)) = omega arith in
+      e) in
       let phase_is = word_other n st.words finished phase v tt tt (λ e. (let c : ⊥ = cc in c)) in
       let task_free : after.progress.task ≡ TaskEnded = is in
       went n w st inv m d after us (record {
         here = here;
         leaves = leaves_others n st.words finished v size tt (λ e. e);
         roots = λ j q other low in_row. same_roots n st.words finished v tt (λ e. omega arith) j q low in_row;
-        own = λ q u low e. subst (λ c. WordStands c q (word_at n us (root m q)) u) (ap task_carried was ∙ sym (ap task_carried is))
-            (subst (λ z. WordStands (carried_facet (Mutator d)) q z u) (sym (same_roots n st.words finished v tt (λ e. omega arith) m q stands.in_range low)) (inv.roots m q (Mutator d) u here stands.in_range low e));
+        own = λ q u low e. subst (λ c. WordStands c q (word_at n us (root m q)) u)
+            (ap task_carried was ∙ sym (ap task_carried is))
+            (subst (λ z. WordStands (carried_facet (Mutator d)) q z u)
+            (sym (same_roots n st.words finished v tt (λ e. omega arith) m q stands.in_range low))
+            (inv.roots m q (Mutator d) u here stands.in_range low e));
         calls = calls;
         replies = replies;
         stands = record {
@@ -139,46 +158,67 @@ module _ (n : Numbers) (w : Facts) (st : CoreState) (inv : WholeInvariant n w st
         };
         rests = record {
           demand = word_other n st.words finished demand v tt tt (λ e. (let c : ⊥ = cc in c)) ∙ inv.rests.demand;
-          homes = λ t low. word_other n st.words finished (home t) v tt low (λ e. (let c : ⊥ = cc in c)) ∙ inv.rests.homes t low;
+          homes = λ t low. word_other n st.words finished (home t) v tt low (λ e. (let c : ⊥ = cc in c))
+              ∙ inv.rests.homes t low;
           finished = word_is;
-          each = λ i u at. ⊎_elim (λ t. subst (SeatRests n us (set st.seats m (Mutator after))) t.1 (subst (TaskRests n) (sym is) tt))
+          each =
+              λ i u at. ⊎_elim
+              (λ t. subst (SeatRests n us (set st.seats m (Mutator after))) t.1 (subst (TaskRests n) (sym is) tt))
               (λ t. others u phase_is more most (inv.rests.each i u t.1)) (at_set st.seats m i (Mutator after) u at);
         };
         layout = same_layout us m (Mutator d) (Mutator after) here
-            (λ j. mutator_at (caller j).mutator ((ap task_standing is ∙ sym (ap task_standing was)) j)) (ap task_work is ∙ sym (ap task_work was))
+            (λ j. mutator_at (caller j).mutator ((ap task_standing is ∙ sym (ap task_standing was)) j))
+            (ap task_work is ∙ sym (ap task_work was))
             (each_step_keeps n inv.script.shape (layout_state n w st) m _ inv.layout
             (outside m (λ p. word_at n us p) (state_of w st.front.history) (λ t. words_made w t st.front.history)
-            (stored_off_layout n st.words finished v tt (record { not_phase = λ e. omega arith; not_home = λ e. omega arith; not_top = λ e. omega arith; not_leaving = λ e. omega arith; not_entry = λ e. omega arith; not_region = λ e. omega arith }))
-            (stored_off_gates n st.words finished v tt (λ e. omega arith) (λ e. omega arith) (λ e. omega arith)) (λ name. refl) (λ t. refl)));
+            (stored_off_layout n st.words finished v tt
+            (record {
+              not_phase = λ e. omega arith;
+              not_home = λ e. omega arith;
+              not_top = λ e. omega arith;
+              not_leaving = λ e. omega arith;
+              not_entry = λ e. omega arith;
+              not_region = λ e. omega arith;
+            }))
+            (stored_off_gates n st.words finished v tt (λ e. omega arith) (λ e. omega arith) (λ e. omega arith))
+            (λ name. refl) (λ t. refl)));
       })
     where
-      collector_more : (p ended : ℕ) (s : CollectStage) → ended + 1 ≤ n.mutators → CollectorRests n p ended s → CollectorRests n p (ended + 1) s
+      collector_more : (p ended : ℕ) (s : CollectStage) → ended + 1 ≤ n.mutators → CollectorRests n p ended s →
+          CollectorRests n p (ended + 1) s
       collector_more p ended (collecting.Idle LoadingDemand) most r = r
       collector_more p ended (collecting.Idle LookingFinished) most r = r
       collector_more p ended (collecting.Idle StoringStop) most r = absurd (let e = r.1 in omega arith)
       collector_more p ended collecting.Ended most r = absurd (let e = r.1 in omega arith)
       collector_more p ended s most r = absurd r
 
-      others : (u : Seat) → word_at n (set st.words (index n finished) (after_op (Add 1) (slice_index st.words (index n finished)))) phase ≡ word_at n st.words phase →
-          sum_by ended_of (set st.seats m (Mutator after)) ≡ sum_by ended_of st.seats + 1 → sum_by ended_of (set st.seats m (Mutator after)) ≤ n.mutators → SeatRests n st.words st.seats u →
-          SeatRests n (set st.words (index n finished) (after_op (Add 1) (slice_index st.words (index n finished)))) (set st.seats m (Mutator after)) u
+      others : (u : Seat) → word_at n
+          (set st.words (index n finished) (after_op (Add 1) (slice_index st.words (index n finished))))
+          phase ≡ word_at n st.words phase →
+          sum_by ended_of (set st.seats m (Mutator after)) ≡ sum_by ended_of st.seats + 1 →
+          sum_by ended_of (set st.seats m (Mutator after)) ≤ n.mutators → SeatRests n st.words st.seats u →
+          SeatRests n (set st.words (index n finished) (after_op (Add 1) (slice_index st.words (index n finished))))
+          (set st.seats m (Mutator after)) u
       others (Mutator e) p more most r = r
       others (Server s) p more most r = subst (λ z. ServerRests z s.stage) (sym p) r
       others (Collector c) p more most r = (
         r.0,
         subst (λ z. CollectorRests n z (sum_by ended_of (set st.seats m (Mutator after))) c.stage) (sym p)
-            (subst (λ z. CollectorRests n (word_at n st.words phase) z c.stage) (sym more) (collector_more (word_at n st.words phase) (sum_by ended_of st.seats) c.stage (omega arith) r.1)),
+            (subst (λ z. CollectorRests n (word_at n st.words phase) z c.stage) (sym more)
+            (collector_more (word_at n st.words phase) (sum_by ended_of st.seats) c.stage (omega arith) r.1)),
       )
 
   -- ---- the phase where no cycle runs
-  running : (m : ℕ) (d : Driving) → slice_get st.seats m ≡ Some (Mutator d) → MutatorStands n w st.front m d → task_ended d.progress.task ≡ 0 →
+  running : (m : ℕ) (d : Driving) → slice_get st.seats m ≡ Some (Mutator d) → MutatorStands n w st.front m d →
+      task_ended d.progress.task ≡ 0 →
       sum_by ended_of st.seats < n.mutators
   running m d here stands runs =
       let after : Driving = record d { progress = record d.progress { task = TaskEnded } } in
       let sums = sum_at ended_of st.seats m (Mutator d) (Mutator after) here in
       let most : sum_by ended_of (set st.seats m (Mutator after)) ≤ n.mutators =
       sum_seated ended_of (set st.seats m (Mutator after)) n.mutators ended_one
-      (λ i u at one. ⊎_elim (λ t. subst (λ k. k < n.mutators) (sym t.0) stands.in_range) (λ t. ended_low i u (inv.seats i u t.1) one) (at_set st.seats m i (Mutator after) u at)) in
+      (λ i u at one. ⊎_elim (λ t. subst (λ k. k < n.mutators) (sym t.0) stands.in_range)
+      (λ t. ended_low i u (inv.seats i u t.1) one) (at_set st.seats m i (Mutator after) u at)) in
       omega arith
 
   record PhaseStands : Type 0 where
@@ -188,30 +228,41 @@ module _ (n : Numbers) (w : Facts) (st : CoreState) (inv : WholeInvariant n w st
   the_collector : PhaseStands
   the_collector = by (slice_get_cases st.seats (n.mutators + n.servers)).1
     where
-      is_it : (u : Seat) → SeatStands n w st.front (n.mutators + n.servers) u → slice_get st.seats (n.mutators + n.servers) ≡ Some u → PhaseStands
+      is_it : (u : Seat) → SeatStands n w st.front (n.mutators + n.servers) u →
+          slice_get st.seats (n.mutators + n.servers) ≡ Some u → PhaseStands
       is_it (Mutator d) stands at = absurd (let low = stands.in_range in omega arith)
       is_it (Server s) stands at = absurd (let e = stands.0 in let low = stands.1 in omega arith)
       is_it (Collector c) stands at = record { collector = c; here = at }
 
-      by : (((u : Seat) × ((n.mutators + n.servers) < length st.seats) × (slice_get st.seats (n.mutators + n.servers) ≡ Some u) × (get_or st.seats (n.mutators + n.servers) u ≡ u)) ⊎ ((length st.seats ≤ n.mutators + n.servers) × (slice_get st.seats (n.mutators + n.servers) ≡ None))) → PhaseStands
+      by : (((u : Seat) × ((n.mutators + n.servers) < length st.seats)
+          × (slice_get st.seats (n.mutators + n.servers) ≡ Some u) × (get_or st.seats (n.mutators + n.servers) u ≡ u))
+          ⊎ ((length st.seats ≤ n.mutators + n.servers) × (slice_get st.seats (n.mutators + n.servers) ≡ None))) →
+          PhaseStands
       by (inl t) = is_it t.0 (inv.seats (n.mutators + n.servers) t.0 t.2) t.2
       by (inr t) = absurd (let low = t.0 in let count = inv.count in omega arith)
 
   -- Idle, or Stop once all mutators are at their ends
-  pub phase_stands : (word_at n st.words phase ≡ phase_word (IdlePhase 0)) ⊎ ((word_at n st.words phase ≡ phase_word (Stop 0)) × (sum_by ended_of st.seats ≡ n.mutators))
-  phase_stands = by the_collector.collector.stage (inv.rests.each (n.mutators + n.servers) (Collector the_collector.collector) the_collector.here).1
+  pub phase_stands : (word_at n st.words phase ≡ phase_word (IdlePhase 0))
+      ⊎ ((word_at n st.words phase ≡ phase_word (Stop 0)) × (sum_by ended_of st.seats ≡ n.mutators))
+  phase_stands = by the_collector.collector.stage
+      (inv.rests.each (n.mutators + n.servers) (Collector the_collector.collector) the_collector.here).1
     where
       by : (s : CollectStage) → CollectorRests n (word_at n st.words phase) (sum_by ended_of st.seats) s →
-          (word_at n st.words phase ≡ phase_word (IdlePhase 0)) ⊎ ((word_at n st.words phase ≡ phase_word (Stop 0)) × (sum_by ended_of st.seats ≡ n.mutators))
+          (word_at n st.words phase ≡ phase_word (IdlePhase 0))
+          ⊎ ((word_at n st.words phase ≡ phase_word (Stop 0)) × (sum_by ended_of st.seats ≡ n.mutators))
       by (collecting.Idle LoadingDemand) r = inl r
       by (collecting.Idle LookingFinished) r = inl r
       by (collecting.Idle StoringStop) r = inl r.0
       by collecting.Ended r = inr r
       by s r = absurd r
 
-  pub phase_known : (word_at n st.words phase ≡ phase_word (IdlePhase 0)) ⊎ (word_at n st.words phase ≡ phase_word (Stop 0))
+  pub phase_known : (word_at n st.words phase ≡ phase_word (IdlePhase 0))
+      ⊎ (word_at n st.words phase ≡ phase_word (Stop 0))
   phase_known = ⊎_elim (λ e. inl e) (λ t. inr t.0) phase_stands
 
-  pub phase_idle : (m : ℕ) (d : Driving) → slice_get st.seats m ≡ Some (Mutator d) → MutatorStands n w st.front m d → task_ended d.progress.task ≡ 0 →
+  pub phase_idle : (m : ℕ) (d : Driving) → slice_get st.seats m ≡ Some (Mutator d) → MutatorStands n w st.front m d →
+      task_ended d.progress.task ≡ 0 →
       word_at n st.words phase ≡ phase_word (IdlePhase 0)
-  phase_idle m d here stands runs = ⊎_elim (λ e. e) (λ t. absurd (let all = t.1 in let less = running m d here stands runs in omega arith)) phase_stands
+  phase_idle m d here stands runs =
+      ⊎_elim (λ e. e)
+      (λ t. absurd (let all = t.1 in let less = running m d here stands runs in omega arith)) phase_stands

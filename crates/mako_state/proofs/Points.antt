@@ -72,8 +72,12 @@ more_written h name fields j v are object field m =
 
 more_new : (h : Heap) (name : Name) (fields : List Value) → fields_of h name ≡ None →
     (object : Name) (field : ℕ) → HasMore h object field → HasMore (with_fields h name fields) object field
-more_new h name fields fresh object field m =
-    (m.0, fields_other h name fields object (λ same. none-some m.0 (sym fresh ∙ ap (fields_of h) (sym same) ∙ m.1)) ∙ m.1, m.2)
+more_new h name fields fresh object field m = (
+  m.0,
+  fields_other h name fields object (λ same. none-some m.0 (sym fresh ∙ ap (fields_of h) (sym same) ∙ m.1))
+      ∙ m.1,
+  m.2,
+)
 
 rooted : (h : Heap) (m q i : ℕ) (v : Value) → i ≢ m → Preserves h (with_root h m q v) i
 rooted h m q i v other = record {
@@ -82,7 +86,8 @@ rooted h m q i v other = record {
 }
 
 -- a lawful reply to mutator m
-preserves_reply : (h : Heap) (m i : ℕ) (c : Call) (r : Reply) → i ≢ m → IsLawfulReply h m c r → Preserves h (heap_replied h m c r) i
+preserves_reply : (h : Heap) (m i : ℕ) (c : Call) (r : Reply) → i ≢ m → IsLawfulReply h m c r →
+    Preserves h (heap_replied h m c r) i
 preserves_reply h m i (call.New root fields) (reply.Made name) other l =
     let k : Heap = with_fields h name (replicate fields value.Null) in record {
       roots = λ p. root_other k m root i p (value.Ref name) (λ same. absurd (other same));
@@ -107,7 +112,8 @@ preserves_reply h m i call.Collect (reply.Cycle k) other l = same_heap h i
 preserves_reply h m i call.Collect reply.Spent other l = same_heap h i
 preserves_reply h m i c r other l = absurd l
 
-pub preserves : (h : Heap) (m i : ℕ) (c : Call) (r : Reply) → i ≢ m → IsLawful h (Did m c r) → Preserves h (heap_after h (Did m c r)) i
+pub preserves : (h : Heap) (m i : ℕ) (c : Call) (r : Reply) → i ≢ m → IsLawful h (Did m c r) →
+    Preserves h (heap_after h (Did m c r)) i
 preserves h m i c r other l = preserves_reply h m i c r other l
 
 -- ---- what a view says
@@ -127,12 +133,14 @@ module _ (h after : Heap) (i : ℕ) (p : Preserves h after i) where
   root_kept (call.Put to field from) (LoadingPhase object j v) s = (there to (value.Ref object) s.0, there from v s.1)
   root_kept c stage s = s
 
-  get_kept : (c : Call) (object : Name) (get : GetArgs) (s : GetStage) → GetSays h i c object get s → GetSays after i c object get s
+  get_kept : (c : Call) (object : Name) (get : GetArgs) (s : GetStage) → GetSays h i c object get s →
+      GetSays after i c object get s
   get_kept c object get GetHeader s = access_kept c object (Gets get) s
   get_kept c object get GetField s = (access_kept c object (Gets get) s.0, p.more object get.field s.1)
   get_kept c object get (StoringGot v) s = tt
 
-  put_kept : (c : Call) (object : Name) (put : PutArgs) (s : PutStage) → PutSays h i c object put s → PutSays after i c object put s
+  put_kept : (c : Call) (object : Name) (put : PutArgs) (s : PutStage) → PutSays h i c object put s →
+      PutSays after i c object put s
   put_kept c object put PutHeader s = access_kept c object (Puts put) s
   put_kept c object put LoadingOld s = (access_kept c object (Puts put) s.0, p.more object put.field s.1)
   put_kept c object put (LookingAtBarrier old) s = (access_kept c object (Puts put) s.0, p.more object put.field s.1)
@@ -164,22 +172,30 @@ pub none_dead : (w : Facts) (history : List Point) (x : Name) → IsDead w histo
 none_dead w history x d = let e = d.numbered in omega arith
 
 module _ (w : Facts) (front : Seen) (p : Point) where
-  unavailable_stays : (x : ℕ) → IsEntryUnavailable w front front.history 0 x → IsEntryUnavailable w (with_point front p) (front.history ++ p ∷ []) 0 x
+  unavailable_stays : (x : ℕ) → IsEntryUnavailable w front front.history 0 x →
+      IsEntryUnavailable w (with_point front p) (front.history ++ p ∷ []) 0 x
   unavailable_stays x u = ⊎_elim
-      (λ t. inl (t.0, made_stays front.history (p ∷ []) (record { entry = x; generation = t.0 }) t.1, none_dead w (front.history ++ p ∷ []) (record { entry = x; generation = t.0 })))
+      (λ t. inl (
+        t.0,
+        made_stays front.history (p ∷ []) (record { entry = x; generation = t.0 }) t.1,
+        none_dead w (front.history ++ p ∷ []) (record { entry = x; generation = t.0 }),
+      ))
       (λ t. inr (made_stays front.history (p ∷ []) (record { entry = x; generation = w.generations - 1 }) t)) u
 
-  full_stays : (fields t : ℕ) → IsTabletFull w front front.history 0 fields t → IsTabletFull w (with_point front p) (front.history ++ p ∷ []) 0 fields t
+  full_stays : (fields t : ℕ) → IsTabletFull w front front.history 0 fields t →
+      IsTabletFull w (with_point front p) (front.history ++ p ∷ []) 0 fields t
   full_stays fields t f = ⊎_elim (λ u. inl (λ x at. unavailable_stays x (u x at)))
       (λ l. inr (omega (arith, l, sum_by_push (words_by w t) front.history p))) f
 
-  sought_stays : (m fields tablets entries : ℕ) → Sought w front m fields tablets entries → Sought w (with_point front p) m fields tablets entries
+  sought_stays : (m fields tablets entries : ℕ) → Sought w front m fields tablets entries →
+      Sought w (with_point front p) m fields tablets entries
   sought_stays m fields tablets entries s = record {
     gone = λ passed low. full_stays fields _ (s.gone passed low);
     seen = λ passed low. unavailable_stays _ (s.seen passed low);
   }
 
-  new_sought : (m fields passed : ℕ) (s : NewStage) → NewStageSought w front m fields passed s → NewStageSought w (with_point front p) m fields passed s
+  new_sought : (m fields passed : ℕ) (s : NewStage) → NewStageSought w front m fields passed s →
+      NewStageSought w (with_point front p) m fields passed s
   new_sought m fields passed NewArriving s = sought_stays m fields passed 0 s
   new_sought m fields passed NewTurnedAway s = sought_stays m fields (passed + 1) 0 s
   new_sought m fields passed NewTakingTurn s = sought_stays m fields passed 0 s
@@ -193,19 +209,23 @@ module _ (w : Facts) (front : Seen) (p : Point) where
   new_sought m fields passed (NewEnded found) s = tt
 
   alloc_sought : (m : ℕ) (s : AllocStage) → AllocSought w front m s → AllocSought w (with_point front p) m s
-  alloc_sought m (Searching root search) s = λ none. new_sought m search.job.fields search.progress.passed search.progress.stage (s none)
+  alloc_sought m (Searching root search) s =
+      λ none. new_sought m search.job.fields search.progress.passed search.progress.stage (s none)
   alloc_sought m stage s = s
 
-  outcome_sought : (m : ℕ) (c : Call) (o : Attempt) → OutcomeSought w front m c o → OutcomeSought w (with_point front p) m c o
+  outcome_sought : (m : ℕ) (c : Call) (o : Attempt) → OutcomeSought w front m c o →
+      OutcomeSought w (with_point front p) m c o
   outcome_sought m (call.New root fields) NoRoom s = sought_stays m fields w.tablets 0 s
   outcome_sought m c o s = s
 
-  leave_sought : (m : ℕ) (c : Call) (stage : LeaveStage) → LeaveSought w front m c stage → LeaveSought w (with_point front p) m c stage
+  leave_sought : (m : ℕ) (c : Call) (stage : LeaveStage) → LeaveSought w front m c stage →
+      LeaveSought w (with_point front p) m c stage
   leave_sought m c (FromTablet tablet outcome) s = outcome_sought m c outcome s
   leave_sought m c (FromOwn outcome) s = outcome_sought m c outcome s
   leave_sought m c stage s = s
 
-  stage_sought : (m : ℕ) (c : Call) (stage : CallStage) → StageSought w front m c stage → StageSought w (with_point front p) m c stage
+  stage_sought : (m : ℕ) (c : Call) (stage : CallStage) → StageSought w front m c stage →
+      StageSought w (with_point front p) m c stage
   stage_sought m c (Allocating stage) s = alloc_sought m stage s
   stage_sought m c (Leaving stage) s = leave_sought m c stage s
   stage_sought m c stage s = s
@@ -220,21 +240,27 @@ answered_append : (m : ℕ) (xs ys : List Point) → answered_by m (xs ++ ys) �
 answered_append m [] ys = refl
 answered_append m (Snap cycle ∷ xs) ys = answered_append m xs ys
 answered_append m (Did i c r ∷ xs) ys =
-    elim (i == m) as (λ b. cond b ((c, r) ∷ answered_by m (xs ++ ys)) (answered_by m (xs ++ ys)) ≡ cond b ((c, r) ∷ answered_by m xs) (answered_by m xs) ++ answered_by m ys) [
+    elim (i == m) as
+    (λ b. cond b ((c, r) ∷ answered_by m (xs ++ ys)) (answered_by m (xs ++ ys)) ≡ cond b
+    ((c, r) ∷ answered_by m xs) (answered_by m xs) ++ answered_by m ys) [
       | true ↦ ap (λ pairs. (c, r) ∷ pairs) (answered_append m xs ys)
       | false ↦ answered_append m xs ys
     ]
 
 replies_append : (m : ℕ) (xs ys : List Point) → replies_to m (xs ++ ys) ≡ replies_to m xs ++ replies_to m ys
-replies_append m xs ys = ap (map (λ (a : Call × Reply). a.1)) (answered_append m xs ys) ∙ map-append (λ (a : Call × Reply). a.1) (answered_by m xs) (answered_by m ys)
+replies_append m xs ys = ap (map (λ (a : Call × Reply). a.1)) (answered_append m xs ys) ∙ map-append
+    (λ (a : Call × Reply). a.1) (answered_by m xs) (answered_by m ys)
 
-pub own_reply : (m : ℕ) (c : Call) (r : Reply) (history : List Point) → replies_to m (history ++ Did m c r ∷ []) ≡ replies_to m history ++ r ∷ []
+pub own_reply : (m : ℕ) (c : Call) (r : Reply) (history : List Point) →
+    replies_to m (history ++ Did m c r ∷ []) ≡ replies_to m history ++ r ∷ []
 own_reply m c r history =
     replies_append m history (Did m c r ∷ [])
     ∙ ap (λ b. replies_to m history ++ map (λ (a : Call × Reply). a.1) (cond b ((c, r) ∷ []) [])) (eq-eqb m m refl)
 
-pub other_reply : (m i : ℕ) (c : Call) (r : Reply) (history : List Point) → i ≢ m → replies_to i (history ++ Did m c r ∷ []) ≡ replies_to i history
+pub other_reply : (m i : ℕ) (c : Call) (r : Reply) (history : List Point) → i ≢ m →
+    replies_to i (history ++ Did m c r ∷ []) ≡ replies_to i history
 other_reply m i c r history other =
     replies_append i history (Did m c r ∷ [])
-    ∙ ap (λ b. replies_to i history ++ map (λ (a : Call × Reply). a.1) (cond b ((c, r) ∷ []) [])) (ne_eqb m i (λ e. other (sym e)))
+    ∙ ap (λ b. replies_to i history ++ map (λ (a : Call × Reply). a.1) (cond b ((c, r) ∷ []) []))
+    (ne_eqb m i (λ e. other (sym e)))
     ∙ append-nil (replies_to i history)

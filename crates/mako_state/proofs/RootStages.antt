@@ -40,7 +40,8 @@ module _ (x : Scene) where
       }
 
   fit : ValuesFit (heap x) × RootsFit (heap x)
-  fit = heap_fits x.w x.st.front x.inv.script.programs names_fit x.inv.names.hold.answers.lawful x.inv.names.hold.answers.programs
+  fit = heap_fits x.w x.st.front x.inv.script.programs names_fit x.inv.names.hold.answers.lawful
+      x.inv.names.hold.answers.programs
 
   pub values_fit : ValuesFit (heap x)
   values_fit = fit.0
@@ -71,13 +72,16 @@ module _ (x : Scene) where
 
   module _ (within : Bool) where
     -- the value of a root that nothing is still to be stored in
-    pub value_loaded : (s : CallStage) (at : At x within s) → stage_carried s ≡ None → (q : ℕ) → q < x.n.roots → (v : Value) → root_of (heap x) x.m q ≡ Some v →
+    pub value_loaded : (s : CallStage) (at : At x within s) → stage_carried s ≡ None → (q : ℕ) → q < x.n.roots →
+        (v : Value) → root_of (heap x) x.m q ≡ Some v →
         FitsValue v → value_at (root_word q) ≡ v
     value_loaded s at none q low v is fits =
-        at_value (root_word q) v fits (subst (λ c. WordStands c q (root_word q) v) none (root_here x within s at q v low is))
+        at_value (root_word q) v fits
+        (subst (λ c. WordStands c q (root_word q) v) none (root_here x within s at q v low is))
 
     -- the root that is copied is loaded
-    pub copied_loaded : (r q : ℕ) (at : At x within (Rooting (LoadingCopied r q))) → let t = Rooting (StoringCopied r (value_at (root_word q))) in
+    pub copied_loaded : (r q : ℕ) (at : At x within (Rooting (LoadingCopied r q))) →
+        let t = Rooting (StoringCopied r (value_at (root_word q))) in
         drivers.IsKnown (after x t) → Result x within (Rooting (LoadingCopied r q)) t (loaded q)
     copied_loaded r q at known_after =
         let s = Rooting (LoadingCopied r q) in
@@ -87,7 +91,8 @@ module _ (x : Scene) where
         let has = has_value at.stands.in_range q known.stage.1 in
         loads x within s at t (index x.n (root x.m q)) (record {
           known = known_after;
-          says = subst (λ c. StageSays (heap x) x.m c t) (sym is) (has.is ∙ ap Some (sym (value_loaded s at refl q known.stage.1 has.value has.is has.fits)));
+          says = subst (λ c. StageSays (heap x) x.m c t) (sym is)
+              (has.is ∙ ap Some (sym (value_loaded s at refl q known.stage.1 has.value has.is has.fits)));
           sought = tt;
           rests = tt;
           own = λ p v low is. root_here x within s at p v low is;
@@ -95,7 +100,8 @@ module _ (x : Scene) where
         })
 
     -- the root of the object of a get, which is one
-    pub source_loaded : (r q i : ℕ) (at : At x within (Rooting (LoadingSource r q i))) (object : Name) → value_at (root_word q) ≡ Ref object →
+    pub source_loaded : (r q i : ℕ) (at : At x within (Rooting (LoadingSource r q i))) (object : Name) →
+        value_at (root_word q) ≡ Ref object →
         let t = begun_at object (Gets (record { to = r; field = i })) in drivers.IsKnown (after x t) →
         Result x within (Rooting (LoadingSource r q i)) t (loaded q)
     source_loaded r q i at object named known_after =
@@ -106,7 +112,8 @@ module _ (x : Scene) where
         let has = has_value at.stands.in_range q known.stage.1 in
         loads x within s at t (index x.n (root x.m q)) (record {
           known = known_after;
-          says = subst (λ c. StageSays (heap x) x.m c t) (sym is) (has.is ∙ ap Some (sym (value_loaded s at refl q known.stage.1 has.value has.is has.fits) ∙ named));
+          says = subst (λ c. StageSays (heap x) x.m c t) (sym is)
+              (has.is ∙ ap Some (sym (value_loaded s at refl q known.stage.1 has.value has.is has.fits) ∙ named));
           sought = tt;
           rests = tt;
           own = λ p v low is. root_here x within s at p v low is;
@@ -114,8 +121,10 @@ module _ (x : Scene) where
         })
 
     -- the root of the object of a put, which is one
-    pub target_loaded : (r i q : ℕ) (at : At x within (Rooting (LoadingTarget r i q))) (object : Name) → value_at (root_word r) ≡ Ref object →
-        let t = Rooting (LoadingValue object i q) in drivers.IsKnown (after x t) → Result x within (Rooting (LoadingTarget r i q)) t (loaded r)
+    pub target_loaded : (r i q : ℕ) (at : At x within (Rooting (LoadingTarget r i q))) (object : Name) →
+        value_at (root_word r) ≡ Ref object →
+        let t = Rooting (LoadingValue object i q) in drivers.IsKnown (after x t) →
+        Result x within (Rooting (LoadingTarget r i q)) t (loaded r)
     target_loaded r i q at object named known_after =
         let s = Rooting (LoadingTarget r i q) in
         let t = Rooting (LoadingValue object i q) in
@@ -124,7 +133,8 @@ module _ (x : Scene) where
         let has = has_value at.stands.in_range r known.stage.0 in
         loads x within s at t (index x.n (root x.m r)) (record {
           known = known_after;
-          says = subst (λ c. StageSays (heap x) x.m c t) (sym is) (has.is ∙ ap Some (sym (value_loaded s at refl r known.stage.0 has.value has.is has.fits) ∙ named));
+          says = subst (λ c. StageSays (heap x) x.m c t) (sym is)
+              (has.is ∙ ap Some (sym (value_loaded s at refl r known.stage.0 has.value has.is has.fits) ∙ named));
           sought = tt;
           rests = tt;
           own = λ p v low is. root_here x within s at p v low is;
@@ -141,10 +151,12 @@ module _ (x : Scene) where
         let known = at.stands.known.progress.task.known in
         let of = puts_value x.call object i q known.agrees in
         let has = has_value at.stands.in_range q known.stage.1 in
-        let said : RootSays (heap x) x.m (call.Put of.to i q) (LoadingValue object i q) = subst (λ c. StageSays (heap x) x.m c s) of.is at.stands.says in
+        let said : RootSays (heap x) x.m (call.Put of.to i q) (LoadingValue object i q) =
+        subst (λ c. StageSays (heap x) x.m c s) of.is at.stands.says in
         loads x within s at t (index x.n (root x.m q)) (record {
           known = known_after;
-          says = subst (λ c. StageSays (heap x) x.m c t) (sym of.is) (said, has.is ∙ ap Some (sym (value_loaded s at refl q known.stage.1 has.value has.is has.fits)));
+          says = subst (λ c. StageSays (heap x) x.m c t) (sym of.is)
+              (said, has.is ∙ ap Some (sym (value_loaded s at refl q known.stage.1 has.value has.is has.fits)));
           sought = tt;
           rests = tt;
           own = λ p v low is. root_here x within s at p v low is;
@@ -152,15 +164,21 @@ module _ (x : Scene) where
         })
 
     -- the phase, before a put goes to its object
-    pub put_phase_loaded : (object : Name) (i : ℕ) (v : Value) (at : At x within (Rooting (LoadingPhase object i v))) → phase_at (word_at x.n x.st.words phase) ≡ Idle 0 →
-        let t = begun_at object (Puts (record { field = i; value = v; phase = phase_at (word_at x.n x.st.words phase) })) in drivers.IsKnown (after x t) →
-        Result x within (Rooting (LoadingPhase object i v)) t (words_after (record { word = index x.n phase; op = Load }) x.st.words)
+    pub put_phase_loaded : (object : Name) (i : ℕ) (v : Value)
+        (at : At x within (Rooting (LoadingPhase object i v))) → phase_at (word_at x.n x.st.words phase) ≡ Idle 0 →
+        let t =
+        begun_at object (Puts (record { field = i; value = v; phase = phase_at (word_at x.n x.st.words phase) })) in
+        drivers.IsKnown (after x t) →
+        Result x within (Rooting (LoadingPhase object i v)) t
+        (words_after (record { word = index x.n phase; op = Load }) x.st.words)
     put_phase_loaded object i v at idle known_after =
         let s = Rooting (LoadingPhase object i v) in
-        let t = begun_at object (Puts (record { field = i; value = v; phase = phase_at (word_at x.n x.st.words phase) })) in
+        let t =
+        begun_at object (Puts (record { field = i; value = v; phase = phase_at (word_at x.n x.st.words phase) })) in
         let known = at.stands.known.progress.task.known in
         let of = puts_at x.call object i v known.agrees in
-        let said : RootSays (heap x) x.m (call.Put of.to i of.from) (LoadingPhase object i v) = subst (λ c. StageSays (heap x) x.m c s) of.is at.stands.says in
+        let said : RootSays (heap x) x.m (call.Put of.to i of.from) (LoadingPhase object i v) =
+        subst (λ c. StageSays (heap x) x.m c s) of.is at.stands.says in
         loads x within s at t (index x.n phase) (record {
           known = known_after;
           says = subst (λ c. StageSays (heap x) x.m c t) (sym of.is) said;

@@ -44,10 +44,13 @@ drop_all (x ∷ xs) (suc i) past = drop_all xs i (omega arith)
 
 module _ (n : Numbers) (w : Facts) (st : CoreState) (inv : WholeInvariant n w st) where
   -- a mutator at its end has had all its calls answered
-  none_left : (m : ℕ) (d : Driving) → MutatorStands n w st.front m d → d.progress.task ≡ Ended → left_facet (Mutator d) ≡ []
+  none_left : (m : ℕ) (d : Driving) → MutatorStands n w st.front m d → d.progress.task ≡ Ended →
+      left_facet (Mutator d) ≡ []
   none_left m d stands ended =
-      let done : d.progress.done ≡ length d.calls = subst (TaskIsKnown d.caller d.calls d.progress.done) ended stands.known.progress.task in
-      let replies : length d.replies ≡ d.progress.done + 0 = stands.known.replies ∙ ap (λ t. d.progress.done + replied t) ended in
+      let done : d.progress.done ≡ length d.calls =
+      subst (TaskIsKnown d.caller d.calls d.progress.done) ended stands.known.progress.task in
+      let replies : length d.replies ≡ d.progress.done + 0 =
+      stands.known.replies ∙ ap (λ t. d.progress.done + replied t) ended in
       drop_all d.calls (length d.replies) (omega arith)
 
   all_answered : ((m : ℕ) (d : Driving) → slice_get st.seats m ≡ Some (Mutator d) → d.progress.task ≡ Ended) →
@@ -57,7 +60,8 @@ module _ (n : Numbers) (w : Facts) (st : CoreState) (inv : WholeInvariant n w st
       low : m < n.mutators
       low = subst (λ z. m < z) inv.script.facts.mutators (slice_get_within w.programs m program is)
 
-      at : (v : Seat) → slice_get st.seats m ≡ Some v → SeatStands n w st.front m v → calls_by m st.front.history ≡ program
+      at : (v : Seat) → slice_get st.seats m ≡ Some v → SeatStands n w st.front m v →
+          calls_by m st.front.history ≡ program
       at (Mutator d) here stands =
           let left : left_facet (Mutator d) ≡ [] = none_left m d stands (ended m d here) in
           let whole : program ≡ calls_by m st.front.history ++ [] =
@@ -66,7 +70,8 @@ module _ (n : Numbers) (w : Facts) (st : CoreState) (inv : WholeInvariant n w st
       at (Server s) here stands = absurd (let l = low in let e = stands.0 in omega arith)
       at (Collector c) here stands = absurd (let l = low in let e = stands.0 in omega arith)
 
-      by : (((v : Seat) × (m < length st.seats) × (slice_get st.seats m ≡ Some v) × (get_or st.seats m v ≡ v)) ⊎ ((length st.seats ≤ m) × (slice_get st.seats m ≡ None))) →
+      by : (((v : Seat) × (m < length st.seats) × (slice_get st.seats m ≡ Some v) × (get_or st.seats m v ≡ v))
+          ⊎ ((length st.seats ≤ m) × (slice_get st.seats m ≡ None))) →
           calls_by m st.front.history ≡ program
       by (inl t) = at t.0 t.2 (inv.seats m t.0 t.2)
       by (inr t) = absurd (let l = low in let past = t.0 in let count = inv.count in omega arith)
@@ -81,8 +86,10 @@ module _ (n : Numbers) (w : Facts) (st : CoreState) (inv : WholeInvariant n w st
       let cycle = inv.names.hold.table.cycle in
       let finished = inv.names.hold.table.finished in
       ⊎_elim
-      (λ e. let c : cycle_of (phase_at (word_at n st.words phase)) ≡ 0 = ap (λ z. cycle_of (phase_at z)) e in empty st.front.finished (omega arith))
-      (λ e. let c : cycle_of (phase_at (word_at n st.words phase)) ≡ 0 = ap (λ z. cycle_of (phase_at z)) e in empty st.front.finished (omega arith))
+      (λ e. let c : cycle_of (phase_at (word_at n st.words phase)) ≡ 0 = ap (λ z. cycle_of (phase_at z)) e in
+      empty st.front.finished (omega arith))
+      (λ e. let c : cycle_of (phase_at (word_at n st.words phase)) ≡ 0 = ap (λ z. cycle_of (phase_at z)) e in
+      empty st.front.finished (omega arith))
       (phase_known n w st inv)
 
 pub answers_to_end : FrontsAnswerToEnd

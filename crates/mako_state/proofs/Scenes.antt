@@ -65,6 +65,7 @@ module _ (n : Numbers) (w : Facts) (st : CoreState) (inv : WholeInvariant n w st
 
     -- so what holds of the drivers of all scenes holds of it
     pub of_scene : slice_get st.seats m ≡ Some (Mutator d) → (P : Driving → Type 0) →
-        (At (scene_of c) d.progress.within c.stage → StageRests n c.stage → P (driver (scene_of c) d.progress.within c.stage)) →
+        (At (scene_of c) d.progress.within c.stage → StageRests n c.stage →
+        P (driver (scene_of c) d.progress.within c.stage)) →
         P d
     of_scene here P all = subst P (sym driver_is) (all (at_scene here) (scene_rests here))

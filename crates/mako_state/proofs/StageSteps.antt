@@ -78,9 +78,12 @@ product_some zero b one other = omega arith
 product_some (suc a) b one other = omega arith
 
 -- an address of a region lies in it
-in_region : (n : Numbers) (region address : ℕ) → IsAddress n address → region_of_address n address ≡ region → is_in_region n region address ≡ true
+in_region : (n : Numbers) (region address : ℕ) → IsAddress n address → region_of_address n address ≡ region →
+    is_in_region n region address ≡ true
 in_region n region address lies is =
-    let bounds = subst (λ r. (index n (region_word r 0) ≤ address) × (address < index n (region_word r 0) + n.words)) is (address_in_region n address lies) in
+    let bounds =
+    subst (λ r. (index n (region_word r 0) ≤ address) × (address < index n (region_word r 0) + n.words)) is
+    (address_in_region n address lies) in
     and_from _ _ (le-leb (index n (region_word region 0)) address bounds.0)
     (lt-ltb _ n.words (let a = bounds.0 in let b = bounds.1 in omega arith))
 
@@ -124,34 +127,49 @@ module _ (x : Scene) (within : Bool) where
   resting_at s at = x.inv.rests.each x.m (Mutator (driver x within s)) at.here
 
   -- ---- roots
-  pub rooting_kept : (s : RootStage) (at : At x within (Rooting s)) → Fitting x within (Rooting s) → word_at x.n x.st.words phase ≡ phase_word (Idle 0) → Kept x within
-  rooting_kept (StoringNumber q number) at fits idle = kept x within _ at (number_stored x within q number at (known_then x within _ at fits tt))
-  rooting_kept (StoringNull q) at fits idle = kept x within _ at (null_stored x within q at (known_then x within _ at fits tt))
-  rooting_kept (LoadingCopied r q) at fits idle = kept x within _ at (copied_loaded x within r q at (known_then x within _ at fits tt))
-  rooting_kept (StoringCopied q v) at fits idle = kept x within _ at (copied_stored x within q v at (known_then x within _ at fits tt))
-  rooting_kept (LoadingShown q) at fits idle = kept x within _ at (shown_loaded x within q at (known_then x within _ at fits tt))
-  rooting_kept (LoadingSource r q i) at fits idle = kept x within (Rooting (LoadingSource r q i)) at (by (value_at (root_word x q)) refl (known_then x within (Rooting (LoadingSource r q i)) at fits tt))
+  pub rooting_kept : (s : RootStage) (at : At x within (Rooting s)) → Fitting x within (Rooting s) →
+      word_at x.n x.st.words phase ≡ phase_word (Idle 0) → Kept x within
+  rooting_kept (StoringNumber q number) at fits idle =
+      kept x within _ at (number_stored x within q number at (known_then x within _ at fits tt))
+  rooting_kept (StoringNull q) at fits idle =
+      kept x within _ at (null_stored x within q at (known_then x within _ at fits tt))
+  rooting_kept (LoadingCopied r q) at fits idle =
+      kept x within _ at (copied_loaded x within r q at (known_then x within _ at fits tt))
+  rooting_kept (StoringCopied q v) at fits idle =
+      kept x within _ at (copied_stored x within q v at (known_then x within _ at fits tt))
+  rooting_kept (LoadingShown q) at fits idle =
+      kept x within _ at (shown_loaded x within q at (known_then x within _ at fits tt))
+  rooting_kept (LoadingSource r q i) at fits idle = kept x within (Rooting (LoadingSource r q i)) at
+      (by (value_at (root_word x q)) refl (known_then x within (Rooting (LoadingSource r q i)) at fits tt))
     where
-      by : (v : Value) → value_at (root_word x q) ≡ v → drivers.IsKnown (fed_to x within (Rooting (LoadingSource r q i)) (source_fed r i v)) →
+      by : (v : Value) → value_at (root_word x q) ≡ v →
+          drivers.IsKnown (fed_to x within (Rooting (LoadingSource r q i)) (source_fed r i v)) →
           Result x within (Rooting (LoadingSource r q i)) (source_fed r i v) (loaded x q)
       by value.Null e known = source_no_ref x within r q i at value.Null e tt known
       by (value.Num z) e known = source_no_ref x within r q i at (value.Num z) e tt known
       by (value.Ref object) e known = source_loaded x within r q i at object e known
-  rooting_kept (LoadingTarget r i q) at fits idle = kept x within (Rooting (LoadingTarget r i q)) at (by (value_at (root_word x r)) refl (known_then x within (Rooting (LoadingTarget r i q)) at fits tt))
+  rooting_kept (LoadingTarget r i q) at fits idle = kept x within (Rooting (LoadingTarget r i q)) at
+      (by (value_at (root_word x r)) refl (known_then x within (Rooting (LoadingTarget r i q)) at fits tt))
     where
-      by : (v : Value) → value_at (root_word x r) ≡ v → drivers.IsKnown (fed_to x within (Rooting (LoadingTarget r i q)) (target_fed i q v)) →
+      by : (v : Value) → value_at (root_word x r) ≡ v →
+          drivers.IsKnown (fed_to x within (Rooting (LoadingTarget r i q)) (target_fed i q v)) →
           Result x within (Rooting (LoadingTarget r i q)) (target_fed i q v) (loaded x r)
       by value.Null e known = target_no_ref x within r i q at value.Null e tt known
       by (value.Num z) e known = target_no_ref x within r i q at (value.Num z) e tt known
       by (value.Ref object) e known = target_loaded x within r i q at object e known
-  rooting_kept (LoadingValue object i q) at fits idle = kept x within _ at (put_value_loaded x within object i q at (known_then x within _ at fits tt))
-  rooting_kept (LoadingPhase object i v) at fits idle = kept x within _ at (put_phase_loaded x within object i v at (ap phase_at idle) (known_then x within _ at fits tt))
+  rooting_kept (LoadingValue object i q) at fits idle =
+      kept x within _ at (put_value_loaded x within object i q at (known_then x within _ at fits tt))
+  rooting_kept (LoadingPhase object i v) at fits idle =
+      kept x within _ at (put_phase_loaded x within object i v at (ap phase_at idle) (known_then x within _ at fits tt))
 
   -- ---- at an object's tablet
-  pub entering_kept : (e : Errand) (s : EnterStage) (at : At x within (Entering e s)) → Fitting x within (Entering e s) → Kept x within
+  pub entering_kept : (e : Errand) (s : EnterStage) (at : At x within (Entering e s)) →
+      Fitting x within (Entering e s) → Kept x within
   entering_kept e EnterArriving at fits = kept x within s at
-      (by_bool (λ b. drivers.IsKnown (fed_to x within s (next b)) → Result x within s (next b) (operated x within (tablet_gate t) (Add 1)))
-      (is_shut w) (λ shut known. tablet_turned_away x within e at w low shut known) (λ open_ known. tablet_arrived x within e at low open_ known)
+      (by_bool (λ b. drivers.IsKnown (fed_to x within s (next b)) →
+      Result x within s (next b) (operated x within (tablet_gate t) (Add 1)))
+      (is_shut w) (λ shut known. tablet_turned_away x within e at w low shut known)
+      (λ open_ known. tablet_arrived x within e at low open_ known)
       (known_then x within s at fits tt))
     where
       s : CallStage
@@ -168,9 +186,11 @@ module _ (x : Scene) (within : Bool) where
 
       low : t < x.n.servers * x.n.tablets
       low = belongings_in_range.entry x.n e.object.entry at.stands.known.progress.task.known.stage.0.0.1
-  entering_kept e LoadingEntry at fits = kept x within _ at (entry_loaded x within e at (known_then x within _ at fits tt))
+  entering_kept e LoadingEntry at fits =
+      kept x within _ at (entry_loaded x within e at (known_then x within _ at fits tt))
   entering_kept e (LoadingHome found) at fits = kept x within s at
-      (subst (λ b. drivers.IsKnown (fed_to x within s (next b)) → Result x within s (next b) (read x (index x.n (home t)))) (sym there)
+      (subst (λ b. drivers.IsKnown (fed_to x within s (next b)) →
+      Result x within s (next b) (read x (index x.n (home t)))) (sym there)
       (λ known. by e.access refl known) (known_then x within s at fits tt))
     where
       s : CallStage
@@ -186,7 +206,8 @@ module _ (x : Scene) (within : Bool) where
       low = belongings_in_range.entry x.n e.object.entry at.stands.known.progress.task.known.stage.0.0.1
 
       there : is_in_region x.n w found.address ≡ true
-      there = in_region x.n w found.address at.stands.known.progress.task.known.stage.1 ((resting_at s at).1 ∙ sym (x.inv.rests.homes t low))
+      there = in_region x.n w found.address at.stands.known.progress.task.known.stage.1
+          ((resting_at s at).1 ∙ sym (x.inv.rests.homes t low))
 
       next : Bool → CallStage
       next b = if b then at_object e found.address else Moving e (TakingTurn w)
@@ -197,29 +218,43 @@ module _ (x : Scene) (within : Bool) where
       to : Access → CallStage
       to a = at_record there_at a
 
-      by : (a : Access) → e.access ≡ a → drivers.IsKnown (fed_to x within s (to a)) → Result x within s (to a) (read x (index x.n (home t)))
-      by (Gets get) is known = subst (λ a. WholeInvariant x.n x.w (with_driver x.n x.w x.st x.inv x.m (read x (index x.n (home t))) x.st.front (after x (to a)))) is
+      by : (a : Access) → e.access ≡ a → drivers.IsKnown (fed_to x within s (to a)) →
+          Result x within s (to a) (read x (index x.n (home t)))
+      by (Gets get) is known =
+          subst (λ a. WholeInvariant x.n x.w (with_driver x.n x.w x.st x.inv x.m
+          (read x (index x.n (home t))) x.st.front (after x (to a)))) is
           (home_loaded x within e found at (Gets get) is (subst (λ a. drivers.IsKnown (after x (to a))) (sym is) known))
-      by (Puts put) is known = subst (λ a. WholeInvariant x.n x.w (with_driver x.n x.w x.st x.inv x.m (read x (index x.n (home t))) x.st.front (after x (to a)))) is
+      by (Puts put) is known =
+          subst (λ a. WholeInvariant x.n x.w (with_driver x.n x.w x.st x.inv x.m
+          (read x (index x.n (home t))) x.st.front (after x (to a)))) is
           (home_loaded x within e found at (Puts put) is (subst (λ a. drivers.IsKnown (after x (to a))) (sym is) known))
 
   -- ---- at an object
-  pub getting_kept : (l : Located) (get : GetArgs) (s : GetStage) (at : At x within (Getting l get s)) → Fitting x within (Getting l get s) → Kept x within
+  pub getting_kept : (l : Located) (get : GetArgs) (s : GetStage) (at : At x within (Getting l get s)) →
+      Fitting x within (Getting l get s) → Kept x within
   getting_kept l get GetHeader at fits = kept x within (Getting l get GetHeader) at
-      (by_lt (λ b. drivers.IsKnown (fed_to x within (Getting l get GetHeader) (next b)) → Result x within (Getting l get GetHeader) (next b) (read x l.address))
-      get.field (slice_index x.st.words l.address) (λ less known. get_header_loaded x within l get at less known) (λ past known. get_no_field x within l get at past known)
+      (by_lt (λ b. drivers.IsKnown (fed_to x within (Getting l get GetHeader) (next b)) →
+      Result x within (Getting l get GetHeader) (next b) (read x l.address))
+      get.field (slice_index x.st.words l.address) (λ less known. get_header_loaded x within l get at less known)
+      (λ past known. get_no_field x within l get at past known)
       (known_then x within (Getting l get GetHeader) at fits tt))
     where
       next : Bool → CallStage
       next b = if b then Getting l get GetField else answered_at (tablet_of x.n l.object) reply.NoField
-  getting_kept l get GetField at fits = kept x within _ at (field_loaded x within l get at (known_then x within _ at fits tt))
-  getting_kept l get (StoringGot v) at fits = kept x within _ at (got_stored x within l get v at (known_then x within _ at fits tt))
+  getting_kept l get GetField at fits =
+      kept x within _ at (field_loaded x within l get at (known_then x within _ at fits tt))
+  getting_kept l get (StoringGot v) at fits =
+      kept x within _ at (got_stored x within l get v at (known_then x within _ at fits tt))
 
-  pub putting_kept : (l : Located) (put : PutArgs) (s : PutStage) (at : At x within (Putting l put s)) → Fitting x within (Putting l put s) → Kept x within
+  pub putting_kept : (l : Located) (put : PutArgs) (s : PutStage) (at : At x within (Putting l put s)) →
+      Fitting x within (Putting l put s) → Kept x within
   putting_kept l put PutHeader at fits = kept x within s at
-      (subst (λ p. drivers.IsKnown (fed_to x within s (next p (nat_lt put.field w))) → Result x within s (next p (nat_lt put.field w)) (read x l.address)) (sym (resting_at s at))
-      (by_lt (λ b. drivers.IsKnown (fed_to x within s (next (Idle 0) b)) → Result x within s (next (Idle 0) b) (read x l.address))
-      put.field w (λ less known. put_header_loaded x within l put at less known) (λ past known. put_no_field x within l put at past known))
+      (subst (λ p. drivers.IsKnown (fed_to x within s (next p (nat_lt put.field w))) →
+      Result x within s (next p (nat_lt put.field w)) (read x l.address)) (sym (resting_at s at))
+      (by_lt (λ b. drivers.IsKnown (fed_to x within s (next (Idle 0) b)) →
+      Result x within s (next (Idle 0) b) (read x l.address))
+      put.field w (λ less known. put_header_loaded x within l put at less known)
+      (λ past known. put_no_field x within l put at past known))
       (known_then x within s at fits tt))
     where
       s : CallStage
@@ -233,7 +268,8 @@ module _ (x : Scene) (within : Bool) where
   putting_kept l put LoadingOld at fits = absurd (resting_at (Putting l put LoadingOld) at)
   putting_kept l put (LookingAtBarrier old) at fits = absurd (resting_at (Putting l put (LookingAtBarrier old)) at)
   putting_kept l put (StoringBarrier old) at fits = absurd (resting_at (Putting l put (StoringBarrier old)) at)
-  putting_kept l put StoringField at fits = kept x within _ at (field_stored x within l put at (known_then x within _ at fits tt))
+  putting_kept l put StoringField at fits =
+      kept x within _ at (field_stored x within l put at (known_then x within _ at fits tt))
 
   -- ---- no room is found only where no cycle may run
   spent_at : (at : At x within (Leaving (FromOwn NoRoom))) (new : NewAt x.call) → x.w.cycles ≡ 0
@@ -245,35 +281,56 @@ module _ (x : Scene) (within : Bool) where
       sought : Sought x.w x.st.front x.m new.fields x.w.tablets 0
       sought = subst (λ c. OutcomeSought x.w x.st.front x.m c NoRoom) new.is at.stands.sought
 
-      left : x.calls ≡ calls_by x.m x.st.front.history ++ call.New new.to new.fields ∷ drop (length x.replies + 1) x.calls
+      left : x.calls ≡ calls_by x.m x.st.front.history ++ call.New new.to new.fields ∷ drop
+          (length x.replies + 1) x.calls
       left = x.inv.names.hold.left x.m (x.call ∷ drop (length x.replies + 1) x.calls)
-          (map_at left_facet x.st.seats x.m (Mutator (driver x within s)) at.here ∙ ap Some (next_left x within s at refl)) x.calls at.stands.program
+          (map_at left_facet x.st.seats x.m (Mutator (driver x within s)) at.here ∙ ap Some
+          (next_left x within s at refl)) x.calls at.stands.program
           ∙ ap (λ c. calls_by x.m x.st.front.history ++ c ∷ drop (length x.replies + 1) x.calls) new.is
 
       some : 0 < x.w.tablets
-      some = subst (λ z. 0 < z) (sym x.inv.script.facts.tablets) (product_some x.n.servers x.n.tablets (let low = x.inv.script.shape.in_range.each in omega (arith, low)) (let low = x.inv.script.shape.in_range.each in omega (arith, low)))
+      some = subst (λ z. 0 < z) (sym x.inv.script.facts.tablets)
+          (product_some x.n.servers x.n.tablets (let low = x.inv.script.shape.in_range.each in omega (arith, low))
+          (let low = x.inv.script.shape.in_range.each in omega (arith, low)))
 
       full : HasAmpleRoom x.w → ⊥
-      full room = ample x.w x.st.front x.m new.to new.fields x.calls (drop (length x.replies + 1) x.calls) room x.inv.names.hold.answers.lawful x.inv.names.hold.answers.programs
+      full room = ample x.w x.st.front x.m new.to new.fields x.calls
+          (drop (length x.replies + 1) x.calls) room x.inv.names.hold.answers.lawful x.inv.names.hold.answers.programs
           at.stands.program left (tablet_at x.w x.m 0) (sought.gone 0 some)
 
   -- ---- leaving
-  pub leaving_kept : (s : LeaveStage) (at : At x within (Leaving s)) → Fitting x within (Leaving s) → word_at x.n x.st.words phase ≡ phase_word (Idle 0) → Kept x within
+  pub leaving_kept : (s : LeaveStage) (at : At x within (Leaving s)) → Fitting x within (Leaving s) →
+      word_at x.n x.st.words phase ≡ phase_word (Idle 0) → Kept x within
   unfolding phase_of
-  leaving_kept (Refused found) at fits idle = kept x within _ at (refused_left x within found at at.stands.known.progress.task.known.agrees (known_then x within _ at fits tt))
-  leaving_kept (TurnedAway t found) at fits idle = kept x within _ at (turned_back x within t found at at.stands.known.progress.task.known.stage (known_then x within _ at fits tt))
-  leaving_kept (FromTablet t (Answer r)) at fits idle = kept x within _ at (tablet_left x within t (Answer r) at at.stands.known.progress.task.known.stage (known_then x within _ at fits tt))
-  leaving_kept (FromTablet t NoRoom) at fits idle = kept x within _ at (tablet_left x within t NoRoom at at.stands.known.progress.task.known.stage (known_then x within _ at fits tt))
-  leaving_kept (FromTablet t (Paused r)) at fits idle = kept x within _ at (tablet_left x within t (Paused r) at at.stands.known.progress.task.known.stage (known_then x within _ at fits tt))
+  leaving_kept (Refused found) at fits idle =
+      kept x within _ at
+      (refused_left x within found at at.stands.known.progress.task.known.agrees (known_then x within _ at fits tt))
+  leaving_kept (TurnedAway t found) at fits idle =
+      kept x within _ at
+      (turned_back x within t found at at.stands.known.progress.task.known.stage (known_then x within _ at fits tt))
+  leaving_kept (FromTablet t (Answer r)) at fits idle =
+      kept x within _ at
+      (tablet_left x within t (Answer r) at at.stands.known.progress.task.known.stage
+      (known_then x within _ at fits tt))
+  leaving_kept (FromTablet t NoRoom) at fits idle =
+      kept x within _ at
+      (tablet_left x within t NoRoom at at.stands.known.progress.task.known.stage (known_then x within _ at fits tt))
+  leaving_kept (FromTablet t (Paused r)) at fits idle =
+      kept x within _ at
+      (tablet_left x within t (Paused r) at at.stands.known.progress.task.known.stage
+      (known_then x within _ at fits tt))
   leaving_kept (FromOwn (Answer r)) at fits idle = kept x within s at
-      (subst (λ o. drivers.IsKnown (fed_to x within s (Ended o)) → Result x within s (Ended o) (operated x within (mutator_gate x.m) (Sub 1))) (sym (outcome_answer x.last r))
+      (subst (λ o. drivers.IsKnown (fed_to x within s (Ended o)) →
+      Result x within s (Ended o) (operated x within (mutator_gate x.m) (Sub 1))) (sym (outcome_answer x.last r))
       (λ known. answered_left x within r at known) (known_then x within s at fits tt))
     where
       s : CallStage
       s = Leaving (FromOwn (Answer r))
   leaving_kept (FromOwn (Paused r)) at fits idle = kept x within s at
-      (subst (λ o. drivers.IsKnown (fed_to x within s (Ended o)) → Result x within s (Ended o) (operated x within (mutator_gate x.m) (Sub 1))) (sym (outcome_paused x.last r))
-      (λ known. paused_left x within r at at.stands.known.progress.task.known.agrees known) (known_then x within s at fits tt))
+      (subst (λ o. drivers.IsKnown (fed_to x within s (Ended o)) →
+      Result x within s (Ended o) (operated x within (mutator_gate x.m) (Sub 1))) (sym (outcome_paused x.last r))
+      (λ known. paused_left x within r at at.stands.known.progress.task.known.agrees known)
+      (known_then x within s at fits tt))
     where
       s : CallStage
       s = Leaving (FromOwn (Paused r))
@@ -296,24 +353,34 @@ module _ (x : Scene) (within : Bool) where
         caller = k x;
         calls = x.calls;
         replies = x.replies ++ reply.Full ∷ [];
-        progress = record { done = x.done + 1; within = false; task = task_for (k x) (slice_get x.calls (x.done + 1)) false (record { asked = asked; barrier_at = x.slot }) };
+        progress = record {
+          done = x.done + 1;
+          within = false;
+          task = task_for (k x) (slice_get x.calls (x.done + 1)) false (record { asked = asked; barrier_at = x.slot });
+        };
       }
 
       idle_is : cycle_of (phase_of x.n x.st.words) ≡ 0
       idle_is = ap (λ z. cycle_of (phase_at z)) idle
 
-      by : (last : Bool) → drivers.IsKnown (fed_to x within s (Ended (outcome_of last NoRoom))) → Result x within s (Ended (outcome_of last NoRoom)) (operated x within (mutator_gate x.m) (Sub 1))
+      by : (last : Bool) → drivers.IsKnown (fed_to x within s (Ended (outcome_of last NoRoom))) →
+          Result x within s (Ended (outcome_of last NoRoom)) (operated x within (mutator_gate x.m) (Sub 1))
       by true known =
           subst (λ asked. drivers.IsKnown (ended asked) →
-          WholeInvariant x.n x.w (with_driver x.n x.w x.st x.inv x.m (operated x within (mutator_gate x.m) (Sub 1)) (with_point x.st.front (Did x.m x.call reply.Full)) (ended asked)))
-          (sym (answer_asks x.call reply.Full)) (λ none. full_told x within new.to new.fields at new.is in_row spent idle_is none) known
+          WholeInvariant x.n x.w
+          (with_driver x.n x.w x.st x.inv x.m (operated x within (mutator_gate x.m) (Sub 1))
+          (with_point x.st.front (Did x.m x.call reply.Full)) (ended asked)))
+          (sym (answer_asks x.call reply.Full))
+          (λ none. full_told x within new.to new.fields at new.is in_row spent idle_is none) known
       by false known = full_left x within at (sym x.inv.script.facts.cycles ∙ spent) known
 
   -- ---- asking
-  pub asking_kept : (s : AskStage) (at : At x within (Asking s)) → Fitting x within (Asking s) → word_at x.n x.st.words phase ≡ phase_word (Idle 0) → Kept x within
+  pub asking_kept : (s : AskStage) (at : At x within (Asking s)) → Fitting x within (Asking s) →
+      word_at x.n x.st.words phase ≡ phase_word (Idle 0) → Kept x within
   unfolding phase_of
   asking_kept AskPhase at fits idle = kept x within s at
-      (subst (λ b. drivers.IsKnown (fed_to x within s (next b)) → Result x within s (next b) (read x (index x.n phase))) (sym over)
+      (subst (λ b. drivers.IsKnown (fed_to x within s (next b)) →
+      Result x within s (next b) (read x (index x.n phase))) (sym over)
       told (known_then x within s at fits tt))
     where
       s : CallStage
@@ -339,13 +406,22 @@ module _ (x : Scene) (within : Bool) where
         caller = k x;
         calls = x.calls;
         replies = x.replies ++ reply.Spent ∷ [];
-        progress = record { done = x.done + 1; within = false; task = task_for (k x) (slice_get x.calls (x.done + 1)) false (record { asked = asked; barrier_at = x.slot }) };
+        progress = record {
+          done = x.done + 1;
+          within = false;
+          task = task_for (k x) (slice_get x.calls (x.done + 1)) false (record { asked = asked; barrier_at = x.slot });
+        };
       }
 
-      told : drivers.IsKnown (fed_to x within s (Ended (Answer reply.Spent))) → Result x within s (Ended (Answer reply.Spent)) (read x (index x.n phase))
+      told : drivers.IsKnown (fed_to x within s (Ended (Answer reply.Spent))) →
+          Result x within s (Ended (Answer reply.Spent)) (read x (index x.n phase))
       told known =
           subst (λ asked. drivers.IsKnown (ended asked) →
-          WholeInvariant x.n x.w (with_driver x.n x.w x.st x.inv x.m (read x (index x.n phase)) (with_point x.st.front (Did x.m x.call reply.Spent)) (ended asked)))
-          (sym (answer_asks x.call reply.Spent)) (λ bare. spent_told x within at (collect_is x.call at.stands.known.progress.task.known.agrees) (x.inv.script.facts.cycles ∙ none) idle_is bare) known
+          WholeInvariant x.n x.w
+          (with_driver x.n x.w x.st x.inv x.m (read x (index x.n phase))
+          (with_point x.st.front (Did x.m x.call reply.Spent)) (ended asked)))
+          (sym (answer_asks x.call reply.Spent))
+          (λ bare. spent_told x within at (collect_is x.call at.stands.known.progress.task.known.agrees)
+          (x.inv.script.facts.cycles ∙ none) idle_is bare) known
   asking_kept (RaisingDemand cycle) at fits idle = absurd (resting_at (Asking (RaisingDemand cycle)) at)
   asking_kept (AskAwaiting cycle) at fits idle = absurd (resting_at (Asking (AskAwaiting cycle)) at)

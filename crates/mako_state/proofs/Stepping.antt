@@ -32,10 +32,12 @@ module _ (x : Scene) (within : Bool) where
   Fitting s = drivers.Fits (driver x within s) (finding s)
 
   module _ (s : CallStage) (at : At x within s) where
-    pub kept : WholeInvariant x.n x.w (made x.st x.m (Mutator (driver x within s)) (next_of (Mutator (driver x within s)))) → Kept
+    pub kept : WholeInvariant x.n x.w
+        (made x.st x.m (Mutator (driver x within s)) (next_of (Mutator (driver x within s)))) → Kept
     kept inv = subst (λ o. WholeInvariant x.n x.w (stepped_by x.st x.m o)) (sym at.here) inv
 
-    pub known_then : Fitting s → IsAct (drivers.next_of (driver x within s)) → drivers.IsKnown (drivers.fed (driver x within s) (finding s))
+    pub known_then : Fitting s → IsAct (drivers.next_of (driver x within s)) →
+        drivers.IsKnown (drivers.fed (driver x within s) (finding s))
     known_then fits acts = driver_known (driver x within s) (finding s) at.stands.known fits acts
 
   -- ---- at the own gate

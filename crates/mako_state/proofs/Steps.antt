@@ -41,7 +41,8 @@ use Rattle.mako_state.proofs.Stepping.{Kept, Fitting, arriving_kept, kept}
 
 -- ---- an attempt, by its stage
 module _ (x : Scene) (within : Bool) where
-  stage_kept : (s : CallStage) (at : At x within s) → StageRests x.n s → Fitting x within s → word_at x.n x.st.words phase ≡ phase_word (Idle 0) → Kept x within
+  stage_kept : (s : CallStage) (at : At x within s) → StageRests x.n s → Fitting x within s →
+      word_at x.n x.st.words phase ≡ phase_word (Idle 0) → Kept x within
   stage_kept Arriving at rests fits idle = arriving_kept x within at fits
   stage_kept (Rooting s) at rests fits idle = rooting_kept x within s at fits idle
   stage_kept (Entering e s) at rests fits idle = entering_kept x within e s at fits
@@ -57,7 +58,8 @@ module _ (x : Scene) (within : Bool) where
       WholeInvariant x.n x.w (made x.st x.m (Mutator (driver x within s)) (next_of (Mutator (driver x within s))))
   attempt_kept s at rests = by (drivers.next_of (driver x within s)) refl (attempt_fits x within s at rests)
     where
-      by : (next : Step) → drivers.next_of (driver x within s) ≡ next → CanStep next x.st.words (drivers.Fits (driver x within s)) →
+      by : (next : Step) → drivers.next_of (driver x within s) ≡ next →
+          CanStep next x.st.words (drivers.Fits (driver x within s)) →
           WholeInvariant x.n x.w (made x.st x.m (Mutator (driver x within s)) next)
       by NoStep e can = x.inv
       by (Do act) e can = subst (λ z. WholeInvariant x.n x.w (made x.st x.m (Mutator (driver x within s)) z)) e
@@ -76,7 +78,12 @@ module _ (n : Numbers) (w : Facts) (st : CoreState) (inv : WholeInvariant n w st
 
     -- the mutator at this task
     abbrev at_task : Task → Driving
-    at_task t = record { caller = k; calls = d.calls; replies = d.replies; progress = record { done = d.progress.done; within = d.progress.within; task = t } }
+    at_task t = record {
+      caller = k;
+      calls = d.calls;
+      replies = d.replies;
+      progress = record { done = d.progress.done; within = d.progress.within; task = t };
+    }
 
     stands : MutatorStands n w st.front m d
     stands = inv.seats m (Mutator d) here
@@ -84,13 +91,20 @@ module _ (n : Numbers) (w : Facts) (st : CoreState) (inv : WholeInvariant n w st
     task_is : (t : Task) → d.progress.task ≡ t → d ≡ at_task t
     task_is t e =
         let caller = caller_is n w st inv m d stands in
-        λ i. record { caller = caller i; calls = d.calls; replies = d.replies; progress = record { done = d.progress.done; within = d.progress.within; task = e i } }
+        λ i. record {
+          caller = caller i;
+          calls = d.calls;
+          replies = d.replies;
+          progress = record { done = d.progress.done; within = d.progress.within; task = e i };
+        }
 
     at_task_kept : (t : Task) → d.progress.task ≡ t →
-        (slice_get st.seats m ≡ Some (Mutator (at_task t)) → MutatorStands n w st.front m (at_task t) → GoesOn (at_task t)) → GoesOn d
+        (slice_get st.seats m ≡ Some (Mutator (at_task t)) → MutatorStands n w st.front m (at_task t) →
+        GoesOn (at_task t)) → GoesOn d
     at_task_kept t e goes =
         let is = task_is t e in
-        subst GoesOn (sym is) (goes (here ∙ ap (λ z. Some (Mutator z)) is) (subst (MutatorStands n w st.front m) is stands))
+        subst GoesOn (sym is)
+        (goes (here ∙ ap (λ z. Some (Mutator z)) is) (subst (MutatorStands n w st.front m) is stands))
 
     -- the wait of one that found no room, where no cycle is left
     abbrev wait : Calling → Calling
@@ -113,41 +127,62 @@ module _ (n : Numbers) (w : Facts) (st : CoreState) (inv : WholeInvariant n w st
             (ap (λ z. cycle_of (phase_at z)) (phase_idle n w st inv m u at standing refl) ∙ sym none)
 
         next : Bool → Calling
-        next b = record (wait c) { stage = if b then Ended (Answer reply.Spent) else Asking (RaisingDemand (cycle_of (phase_at found) + 1)) }
+        next b =
+            record (wait c)
+            { stage = if b then Ended (Answer reply.Spent) else Asking (RaisingDemand (cycle_of (phase_at found) + 1)) }
 
         after_look : Bool → Driving
-        after_look b = record { caller = k; calls = d.calls; replies = d.replies ++ []; progress = after_wait k d.calls u.progress (next b) }
+        after_look b = record {
+          caller = k;
+          calls = d.calls;
+          replies = d.replies ++ [];
+          progress = after_wait k d.calls u.progress (next b);
+        }
 
         stepped : Driving → CoreState
-        stepped e = record { words = words_after (record { word = index n phase; op = Load }) st.words; seats = set st.seats m (Mutator e); front = st.front }
+        stepped e = record {
+          words = words_after (record { word = index n phase; op = Load }) st.words;
+          seats = set st.seats m (Mutator e);
+          front = st.front;
+        }
 
         last_try : Option ℕ → Driving
         last_try asked = record {
           caller = k;
           calls = d.calls;
           replies = d.replies ++ [];
-          progress = record { done = d.progress.done; within = true; task = task_for k (slice_get d.calls d.progress.done) true (record { asked = asked; barrier_at = c.slot }) };
+          progress = record {
+            done = d.progress.done;
+            within = true;
+            task = task_for k (slice_get d.calls d.progress.done) true (record { asked = asked; barrier_at = c.slot });
+          };
         }
 
         told : drivers.IsKnown (after_look true) → WholeInvariant n w (stepped (after_look true))
         told known =
-            subst (λ asked. drivers.IsKnown (last_try asked) → WholeInvariant n w (stepped (last_try asked))) (sym (answer_asks c.call reply.Spent))
-            (λ bare. waited n w st inv m u (last_try None) (index n phase) at standing bare refl refl (append-nil d.replies) refl refl refl refl
-            (task_starts n w st.front (state_of w st.front.history) m m true c.slot (slice_get d.calls d.progress.done) (λ e. none))) known
+            subst (λ asked. drivers.IsKnown (last_try asked) → WholeInvariant n w (stepped (last_try asked)))
+            (sym (answer_asks c.call reply.Spent))
+            (λ bare. waited n w st inv m u (last_try None) (index n phase) at standing bare refl refl
+            (append-nil d.replies) refl refl refl refl
+            (task_starts n w st.front (state_of w st.front.history) m m true c.slot
+            (slice_get d.calls d.progress.done) (λ e. none))) known
 
     task_kept : (t : Task) → d.progress.task ≡ t → GoesOn d
     task_kept (Attempting c) e = of_scene n w st inv m d c e stands here GoesOn
         (λ at rests. attempt_kept (scene_of n w st inv m d c) d.progress.within c.stage at rests)
     task_kept (Awaiting c) e =
         let rests : TaskRests n (Awaiting c) = subst (TaskRests n) e (inv.rests.each m (Mutator d) here) in
-        let known : IsWait d.caller d.calls d.progress.done c = subst (TaskIsKnown d.caller d.calls d.progress.done) e stands.known.progress.task in
+        let known : IsWait d.caller d.calls d.progress.done c =
+        subst (TaskIsKnown d.caller d.calls d.progress.done) e stands.known.progress.task in
         let caller = known.same ∙ caller_is n w st inv m d stands in
-        let is : c ≡ wait c = λ i. record { caller = caller i; call = c.call; last = c.last; slot = c.slot; stage = rests.0 i } in
+        let is : c ≡ wait c =
+        λ i. record { caller = caller i; call = c.call; last = c.last; slot = c.slot; stage = rests.0 i } in
         at_task_kept (Awaiting (wait c)) (e ∙ ap Awaiting is) (waiting_kept c rests.1)
     task_kept Finishing e = at_task_kept Finishing e
         (λ at standing. let u = at_task Finishing in
         let found = word_at n st.words finished in
-        finishes n w st inv m u (drivers.fed u found) at standing (driver_known u found standing.known tt tt) refl refl (append-nil d.replies) refl refl)
+        finishes n w st inv m u (drivers.fed u found) at standing
+        (driver_known u found standing.known tt tt) refl refl (append-nil d.replies) refl refl)
     task_kept TaskEnded e = at_task_kept TaskEnded e (λ at standing. inv)
 
   seat_kept : (i : ℕ) (o : Option Seat) → slice_get st.seats i ≡ o → WholeInvariant n w (stepped_by st i o)
@@ -156,5 +191,6 @@ module _ (n : Numbers) (w : Facts) (st : CoreState) (inv : WholeInvariant n w st
   seat_kept i (Some (Server v)) here = server_kept n w st inv i v here
   seat_kept i (Some (Collector c)) here = collector_kept n w st inv i c here
 
-pub step_kept : (n : Numbers) (w : Facts) (st : CoreState) (i : ℕ) → WholeInvariant n w st → WholeInvariant n w (step_of st i)
+pub step_kept : (n : Numbers) (w : Facts) (st : CoreState) (i : ℕ) → WholeInvariant n w st →
+    WholeInvariant n w (step_of st i)
 step_kept n w st i inv = seat_kept n w st inv i (slice_get st.seats i) refl

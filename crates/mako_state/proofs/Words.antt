@@ -53,9 +53,11 @@ stored_apart n ws p v size within apart = record {
 }
 
 -- and the roots, where the place is none
-pub same_roots : (n : Numbers) (ws : List ℕ) (p : Place) (v : ℕ) → Within n p → rank p ≢ 4 → (m q : ℕ) → m < n.mutators → q < n.roots →
+pub same_roots : (n : Numbers) (ws : List ℕ) (p : Place) (v : ℕ) → Within n p → rank p ≢ 4 → (m q : ℕ) →
+    m < n.mutators → q < n.roots →
     word_at n (set ws (index n p) v) (root m q) ≡ word_at n ws (root m q)
-same_roots n ws p v within other m q low in_row = word_other n ws p (root m q) v within (low, in_row) (λ e. other (sym (ap rank e)))
+same_roots n ws p v within other m q low in_row = word_other n ws p (root m q) v within (low, in_row)
+    (λ e. other (sym (ap rank e)))
 
 -- ---- what layouts and gates read
 
@@ -81,7 +83,8 @@ stored_off_layout n ws p v within off = record {
   regions = λ r a l k. word_other n ws p (region_word r a) v within (l, k) (λ e. off.not_region (sym (ap rank e)));
 }
 
-pub stored_off_gates : (n : Numbers) (ws : List ℕ) (p : Place) (v : ℕ) → Within n p → rank p ≢ 3 → rank p ≢ 10 → rank p ≢ 11 →
+pub stored_off_gates : (n : Numbers) (ws : List ℕ) (p : Place) (v : ℕ) → Within n p → rank p ≢ 3 → rank p ≢ 10 →
+    rank p ≢ 11 →
     LeavesGates n (λ q. word_at n ws q) (λ q. word_at n (set ws (index n p) v) q)
 stored_off_gates n ws p v within not_own not_tablet not_turn = record {
   tablets = λ t l. word_other n ws p (tablet_gate t) v within l (λ e. not_tablet (sym (ap rank e)));
