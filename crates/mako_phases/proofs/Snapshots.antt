@@ -13,7 +13,8 @@ snap_here : (cycle : ℕ) (after : List Point) → before_snap cycle (Snap cycle
 unfolding before_snap
 snap_here cycle after = ap (λ (b : Bool). cond b [] (Snap cycle ∷ before_snap cycle after)) (eq-eqb cycle cycle refl)
 
-snap_else : (cycle : ℕ) (p : Point) (points : List Point) → is_snap cycle p ≡ false → before_snap cycle (p ∷ points) ≡ p ∷ before_snap cycle points
+snap_else : (cycle : ℕ) (p : Point) (points : List Point) → is_snap cycle p ≡ false
+    → before_snap cycle (p ∷ points) ≡ p ∷ before_snap cycle points
 unfolding before_snap
 snap_else cycle p points e = ap (λ (b : Bool). cond b [] (p ∷ before_snap cycle points)) e
 
@@ -22,12 +23,17 @@ module _ (w : Facts) (cycle : ℕ) (after : List Point) where
   one_snap : (front middle : List Point) → IsLegal w (front ++ Snap cycle ∷ (middle ++ Snap cycle ∷ after)) → ⊥
   one_snap front middle legal =
       let first = snap_number w front cycle (middle ++ Snap cycle ∷ after) legal in
-      let whole : front ++ Snap cycle ∷ (middle ++ Snap cycle ∷ after) ≡ (front ++ Snap cycle ∷ middle) ++ Snap cycle ∷ after = sym (append_assoc front (Snap cycle ∷ middle) (Snap cycle ∷ after)) in
+      let whole : front ++ Snap cycle ∷ (middle ++ Snap cycle ∷ after)
+      ≡ (front ++ Snap cycle ∷ middle) ++ Snap cycle ∷ after =
+      sym (append_assoc front (Snap cycle ∷ middle) (Snap cycle ∷ after)) in
       let second = snap_number w (front ++ Snap cycle ∷ middle) cycle after (subst (IsLegal w) whole legal) in
-      let split : front ++ Snap cycle ∷ middle ≡ (front ++ Snap cycle ∷ []) ++ middle = sym (append_assoc front (Snap cycle ∷ []) middle) in
+      let split : front ++ Snap cycle ∷ middle ≡ (front ++ Snap cycle ∷ []) ++ middle =
+      sym (append_assoc front (Snap cycle ∷ []) middle) in
       let grow : (state_of w (front ++ Snap cycle ∷ [])).snaps ≤ (state_of w (front ++ Snap cycle ∷ middle)).snaps =
-      subst (λ ps. (state_of w (front ++ Snap cycle ∷ [])).snaps ≤ (state_of w ps).snaps) (sym split) (snaps_stay w (front ++ Snap cycle ∷ []) middle) in
-      let more : (state_of w (front ++ Snap cycle ∷ [])).snaps ≡ (state_of w front).snaps + 1 = ap (λ h. h.snaps) (state_push w front (Snap cycle)) in
+      subst (λ ps. (state_of w (front ++ Snap cycle ∷ [])).snaps ≤ (state_of w ps).snaps) (sym split)
+      (snaps_stay w (front ++ Snap cycle ∷ []) middle) in
+      let more : (state_of w (front ++ Snap cycle ∷ [])).snaps ≡ (state_of w front).snaps + 1 =
+      ap (λ h. h.snaps) (state_push w front (Snap cycle)) in
       omega arith
 
   no_true : false ≡ true → ⊥
@@ -37,15 +43,24 @@ module _ (w : Facts) (cycle : ℕ) (after : List Point) where
   snapped (Snap k) e = ap (λ (j : ℕ). Snap j) (eqb-true k cycle e)
   snapped (Did m c r) e = absurd (no_true e)
 
-  by_point : (front before : List Point) (p : Point) (b : Bool) → is_snap cycle p ≡ b → IsLegal w (front ++ p ∷ (before ++ Snap cycle ∷ after)) → before_snap cycle (before ++ Snap cycle ∷ after) ≡ before
+  by_point : (front before : List Point) (p : Point) (b : Bool) → is_snap cycle p ≡ b
+      → IsLegal w (front ++ p ∷ (before ++ Snap cycle ∷ after))
+      → before_snap cycle (before ++ Snap cycle ∷ after) ≡ before
       → before_snap cycle (p ∷ (before ++ Snap cycle ∷ after)) ≡ p ∷ before
-  by_point front before p true e legal rest = absurd (one_snap front before (subst (λ q. IsLegal w (front ++ q ∷ (before ++ Snap cycle ∷ after))) (snapped p e) legal))
-  by_point front before p false e legal rest = snap_else cycle p (before ++ Snap cycle ∷ after) e ∙ ap (λ (ps : List Point). p ∷ ps) rest
+  by_point front before p true e legal rest =
+      absurd (one_snap front before
+      (subst (λ q. IsLegal w (front ++ q ∷ (before ++ Snap cycle ∷ after))) (snapped p e) legal))
+  by_point front before p false e legal rest =
+      snap_else cycle p (before ++ Snap cycle ∷ after) e ∙ ap (λ (ps : List Point). p ∷ ps) rest
 
-  from : (front before : List Point) → IsLegal w (front ++ (before ++ Snap cycle ∷ after)) → before_snap cycle (before ++ Snap cycle ∷ after) ≡ before
+  from : (front before : List Point) → IsLegal w (front ++ (before ++ Snap cycle ∷ after))
+      → before_snap cycle (before ++ Snap cycle ∷ after) ≡ before
   from front [] legal = snap_here cycle after
   from front (p ∷ before) legal =
-      by_point front before p (is_snap cycle p) refl legal (from (front ++ p ∷ []) before (subst (IsLegal w) (sym (append_assoc front (p ∷ []) (before ++ Snap cycle ∷ after))) legal))
+      by_point front before p (is_snap cycle p) refl legal
+      (from (front ++ p ∷ []) before
+      (subst (IsLegal w) (sym (append_assoc front (p ∷ []) (before ++ Snap cycle ∷ after))) legal))
 
-pub snapshots_one : (w : Facts) (before after : List Point) (cycle : ℕ) → IsLegal w (before ++ Snap cycle ∷ after) → before_snap cycle (before ++ Snap cycle ∷ after) ≡ before
+pub snapshots_one : (w : Facts) (before after : List Point) (cycle : ℕ) → IsLegal w (before ++ Snap cycle ∷ after)
+    → before_snap cycle (before ++ Snap cycle ∷ after) ≡ before
 snapshots_one w before after cycle legal = from w cycle after [] before legal

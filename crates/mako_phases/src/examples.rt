@@ -22,8 +22,8 @@ pub fn no_part_of_a_cycle_stands_alone()
     ensures ended { ¬ PhaseOrderIn small ended_too_soon }
 {}
 
-/// Of the opening the one tablet is chosen, since no live word counts the words of the board; not where the live word of
-/// the cycle counts them; and again in the next cycle, in which that live word is past.
+/// Of the opening the one tablet is chosen, since no live word counts the words of the board; not where the live word
+/// of the cycle counts them; and again in the next cycle, in which that live word is past.
 pub fn a_tablet_is_chosen_by_its_live_word()
     ensures none { chosen_upto small opened.words 1 1 ≡ 0 ∷ [] }
     ensures all { chosen_upto small all_live 1 1 ≡ [] }

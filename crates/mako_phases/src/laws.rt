@@ -32,8 +32,8 @@ pub fn the_order_tells()
     ensures last { CyclesEndLast }
 {}
 
-/// While the collector chooses, nobody else stores a top or a live word, and a tablet that it has still to give a region
-/// is not leaving one.
+/// While the collector chooses, nobody else stores a top or a live word, and a tablet that it has still to give a
+/// region is not leaving one.
 pub fn choosing_is_still()
     ensures still { ChoosingIsStill }
     ensures waiting { WaitingAreNotLeaving }
