@@ -4,7 +4,7 @@ ghost use Rattle.std.specs.Prelude.{◌≡◌, ◌≤◌, ◌⊎◌, ◌↔◌, 
 ghost use Rattle.mako_model.specs.Answering.{Answers, AnswersToEnd};
 ghost use Rattle.mako_model.specs.Outcomes.{IsWhole, AreCyclesOfFront, reply_lists};
 ghost use Rattle.mako_script.specs.ScriptFacts.{facts_of};
-ghost use Rattle.mako_state.specs.Forms.{NeedsNoCycle};
+ghost use Rattle.mako_script.specs.Forms.{NeedsNoCycle};
 ghost use Rattle.mako_state.specs.Invariants.{WholeInvariant};
 ghost use Rattle.mako_core.specs.Endings.{AllAtEnd};
 ghost use Rattle.mako_replay.specs.Runs.{after, AreAllAtEnd};

@@ -2,7 +2,7 @@
 
 ghost use Rattle.std.specs.Prelude.{◌≡◌, ◌≢◌, ◌+◌, ◌<◌, ◌↔◌, [], IfOk, IsTrue};
 ghost use Rattle.mako_script.specs.ScriptFacts.{facts_of};
-ghost use Rattle.mako_state.specs.Forms.{NeedsNoCycle};
+ghost use Rattle.mako_script.specs.Forms.{NeedsNoCycle};
 ghost use Rattle.mako_core.specs.Endings.{AllAtEnd};
 ghost use Rattle.mako_replay.specs.Runs.{Going, advanced, at_start, is_end, live};
 ghost use Rattle.mako_replay.specs.Standing.{HasCome};
