@@ -113,6 +113,13 @@ impl CallMachine {
         (outcome, self.keep(outcome))
     }
 
+    /// Whether it has ended.
+    pub(crate) fn has_ended(&self) -> bool
+        ensures ended { result ≡ false → calls.outcome_in self.now.stage ≡ None }
+    {
+        matches!(self.stage, CallStage::Ended(_))
+    }
+
     /// What it came to and keeps, where it has ended.
     pub(crate) fn outcome(&self) -> Option<(Attempt, Keep)>
         ensures none { result ≡ None → calls.outcome_in self.now.stage ≡ None }

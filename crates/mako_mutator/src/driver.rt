@@ -133,12 +133,11 @@ impl Machine for Driver {
     }
 
     fn feed(&mut self, before: u64) -> Event {
-        let advance = self
+        let event = self
             .progress
             .advance(&self.caller, self.calls.as_slice(), before);
-        keep_reply(&mut self.replies, advance.event);
-        self.progress = advance.progress;
-        advance.event
+        keep_reply(&mut self.replies, event);
+        event
     }
 }
 

@@ -70,13 +70,6 @@ pub struct Progress {
     pub task: Task,
 }
 
-/// Where a step leads, and what it tells.
-#[derive(Clone, Copy)]
-pub(crate) struct Advance {
-    pub(crate) progress: Progress,
-    pub(crate) event: Event,
-}
-
 impl Progress {
     /// Before the first call.
     pub(crate) fn begun(caller: &Caller, calls: &[Call]) -> Progress
@@ -101,42 +94,44 @@ impl Progress {
         ensures next { result ≡ drivers.task_next caller.now self.now.task }
         ensures within { IsWithin (total caller.now.shape) result }
     {
-        match self.task {
+        match &self.task {
             Task::Attempting(machine) | Task::Awaiting(machine) => machine.next(),
             Task::Finishing => Step::add(caller.shape.finished(), 1),
             Task::Ended => Step::Ended,
         }
     }
 
-    /// Where the step leads that found this word.
-    pub(crate) fn advance(&self, caller: &Caller, calls: &[Call], before: u64) -> Advance
+    /// Goes where the step leads that found this word, and answers what the step tells.
+    pub(crate) fn advance(&mut self, caller: &Caller, calls: &[Call], before: u64) -> Event
         requires caller { IsCaller caller.now }
         requires calls { AreFitting caller.now.shape calls.now }
-        requires known { ProgressIsKnown caller.now calls.now self.now }
-        requires acts { IsAct (drivers.task_next caller.now self.now.task) }
-        requires fits { drivers.TaskFits self.now.task before }
-        ensures progress { result.progress ≡ drivers.progress_fed caller.now calls.now self.now before }
-        ensures event { result.event ≡ drivers.task_event self.now.task before }
+        requires known { ProgressIsKnown caller.now calls.now self.old }
+        requires acts { IsAct (drivers.task_next caller.now self.old.task) }
+        requires fits { drivers.TaskFits self.old.task before }
+        ensures progress { self.new ≡ drivers.progress_fed caller.now calls.now self.old before }
+        ensures event { result ≡ drivers.task_event self.old.task before }
     {
-        match self.task {
-            Task::Attempting(mut attempt) => {
+        match &mut self.task {
+            Task::Attempting(attempt) => {
                 let event = attempt.feed(before);
-                Advance {
-                    progress: self.after_attempt(caller, calls, attempt),
-                    event,
+                if attempt.has_ended() {
+                    let attempt = *attempt;
+                    *self = self.after_attempt(caller, calls, attempt);
+                } else {
+                    self.within = true;
                 }
+                event
             }
-            Task::Awaiting(mut wait) => {
+            Task::Awaiting(wait) => {
                 let _told = wait.feed(before);
-                Advance {
-                    progress: self.after_wait(caller, calls, wait),
-                    event: Event::Nothing,
-                }
+                let wait = *wait;
+                *self = self.after_wait(caller, calls, wait);
+                Event::Nothing
             }
-            Task::Finishing | Task::Ended => Advance {
-                progress: self.at(Task::Ended),
-                event: Event::Nothing,
-            },
+            Task::Finishing | Task::Ended => {
+                self.task = Task::Ended;
+                Event::Nothing
+            }
         }
     }
 
