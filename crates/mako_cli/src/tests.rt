@@ -75,7 +75,7 @@ fn replays_scripts(rt: HostRuntime) -> Result<(), Fail> {
 }
 
 #[test]
-fn reports_faults_of_streams(rt: HostRuntime) -> Result<(), Fail> {
+fn reports_a_read_fault(rt: HostRuntime) -> Result<(), Fail> {
     let alloc = rt.alloc();
     let fails = Vec::from_slice(alloc, &[2])?;
     let mut source = MemSource::new(script(alloc, READS_BACK)?, fails);
@@ -83,6 +83,12 @@ fn reports_faults_of_streams(rt: HostRuntime) -> Result<(), Fail> {
     let ended = replay_top(alloc, Order::Turns, 1000, &mut source, &mut sink);
     assert_eq!(rt; ended.status, 3);
     assert_eq!(rt; sink.bytes(), b"read fault\n".as_slice());
+    Ok(())
+}
+
+#[test]
+fn reports_a_write_fault(rt: HostRuntime) -> Result<(), Fail> {
+    let alloc = rt.alloc();
     let fails = Vec::from_slice(alloc, &[3])?;
     let mut source = SoundSource::new(script(alloc, READS_BACK)?);
     let mut sink = MemSink::new(alloc, 100, fails)?;
@@ -101,6 +107,12 @@ fn prints_a_workload(rt: HostRuntime) -> Result<(), Fail> {
     let ended = top(&rt, alloc, &command, &mut source, &mut sink);
     assert_eq!(rt; ended.status, 0);
     assert!(rt; sink.bytes().starts_with(b"mako 1\nservers 4\n"));
+    Ok(())
+}
+
+#[test]
+fn reports_a_write_fault_of_a_workload(rt: HostRuntime) -> Result<(), Fail> {
+    let alloc = rt.alloc();
     let fails = Vec::from_slice(alloc, &[2])?;
     let mut sink = MemSink::new(alloc, 1000, fails)?;
     let ended = gen_top(alloc, 1, 1, &mut sink);
