@@ -8,4 +8,3 @@ mod schedule;
 
 pub use order::Order;
 pub use replaying::{Replayed, replay};
-
