@@ -1,0 +1,11 @@
+pub mod Choosing
+pub mod Examples
+pub mod Facets
+pub mod Laws
+pub mod LiveSteps
+pub mod Lives
+pub mod Marked
+pub mod Orders
+pub mod Reaching
+pub mod Snapshots
+pub mod Steps
