@@ -1,0 +1,7 @@
+pub mod Heaps
+pub mod Epochs
+pub mod Records
+pub mod Pauses
+pub mod Openings
+pub mod EachKind
+pub mod Moving

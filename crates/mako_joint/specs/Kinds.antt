@@ -1,0 +1,66 @@
+-- Kinds of step that keep all groups.
+use Rattle.std.specs.Prelude.{ℕ, ◌≡◌, ◌≢◌, ◌+◌, ◌<◌, ◌≤◌, Bool, true, false, List, [], ◌∷◌, ◌++◌, slice_get, slice_set, Some}
+use Rattle.mako_words.specs.declared.name.Name.{Name}
+use Rattle.mako_words.specs.declared.entry_word.EntryWord.{EntryWord}
+use Rattle.mako_words.specs.declared.phase_word.PhaseWord.TheVariants.{Evac}
+use Rattle.mako_words.specs.Entries.{entry_word}
+use Rattle.mako_shape.specs.declared.numbers.Numbers.{Numbers}
+use Rattle.mako_shape.specs.Places.{entry, region_word, index}
+use Rattle.mako_shape.specs.Belongings.{tablet_of_entry}
+use Rattle.mako_gate.specs.Standings.{GateFacet, admitted, writes}
+use Rattle.mako_model.specs.Legal.{Facts}
+use Rattle.mako_names.specs.Freeing.{entry_by}
+use Rattle.mako_names.specs.Steps.{ComesTo, MayFree, with_freed_entry}
+use Rattle.mako_names.specs.Tables.{entry_of, phase_of}
+use Rattle.mako_layout.specs.Facets.{Work, idle, reads, holds_home, moves, fills, raises}
+use Rattle.mako_layout.specs.Evacuations.{slot_at, Seat}
+use Rattle.mako_layout.specs.StepParts.{moved_entry}
+use Rattle.mako_phases.specs.Facets.{serving, freeing}
+use Rattle.mako_joint.specs.Joints.{JointScene, names_in, layout_in, HasName, Joint}
+
+-- the seat's work is another
+abbrev pub with_work : JointScene → ℕ → Work → JointScene
+with_work s seat v = record s { facets = record s.facets { works = slice_set s.facets.works seat v } }
+
+-- the word of an entry is another
+abbrev pub with_entry : Numbers → JointScene → ℕ → EntryWord → JointScene
+with_entry n s x e = record s { words = slice_set s.words (index n (entry x)) (entry_word e) }
+
+-- A mutator that is admitted at the tablet's gate loads the entry of a name that it has to use.
+abbrev pub LoadsEntry : Type 0
+LoadsEntry = (n : Numbers) (w : Facts) (s : JointScene) → Joint n w s → (seat x : ℕ) (g : GateFacet)
+    → Seat (layout_in n w s) seat g idle → HasName s.facets.names.held seat x
+    → 1 ≤ admitted (tablet_of_entry n x) g.standing
+    → Joint n w (with_work s seat
+    (reads x (slot_at n (layout_in n w s) x).region (slot_at n (layout_in n w s) x).offset))
+
+-- As the tablet's writer, while servers evacuate, it loads the entry again, and finds the record outside of the home
+-- that it keeps: it is to be moved.
+abbrev pub FindsAway : Type 0
+FindsAway = (n : Numbers) (w : Facts) (s : JointScene) → Joint n w s → (cycle seat x y r : ℕ) (g : GateFacet)
+    → phase_of n s.words ≡ Evac cycle → Seat (layout_in n w s) seat g (holds_home x r)
+    → HasName s.facets.names.held seat y → tablet_of_entry n y ≡ tablet_of_entry n x
+    → 1 ≤ writes (tablet_of_entry n y) g → (slot_at n (layout_in n w s) y).region ≢ r
+    → Joint n w (with_work s seat (moves y (entry_of n s.words y) r))
+
+-- A writer that has copied the whole record stores the entry with the new address.
+abbrev pub MovesEntry : Type 0
+MovesEntry = (n : Numbers) (w : Facts) (s : JointScene) → Joint n w s
+    → (cycle seat x r o : ℕ) (found : EntryWord) (g : GateFacet) → phase_of n s.words ≡ Evac cycle
+    → Seat (layout_in n w s) seat g (fills x found r o (slot_at n (layout_in n w s) x).size)
+    → Joint n w (with_work (with_entry n s x (moved_entry found (index n (region_word r o)))) seat
+    (raises x r o (slot_at n (layout_in n w s) x).size))
+
+-- the scene once a server has freed its i-th entry, and has sent the name
+abbrev pub with_freed : Numbers → JointScene → (server i : ℕ) → List Name → EntryWord → JointScene
+with_freed n s server i sent e = record (with_entry n s (entry_by n server i) e) {
+  facets = record s.facets { names = (with_freed_entry n (names_in s) server i sent e).facets };
+}
+
+-- A server past its tablets frees the next of its entries: the names of the cycle ask for it, and none reads the entry.
+abbrev pub FreesEntry : Type 0
+FreesEntry = (n : Numbers) (w : Facts) (s : JointScene) → Joint n w s
+    → (seat server cycle ended i : ℕ) (laden : Bool) (sent : List Name) (e : EntryWord)
+    → slice_get s.facets.phases seat ≡ Some (serving server (freeing cycle) ended laden)
+    → ComesTo n (names_in s) cycle server i → MayFree n (names_in s) cycle server i sent e → e.epoch ≡ 0
+    → Joint n w (with_freed n s server i sent e)

@@ -1,0 +1,4 @@
+pub mod Bridges
+pub mod Joints
+pub mod Kinds
+pub mod Openings
