@@ -21,8 +21,10 @@ front_of_replay true order steps made script front run count ends told answers a
     record { run = run; ending = told.0 refl; answers = all refl; cycles = cycles }
 front_of_replay false order steps made script front run count ends told answers all cycles = record {
   run = run;
-  ending = (λ all. false≢true (told.1 all),
-    elim ends [ inl e ↦ sym count ∙ e | inr seats ↦ absurd (false≢true (told.1 (λ m v low is. seats m v is))) ]);
+  ending = (
+    λ all. false≢true (told.1 all),
+    elim ends [ inl e ↦ sym count ∙ e | inr seats ↦ absurd (false≢true (told.1 (λ m v low is. seats m v is))) ],
+  );
   answers = answers;
   cycles = cycles;
 }
