@@ -5,3 +5,4 @@ pub mod Pauses
 pub mod Openings
 pub mod EachKind
 pub mod Moving
+pub mod Marking

@@ -2,7 +2,7 @@
 use Rattle.std.specs.Prelude.{ℕ, ◌≡◌, ◌≢◌, ◌+◌, ◌<◌, ◌≤◌, Bool, true, false, List, [], ◌∷◌, ◌++◌, slice_get, slice_set, Some}
 use Rattle.mako_words.specs.declared.name.Name.{Name}
 use Rattle.mako_words.specs.declared.entry_word.EntryWord.{EntryWord}
-use Rattle.mako_words.specs.declared.phase_word.PhaseWord.TheVariants.{Evac}
+use Rattle.mako_words.specs.declared.phase_word.PhaseWord.TheVariants.{Trace, Evac}
 use Rattle.mako_words.specs.Entries.{entry_word}
 use Rattle.mako_shape.specs.declared.numbers.Numbers.{Numbers}
 use Rattle.mako_shape.specs.Places.{entry, region_word, index}
@@ -12,10 +12,11 @@ use Rattle.mako_model.specs.Legal.{Facts}
 use Rattle.mako_names.specs.Freeing.{entry_by}
 use Rattle.mako_names.specs.Steps.{ComesTo, MayFree, with_freed_entry}
 use Rattle.mako_names.specs.Tables.{entry_of, phase_of}
+use Rattle.mako_ring.specs.TraceFacets as trace
 use Rattle.mako_layout.specs.Facets.{Work, idle, reads, holds_home, moves, fills, raises}
 use Rattle.mako_layout.specs.Evacuations.{slot_at, Seat}
 use Rattle.mako_layout.specs.StepParts.{moved_entry}
-use Rattle.mako_phases.specs.Facets.{serving, freeing}
+use Rattle.mako_phases.specs.Facets.{serving, freeing, working}
 use Rattle.mako_joint.specs.Joints.{JointScene, names_in, layout_in, HasName, Joint}
 
 -- the seat's work is another
@@ -64,3 +65,19 @@ FreesEntry = (n : Numbers) (w : Facts) (s : JointScene) → Joint n w s
     → slice_get s.facets.phases seat ≡ Some (serving server (freeing cycle) ended laden)
     → ComesTo n (names_in s) cycle server i → MayFree n (names_in s) cycle server i sent e → e.epoch ≡ 0
     → Joint n w (with_freed n s server i sent e)
+
+-- the scene once a server has marked the entry of the name in its hand
+abbrev pub with_mark : Numbers → JointScene → ℕ → ℕ → trace.Work → Name → EntryWord → JointScene
+with_mark n s cycle seat job x e = record (with_entry n s x.entry (record e { epoch = cycle })) {
+  facets = record s.facets {
+    trace = slice_set s.facets.trace seat (trace.serving (record job { hand = trace.pushing x }));
+  };
+}
+
+-- A server marks the name in its hand: it works in the tracing of the cycle, as the order of the phases has it.
+abbrev pub MarksName : Type 0
+MarksName = (n : Numbers) (w : Facts) (s : JointScene) → Joint n w s
+    → (cycle seat server ended : ℕ) (job : trace.Work) (x : Name) (e : EntryWord)
+    → slice_get s.facets.phases seat ≡ Some (serving server (working cycle) ended true)
+    → phase_of n s.words ≡ Trace cycle → slice_get s.facets.trace seat ≡ Some (trace.serving job)
+    → job.hand ≡ trace.marking x e → Joint n w (with_mark n s cycle seat job x e)
