@@ -8,3 +8,6 @@ mod schedule;
 
 pub use order::Order;
 pub use replaying::{Replayed, replay};
+
+#[cfg(test)]
+mod tests;
