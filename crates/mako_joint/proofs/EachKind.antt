@@ -106,14 +106,14 @@ stored n ws x v size within = record {
   others = λ q inside other. word_other n ws (entry x) q v within inside other;
 }
 
--- polls read no entry
-pub polls_stay : (n : Numbers) (s : JointScene) (x v : ℕ) → Within n (entry x) → PollingStands n (polls_in n s)
-    → PollingStands n (polls_in n (record s { words = set s.words (index n (entry x)) v }))
-polls_stay n s x v within polls =
-    let after : Scene = polls_in n (record s { words = set s.words (index n (entry x)) v }) in
+-- polls stand where a word is stored that they do not read
+pub polls_stay : (n : Numbers) (s : JointScene) (p : Place) (v : ℕ) → Within n p → (IsPolled p → ⊥)
+    → PollingStands n (polls_in n s) → PollingStands n (polls_in n (record s { words = set s.words (index n p) v }))
+polls_stay n s p v within other polls =
+    let after : Scene = polls_in n (record s { words = set s.words (index n p) v }) in
     steps_hold n (polls_in n s) after polls
     (Collected s.facets.collector (record { here = refl; servers = λ i l. refl })
-    (Waits (λ p polled inside. word_other n s.words (entry x) p v within inside (λ e. subst IsPolled e polled)) refl))
+    (Waits (λ q polled inside. word_other n s.words p q v within inside (λ e. other (subst IsPolled e polled))) refl))
 
 no_both : (b : Bool) → b ≡ false → b ≡ true → ⊥
 no_both b e f = cc
@@ -152,7 +152,7 @@ frees_entry n w s j seat server cycle ended i laden sent e at comes may zero =
       tracks = subst (λ p. TracksFit p n w (trace_in after))
           (sym (phase_else n s.words x (entry_word e) within ∙ evac)) tt;
       layout = freed n w s j cycle x e may.fits evac within follows.1 may.taken may.epoch may.free;
-      polls = polls_stay n s x (entry_word e) within j.polls;
+      polls = polls_stay n s (entry x) (entry_word e) within (λ is. is) j.polls;
       order = phase_kept n (phases_in s) (phases_in after) j.order (gates_drain n w s j)
           (phases.Frees x (entry_word e) within
           (ap (λ (u : EntryWord). u.epoch) (entry_at-entry_word e may.fits) ∙ zero) refl);

@@ -6,3 +6,4 @@ pub mod Openings
 pub mod EachKind
 pub mod Moving
 pub mod Marking
+pub mod Fields

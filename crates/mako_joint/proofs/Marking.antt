@@ -163,7 +163,7 @@ module _ (n : Numbers) (w : Facts) (s : JointScene) (j : Joint n w s) (cycle sea
     tracks = subst (λ p. TracksFit p n w (trace_in after))
         (sym (phase_else n s.words x.entry (entry_word marked) within ∙ traced)) tracked;
     layout = evacuated;
-    polls = polls_stay n s x.entry (entry_word marked) within j.polls;
+    polls = polls_stay n s (entry x.entry) (entry_word marked) within (λ is. is) j.polls;
     order = phase_kept n (phases_in s) (phases_in after) j.order (gates_drain n w s j)
         (phases.Marks seat server cycle ended true x.entry (entry_word marked) at within
         (ap (λ (u : EntryWord). u.epoch) (entry_at-entry_word marked fits)) refl);

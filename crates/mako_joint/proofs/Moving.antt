@@ -87,7 +87,7 @@ module _ (n : Numbers) (w : Facts) (s : JointScene) (j : Joint n w s) (seat x r 
     names = step_kept n w (names_in s) (names_in after) j.script.facts (Moves x e keeps epoch_is) j.names;
     tracks = subst (λ p. TracksFit p n w (trace_in after)) (sym (phase_else n s.words x (entry_word e) within ∙ evac)) tt;
     layout = evacuated;
-    polls = polls_stay n s x (entry_word e) within j.polls;
+    polls = polls_stay n s (entry x) (entry_word e) within (λ is. is) j.polls;
     order = phase_kept n (phases_in s) (phases_in after) j.order (gates_drain n w s j)
         (phases.Moves x (entry_word e) within
         (ap (λ (u : EntryWord). u.epoch) (entry_at-entry_word e fits) ∙ epoch_is) refl);

@@ -74,7 +74,8 @@ module _ (n : Numbers) (w : Facts) (s : JointScene) (j : Joint n w s) (m q r o :
         ∙ value_at-value_word v ((values_fit n w s j).fields object rec.fields i v object_is at);
   }
 
-  pub field_within : (i : ℕ) → i < length rec.fields → Within n (region_word r (o + (1 + i)))
+  pub field_within : (i : ℕ) → i < length there.fields → Within n (region_word r (o + (1 + i)))
+  unfolding there
   field_within i low =
       let size = size_is n st.words st.heap x rec in
       let within =

@@ -1,19 +1,28 @@
 -- Kinds of step that keep all groups.
 use Rattle.std.specs.Prelude.{ℕ, ◌≡◌, ◌≢◌, ◌+◌, ◌<◌, ◌≤◌, Bool, true, false, List, [], ◌∷◌, ◌++◌, slice_get, slice_set, Some}
 use Rattle.mako_words.specs.declared.name.Name.{Name}
+use Rattle.mako_words.specs.declared.value.Value.{Value}
+use Rattle.mako_words.specs.declared.value.Value.TheVariants.{Ref}
+use Rattle.mako_words.specs.Values.{value_word}
 use Rattle.mako_words.specs.declared.entry_word.EntryWord.{EntryWord}
 use Rattle.mako_words.specs.declared.phase_word.PhaseWord.TheVariants.{Trace, Evac}
 use Rattle.mako_words.specs.Entries.{entry_word}
 use Rattle.mako_shape.specs.declared.numbers.Numbers.{Numbers}
-use Rattle.mako_shape.specs.Places.{entry, region_word, index}
+use Rattle.mako_shape.specs.Places.{entry, region_word, index, word_at}
 use Rattle.mako_shape.specs.Belongings.{tablet_of_entry}
 use Rattle.mako_gate.specs.Standings.{GateFacet, admitted, writes}
-use Rattle.mako_model.specs.Legal.{Facts}
+use Rattle.mako_model.specs.declared.call.Call.{Call}
+use Rattle.mako_model.specs.declared.call.Call.TheVariants as call
+use Rattle.mako_model.specs.declared.reply.Reply.TheVariants as reply
+use Rattle.mako_model.specs.declared.point.Point.TheVariants.{Did}
+use Rattle.mako_model.specs.Fronts.{with_point}
+use Rattle.mako_model.specs.Heaps.{root_of}
+use Rattle.mako_model.specs.Legal.{Facts, state_of}
 use Rattle.mako_names.specs.Freeing.{entry_by}
-use Rattle.mako_names.specs.Steps.{ComesTo, MayFree, with_freed_entry}
+use Rattle.mako_names.specs.Steps.{answered, ComesTo, MayFree, with_freed_entry}
 use Rattle.mako_names.specs.Tables.{entry_of, phase_of}
 use Rattle.mako_ring.specs.TraceFacets as trace
-use Rattle.mako_layout.specs.Facets.{Work, idle, reads, holds_home, moves, fills, raises}
+use Rattle.mako_layout.specs.Facets.{Work, idle, reads, uses, holds_home, moves, fills, raises}
 use Rattle.mako_layout.specs.Evacuations.{slot_at, Seat}
 use Rattle.mako_layout.specs.StepParts.{moved_entry}
 use Rattle.mako_phases.specs.Facets.{serving, freeing, working}
@@ -81,3 +90,26 @@ MarksName = (n : Numbers) (w : Facts) (s : JointScene) → Joint n w s
     → slice_get s.facets.phases seat ≡ Some (serving server (working cycle) ended true)
     → phase_of n s.words ≡ Trace cycle → slice_get s.facets.trace seat ≡ Some (trace.serving job)
     → job.hand ≡ trace.marking x e → Joint n w (with_mark n s cycle seat job x e)
+
+-- the scene once a put has stored its field, with its point
+abbrev pub with_field : Numbers → JointScene → (m to field from r o : ℕ) → Value → List Call → JointScene
+with_field n s m to field from r o v left = record {
+  words = slice_set s.words (index n (region_word r (o + (1 + field)))) (value_word v);
+  front = with_point s.front (Did m (call.Put to field from) reply.Done);
+  facets = record s.facets {
+    names = answered s.facets.names m left;
+    trace = slice_set s.facets.trace m trace.apart;
+  };
+}
+
+-- A put stores its field where it uses the object's record; while servers trace, it is past its look at the field.
+abbrev pub StoresField : Type 0
+StoresField = (n : Numbers) (w : Facts) (s : JointScene) → Joint n w s
+    → (m to field from r o : ℕ) (v : Value) (object : Name) (left : List Call) (g : GateFacet)
+    → Seat (layout_in n w s) m g (uses object.entry r o)
+    → root_of (state_of w s.front.history) m to ≡ Some (Ref object)
+    → root_of (state_of w s.front.history) m from ≡ Some v → field < word_at n s.words (region_word r o)
+    → slice_get s.facets.names.left m ≡ Some (call.Put to field from ∷ left)
+    → ((cycle : ℕ) → phase_of n s.words ≡ Trace cycle
+    → slice_get s.facets.trace m ≡ Some (trace.storing object field))
+    → Joint n w (with_field n s m to field from r o v left)

@@ -2,7 +2,7 @@
 //! contracts and proofs.
 
 ghost use Rattle.mako_joint.specs.Bridges.{AllAreMarked, FreeingFollows, GatesDrain, HeapsStand, HeldAreTaken, HeldHaveTheEpoch, NoneReadsTheFreed, NothingIsGiven, PartsPause, UsedRecordsArePresent, ValuesFitTheirWords};
-ghost use Rattle.mako_joint.specs.Kinds.{FindsAway, FreesEntry, LoadsEntry, MarksName, MovesEntry};
+ghost use Rattle.mako_joint.specs.Kinds.{FindsAway, FreesEntry, LoadsEntry, MarksName, MovesEntry, StoresField};
 ghost use Rattle.mako_joint.specs.Openings.{OpeningsHoldAll};
 
 /// Each value in a root or a field fits its word.
@@ -45,11 +45,13 @@ pub fn openings_hold()
 {}
 
 /// They are kept where a mutator loads the entry of a name in use, where as a writer it finds the record outside of the
-/// home, where a writer stores the address of the copy, where a server frees an entry, and where it marks a name.
+/// home, where a writer stores the address of the copy, where a server frees an entry or marks a name, and where a put
+/// stores its field with its point.
 pub fn kinds_keep_all()
     ensures loads { LoadsEntry }
     ensures away { FindsAway }
     ensures moves { MovesEntry }
     ensures frees { FreesEntry }
     ensures marks { MarksName }
+    ensures field { StoresField }
 {}

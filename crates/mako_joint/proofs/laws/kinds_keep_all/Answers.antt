@@ -1,4 +1,5 @@
 use Rattle.mako_joint.proofs.EachKind.{loads_entry, finds_it_away, frees_entry}
+use Rattle.mako_joint.proofs.Fields.{stores_field}
 use Rattle.mako_joint.proofs.Marking.{marks_name}
 use Rattle.mako_joint.proofs.Moving.{moves_entry}
 use Rattle.mako_joint.proofs.laws.kinds_keep_all.Goals as goal
@@ -17,3 +18,6 @@ returns-clause-frees c = frees_entry
 
 pub returns-clause-marks : goal.returns-clause-marks
 returns-clause-marks c = marks_name
+
+pub returns-clause-field : goal.returns-clause-field
+returns-clause-field c = stores_field
