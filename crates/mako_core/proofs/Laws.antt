@@ -20,8 +20,8 @@ use Rattle.mako_model.specs.declared.event.Event.TheVariants.{Nothing, Answered,
 use Rattle.mako_model.specs.declared.point.Point.{Point}
 use Rattle.mako_model.specs.declared.point.Point.TheVariants.{Did, Snap}
 use Rattle.mako_model.proofs.Lists.{get_set_other, get_set_same}
-use Rattle.mako_mutator.specs.Calls as calling
-use Rattle.mako_mutator.specs.Calls.{decided, event_by}
+use Rattle.mako_call.specs.Calls as calling
+use Rattle.mako_call.specs.Calls.{decided, event_by}
 use Rattle.mako_mutator.specs.Drivers as drivers
 use Rattle.mako_mutator.specs.Drivers.{Driving, told_reply}
 use Rattle.mako_mutator.specs.declared.progress.Task.{Task}

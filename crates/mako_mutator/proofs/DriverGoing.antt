@@ -4,50 +4,27 @@ use Rattle.std.proofs.lemmas.Option.{none-some, same_Some, slice_get_within, sli
 use Rattle.mako_step.specs.Machines.{IsAct, Lowers}
 use Rattle.mako_shape.specs.declared.numbers.Numbers.{Numbers}
 use Rattle.mako_model.specs.declared.call.Call.{Call}
-use Rattle.mako_model.specs.declared.call.Call.TheVariants.{New, Num, CopyRoot, DropRoot, Get, Put, Show, Collect}
+use Rattle.mako_model.specs.declared.call.Call.TheVariants.{Collect}
 use Rattle.mako_model.specs.declared.reply.Reply.{Reply}
 use Rattle.mako_model.specs.declared.attempt.Attempt.{Attempt}
 use Rattle.mako_model.specs.declared.attempt.Attempt.TheVariants.{Answer, Full, Pause as Paused}
-use Rattle.mako_mutator.specs.declared.caller.Caller.{Caller}
-use Rattle.mako_mutator.specs.declared.call_machine.Keep.{Keep}
-use Rattle.mako_mutator.specs.declared.call_stage.CallStage.{CallStage}
-use Rattle.mako_mutator.specs.declared.call_stage.CallStage.TheVariants.{Arriving, Rooting, Entering, Moving, Getting, Putting, Allocating, Asking, Leaving, Ended}
+use Rattle.mako_call.specs.declared.caller.Caller.{Caller}
+use Rattle.mako_call.specs.declared.call_machine.Keep.{Keep}
+use Rattle.mako_call.specs.declared.call_stage.CallStage.{CallStage}
+use Rattle.mako_call.specs.declared.call_stage.CallStage.TheVariants.{Arriving, Rooting, Entering, Moving, Getting, Putting, Allocating, Asking, Leaving, Ended}
 use Rattle.mako_mutator.specs.declared.progress.Task.{Task}
 use Rattle.mako_mutator.specs.declared.progress.Task.TheVariants.{Attempting, Awaiting, Finishing, Ended as AtEnd}
 use Rattle.mako_mutator.specs.declared.progress.Progress.{Progress}
-use Rattle.mako_mutator.specs.Agreeing.{asked_of, AskedFits, StageOf}
-use Rattle.mako_mutator.specs.Callers.{IsCaller, CallFits}
-use Rattle.mako_mutator.specs.Keeping.{KeepFits}
-use Rattle.mako_mutator.specs.Calls as calling
-use Rattle.mako_mutator.specs.Calls.{Calling, outcome_in, kept, decided, reply_of}
+use Rattle.mako_call.specs.Agreeing.{asked_of, AskedFits, StageOf}
+use Rattle.mako_call.specs.Callers.{IsCaller}
+use Rattle.mako_call.specs.Keeping.{KeepFits}
+use Rattle.mako_call.specs.Calls as calling
+use Rattle.mako_call.specs.Calls.{Calling, outcome_in, kept, decided, reply_of}
 use Rattle.mako_mutator.specs.Drivers.{Driving, task_for, awaiting, opening, attempt_on, wait_on, task_fed, progress_fed, task_event, told_reply, fed, task_next, TaskFits, task_renewed, task_rank, rank, is_renewed, AreFitting, ahead, TaskIsKnown, ProgressIsKnown, replied, IsKnown, next_of, Fits, event_of}
-use Rattle.mako_mutator.proofs.CallGoing.{call_goes, call_known}
-use Rattle.mako_mutator.proofs.Deciding.{told_count, ended_decided}
-
--- an attempt begins with its numbers in range
-first_known : (k : Caller) (call : Call) (last : Bool) (asked : Option ℕ) (slot : ℕ) → IsCaller k → CallFits k.shape call → AskedFits k.shape asked → slot < k.shape.ring →
-    calling.IsKnown (calling.opening k call last asked slot)
-first_known k (New root fields) last asked slot caller fits in_range below = record { caller = caller; call = fits; slot = below; stage = tt; agrees = tt }
-first_known k (Num root number) last asked slot caller fits in_range below = record { caller = caller; call = fits; slot = below; stage = tt; agrees = tt }
-first_known k (CopyRoot to from) last asked slot caller fits in_range below = record { caller = caller; call = fits; slot = below; stage = tt; agrees = tt }
-first_known k (DropRoot root) last asked slot caller fits in_range below = record { caller = caller; call = fits; slot = below; stage = tt; agrees = tt }
-first_known k (Get to from field) last asked slot caller fits in_range below = record { caller = caller; call = fits; slot = below; stage = tt; agrees = tt }
-first_known k (Put to field from) last asked slot caller fits in_range below = record { caller = caller; call = fits; slot = below; stage = tt; agrees = tt }
-first_known k (Show root) last asked slot caller fits in_range below = record { caller = caller; call = fits; slot = below; stage = tt; agrees = tt }
-first_known k Collect last None slot caller fits in_range below = record { caller = caller; call = fits; slot = below; stage = tt; agrees = tt }
-first_known k Collect last (Some cycle) slot caller fits in_range below = record { caller = caller; call = fits; slot = below; stage = in_range; agrees = tt }
-
--- it has not ended, and is not decided
-pub first_open : (call : Call) (asked : Option ℕ) → (outcome_in (calling.first_stage call asked) ≡ None) × (decided (calling.first_stage call asked) ≡ None)
-first_open (New root fields) asked = (refl, refl)
-first_open (Num root number) asked = (refl, refl)
-first_open (CopyRoot to from) asked = (refl, refl)
-first_open (DropRoot root) asked = (refl, refl)
-first_open (Get to from field) asked = (refl, refl)
-first_open (Put to field from) asked = (refl, refl)
-first_open (Show root) asked = (refl, refl)
-first_open Collect None = (refl, refl)
-first_open Collect (Some cycle) = (refl, refl)
+use Rattle.mako_call.proofs.CallGoing.{call_goes, call_known}
+use Rattle.mako_call.proofs.Deciding.{ended_decided}
+use Rattle.mako_call.proofs.FirstStages.{first_known, first_open}
+use Rattle.mako_mutator.proofs.DriverTelling.{told_count}
 
 -- a task of the next call, with this many replies beyond those of the calls that are through
 record Begins (k : Caller) (calls : List Call) (done : ℕ) (task : Task) : Type 0 where

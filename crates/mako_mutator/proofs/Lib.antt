@@ -1,12 +1,3 @@
-pub mod Going
-pub mod GroupGoing
-pub mod CallGoing
-pub mod Deciding
 pub mod ProgramCalls
+pub mod DriverTelling
 pub mod DriverGoing
-pub mod AnswerLaws
-pub mod Decided
-pub mod Evidence
-pub mod Shown
-pub mod Stopping
-pub mod ReadWords

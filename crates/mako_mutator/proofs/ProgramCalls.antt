@@ -8,7 +8,7 @@ use Rattle.mako_model.specs.declared.call.Call.{Call}
 use Rattle.mako_model.specs.declared.call.Call.TheVariants.{New, Num, CopyRoot, DropRoot, Get, Put, Show, Collect}
 use Rattle.mako_script.specs.Programs.{ProgramView, IsCall, defined_after, AreCalls, IsProgram}
 use Rattle.mako_script.specs.Scripts.{ScriptView, command_count, IsProper}
-use Rattle.mako_mutator.specs.Callers.{IsCaller, CallFits}
+use Rattle.mako_call.specs.Callers.{IsCaller, CallFits}
 use Rattle.mako_mutator.specs.Drivers.{AreFitting}
 
 -- names are only added

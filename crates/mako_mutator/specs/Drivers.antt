@@ -15,16 +15,16 @@ use Rattle.mako_model.specs.declared.event.Event.{Event}
 use Rattle.mako_model.specs.declared.event.Event.TheVariants.{Nothing, Answered, Snapped, Finished}
 use Rattle.mako_model.specs.declared.attempt.Attempt.{Attempt}
 use Rattle.mako_model.specs.declared.attempt.Attempt.TheVariants.{Answer, Full, Pause as Paused}
-use Rattle.mako_mutator.specs.declared.caller.Caller.{Caller}
-use Rattle.mako_mutator.specs.declared.call_machine.Keep.{Keep}
+use Rattle.mako_call.specs.declared.caller.Caller.{Caller}
+use Rattle.mako_call.specs.declared.call_machine.Keep.{Keep}
 use Rattle.mako_mutator.specs.declared.progress.Task.{Task}
 use Rattle.mako_mutator.specs.declared.progress.Task.TheVariants.{Attempting, Awaiting, Finishing, Ended}
 use Rattle.mako_mutator.specs.declared.progress.Progress.{Progress}
 use Rattle.mako_mutator.specs.declared.place.Place.{Place}
 use Rattle.mako_mutator.specs.declared.place.Place.TheVariants.{Before, Within, Ended as PlaceEnded}
-use Rattle.mako_mutator.specs.Callers.{IsCaller, CallFits}
-use Rattle.mako_mutator.specs.Calls as calling
-use Rattle.mako_mutator.specs.Calls.{Calling, outcome_in, kept, decided}
+use Rattle.mako_call.specs.Callers.{IsCaller, CallFits}
+use Rattle.mako_call.specs.Calls as calling
+use Rattle.mako_call.specs.Calls.{Calling, outcome_in, kept, decided}
 
 -- whose program it is, its calls, the replies so far, and how far it has come
 pub record Driving : Type 0 where

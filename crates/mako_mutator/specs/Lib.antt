@@ -1,17 +1,2 @@
-pub mod Callers
-pub mod Objects
-pub mod Leaving
-pub mod Rooting
-pub mod Entering
-pub mod Moving
-pub mod Getting
-pub mod Putting
-pub mod Asking
-pub mod Allocating
-pub mod Agreeing
-pub mod Calls
-pub mod Keeping
-pub mod Deciding
-pub mod Causes
 pub mod Drivers
 pub mod DriverHolds

@@ -5,9 +5,9 @@ ghost use Rattle.mako_shape.specs.Places.{total};
 ghost use Rattle.mako_step.specs.Acts.{IsWithin};
 ghost use Rattle.mako_mutator.specs.Drivers as drivers;
 
-use crate::caller::Caller;
 use crate::place::Place;
 use crate::progress::{Progress, Task};
+use mako_call::Caller;
 use mako_model::{Call, Event, Point, Reply};
 use mako_script::Script;
 use mako_step::{Machine, Step};

@@ -1,40 +1,14 @@
-//! What mutators do: each call as a machine, and the driver of a whole program.
+//! What mutators do: the driver of a whole program, which makes its calls one after the other.
 #![tactic(auto)]
 
-mod allocating;
-mod asking;
-mod call_machine;
-mod call_stage;
-mod caller;
 mod driver;
-mod entering;
-mod fitting;
-mod getting;
-pub mod laws;
-mod leaving;
-mod moving;
-mod object;
 mod place;
 mod progress;
-mod putting;
-mod rooting;
-mod words;
 
-pub use allocating::AllocStage;
-pub use asking::AskStage;
-pub use call_machine::{CallMachine, Keep};
-pub use call_stage::CallStage;
-pub use caller::Caller;
 pub use driver::Driver;
-pub use entering::EnterStage;
-pub use getting::GetStage;
-pub use leaving::LeaveStage;
-pub use moving::MoveStage;
-pub use object::{Access, Errand, Get, Located, Put};
+pub use mako_call::{CallMachine, Caller, Keep};
 pub use place::Place;
 pub use progress::{Progress, Task};
-pub use putting::PutStage;
-pub use rooting::RootStage;
 
 #[cfg(test)]
 mod tests;

@@ -5,15 +5,14 @@ ghost use Rattle.std.specs.Option.{ForSome};
 ghost use Rattle.mako_shape.specs.Places.{total};
 ghost use Rattle.mako_step.specs.Acts.{IsWithin};
 ghost use Rattle.mako_step.specs.Machines.{IsAct};
-ghost use Rattle.mako_mutator.specs.Agreeing.{AskedFits};
-ghost use Rattle.mako_mutator.specs.Callers.{IsCaller, CallFits};
+ghost use Rattle.mako_call.specs.Agreeing.{AskedFits};
+ghost use Rattle.mako_call.specs.Callers.{IsCaller, CallFits};
 ghost use Rattle.mako_mutator.specs.Drivers as drivers;
 ghost use Rattle.mako_mutator.specs.Drivers.{ProgressIsKnown, AreFitting};
-ghost use Rattle.mako_mutator.specs.Keeping.{KeepFits};
+ghost use Rattle.mako_call.specs.Keeping.{KeepFits};
 
-use crate::call_machine::{CallMachine, Keep};
-use crate::caller::Caller;
 use crate::place::Place;
+use mako_call::{CallMachine, Caller, Keep};
 use mako_model::{Attempt, Call, Event};
 use mako_step::{Machine, Step};
 

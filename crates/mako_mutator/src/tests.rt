@@ -1,11 +1,10 @@
-//! Calls and programs on the words of a heap. Words are written by their indexes: the phase at 0, the
+//! Programs on the words of a heap. Words are written by their indexes: the phase at 0, the
 //! demand at 1, the number of finished programs at 2, the mutator's gate at 3, its roots from 4 on and its
 //! barrier slots from 8 on, the tablet's gate at 17, its turn at 18, home at 19, top at 20 and leaving at
 //! 21, entries from 23 on, region 0 from 27 on and region 1 from 43 on.
 
 ghost use Rattle.std.specs.Prelude.{◌≡◌, length, IfSome};
 
-mod attempts;
 mod programs;
 
 use mako_shape::Numbers;

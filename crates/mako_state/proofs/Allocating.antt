@@ -22,12 +22,12 @@ use Rattle.mako_alloc.specs.declared.progress.Part.{Part}
 use Rattle.mako_alloc.specs.declared.progress.Part.TheVariants.{Header, Field, Top, Entry}
 use Rattle.mako_alloc.specs.declared.progress.Progress.{Progress}
 use Rattle.mako_alloc.proofs.Frees.{by_entry}
-use Rattle.mako_mutator.specs.declared.call_stage.CallStage.{CallStage}
-use Rattle.mako_mutator.specs.declared.call_stage.CallStage.TheVariants.{Allocating}
-use Rattle.mako_mutator.specs.declared.allocating.AllocStage.{AllocStage}
-use Rattle.mako_mutator.specs.declared.allocating.AllocStage.TheVariants.{LoadingPhase as NewPhase, Searching, StoringRoot, GivingTurn as GivingNewTurn}
-use Rattle.mako_mutator.specs.Agreeing.{AllocStageOf}
-use Rattle.mako_mutator.specs.Allocating.{search_fed, found_fed}
+use Rattle.mako_call.specs.declared.call_stage.CallStage.{CallStage}
+use Rattle.mako_call.specs.declared.call_stage.CallStage.TheVariants.{Allocating}
+use Rattle.mako_call.specs.declared.allocating.AllocStage.{AllocStage}
+use Rattle.mako_call.specs.declared.allocating.AllocStage.TheVariants.{LoadingPhase as NewPhase, Searching, StoringRoot, GivingTurn as GivingNewTurn}
+use Rattle.mako_call.specs.Agreeing.{AllocStageOf}
+use Rattle.mako_call.specs.Allocating.{search_fed, found_fed}
 use Rattle.mako_mutator.specs.Drivers as drivers
 use Rattle.mako_names.specs.Tables.{entry_of, phase_of}
 use Rattle.mako_layout.specs.Facets.{makes}

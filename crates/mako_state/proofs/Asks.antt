@@ -11,15 +11,15 @@ use Rattle.mako_step.specs.Acts.{does}
 use Rattle.mako_step.specs.Machines.{CanStep}
 use Rattle.mako_step.specs.declared.act.Op.TheVariants.{Load, Store, Add}
 use Rattle.mako_model.specs.Legal.{Facts}
-use Rattle.mako_mutator.specs.declared.caller.Caller.{Caller}
-use Rattle.mako_mutator.specs.declared.call_stage.CallStage.{CallStage}
-use Rattle.mako_mutator.specs.declared.call_stage.CallStage.TheVariants.{Arriving, Rooting, Entering, Moving, Getting, Putting, Allocating, Asking, Leaving, Ended}
-use Rattle.mako_mutator.specs.declared.asking.AskStage.{AskStage}
-use Rattle.mako_mutator.specs.declared.asking.AskStage.TheVariants.{LoadingPhase as AskPhase, RaisingDemand, Awaiting as AskAwaiting}
+use Rattle.mako_call.specs.declared.caller.Caller.{Caller}
+use Rattle.mako_call.specs.declared.call_stage.CallStage.{CallStage}
+use Rattle.mako_call.specs.declared.call_stage.CallStage.TheVariants.{Arriving, Rooting, Entering, Moving, Getting, Putting, Allocating, Asking, Leaving, Ended}
+use Rattle.mako_call.specs.declared.asking.AskStage.{AskStage}
+use Rattle.mako_call.specs.declared.asking.AskStage.TheVariants.{LoadingPhase as AskPhase, RaisingDemand, Awaiting as AskAwaiting}
 use Rattle.mako_mutator.specs.declared.progress.Task.{Task}
 use Rattle.mako_mutator.specs.declared.progress.Task.TheVariants.{Attempting, Awaiting, Finishing, Ended as TaskEnded}
-use Rattle.mako_mutator.specs.Calls as calling
-use Rattle.mako_mutator.specs.Calls.{Calling}
+use Rattle.mako_call.specs.Calls as calling
+use Rattle.mako_call.specs.Calls.{Calling}
 use Rattle.mako_mutator.specs.Drivers as drivers
 use Rattle.mako_mutator.specs.Drivers.{Driving, TaskIsKnown, IsWait}
 use Rattle.mako_pause.specs.Collecting as collecting

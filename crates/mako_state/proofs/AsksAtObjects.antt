@@ -11,20 +11,20 @@ use Rattle.mako_shape.specs.Places.{tablet_gate, entry, home, root, region_word,
 use Rattle.mako_shape.specs.Belongings.{IsAddress, region_of_address, word_of_address}
 use Rattle.mako_shape.proofs.BelongingLaws.{belongings_in_range, address_in_range, address_word, address_place, region_word-index, home_in_range}
 use Rattle.mako_shape.proofs.PlaceLaws.{index_below}
-use Rattle.mako_mutator.specs.declared.object.Access.TheVariants.{Get as Gets, Put as Puts}
-use Rattle.mako_mutator.specs.declared.object.Errand.{Errand}
-use Rattle.mako_mutator.specs.declared.object.Get.{Get as GetArgs}
-use Rattle.mako_mutator.specs.declared.object.Put.{Put as PutArgs}
-use Rattle.mako_mutator.specs.declared.object.Located.{Located}
-use Rattle.mako_mutator.specs.declared.call_stage.CallStage.{CallStage}
-use Rattle.mako_mutator.specs.declared.call_stage.CallStage.TheVariants.{Entering, Getting, Putting}
-use Rattle.mako_mutator.specs.declared.entering.EnterStage.{EnterStage}
-use Rattle.mako_mutator.specs.declared.entering.EnterStage.TheVariants.{Arriving, LoadingEntry, LoadingHome}
-use Rattle.mako_mutator.specs.declared.getting.GetStage.{GetStage}
-use Rattle.mako_mutator.specs.declared.getting.GetStage.TheVariants.{LoadingHeader as GetHeader, LoadingField as GetField, StoringRoot as StoringGot}
-use Rattle.mako_mutator.specs.declared.putting.PutStage.{PutStage}
-use Rattle.mako_mutator.specs.declared.putting.PutStage.TheVariants.{LoadingHeader as PutHeader, LoadingOld, LookingAtBarrier, StoringBarrier, StoringField}
-use Rattle.mako_mutator.specs.Objects.{tablet_of}
+use Rattle.mako_call.specs.declared.object.Access.TheVariants.{Get as Gets, Put as Puts}
+use Rattle.mako_call.specs.declared.object.Errand.{Errand}
+use Rattle.mako_call.specs.declared.object.Get.{Get as GetArgs}
+use Rattle.mako_call.specs.declared.object.Put.{Put as PutArgs}
+use Rattle.mako_call.specs.declared.object.Located.{Located}
+use Rattle.mako_call.specs.declared.call_stage.CallStage.{CallStage}
+use Rattle.mako_call.specs.declared.call_stage.CallStage.TheVariants.{Entering, Getting, Putting}
+use Rattle.mako_call.specs.declared.entering.EnterStage.{EnterStage}
+use Rattle.mako_call.specs.declared.entering.EnterStage.TheVariants.{Arriving, LoadingEntry, LoadingHome}
+use Rattle.mako_call.specs.declared.getting.GetStage.{GetStage}
+use Rattle.mako_call.specs.declared.getting.GetStage.TheVariants.{LoadingHeader as GetHeader, LoadingField as GetField, StoringRoot as StoringGot}
+use Rattle.mako_call.specs.declared.putting.PutStage.{PutStage}
+use Rattle.mako_call.specs.declared.putting.PutStage.TheVariants.{LoadingHeader as PutHeader, LoadingOld, LookingAtBarrier, StoringBarrier, StoringField}
+use Rattle.mako_call.specs.Objects.{tablet_of}
 use Rattle.mako_names.specs.Tables.{entry_of}
 use Rattle.mako_layout.specs.Evacuations.{layout}
 use Rattle.mako_layout.proofs.Frames.{record_within}

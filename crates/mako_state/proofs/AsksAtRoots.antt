@@ -16,14 +16,14 @@ use Rattle.mako_gate.specs.Standings.{arrived, arrived_own, mutator_at}
 use Rattle.mako_gate.proofs.Found.{below, arrived_word, own_arrived_word}
 use Rattle.mako_step.specs.Machines.{CanStep}
 use Rattle.mako_model.specs.Heaps.{root_of}
-use Rattle.mako_mutator.specs.declared.call_stage.CallStage.{CallStage}
-use Rattle.mako_mutator.specs.declared.call_stage.CallStage.TheVariants.{Arriving, Rooting, Leaving}
-use Rattle.mako_mutator.specs.declared.leaving.LeaveStage.{LeaveStage}
-use Rattle.mako_mutator.specs.declared.leaving.LeaveStage.TheVariants.{Refused, TurnedAway, FromTablet, FromOwn}
-use Rattle.mako_mutator.specs.declared.rooting.RootStage.{RootStage}
-use Rattle.mako_mutator.specs.declared.rooting.RootStage.TheVariants.{StoringNumber, StoringNull, LoadingCopied, StoringCopied, LoadingShown, LoadingSource, LoadingTarget, LoadingValue, LoadingPhase}
+use Rattle.mako_call.specs.declared.call_stage.CallStage.{CallStage}
+use Rattle.mako_call.specs.declared.call_stage.CallStage.TheVariants.{Arriving, Rooting, Leaving}
+use Rattle.mako_call.specs.declared.leaving.LeaveStage.{LeaveStage}
+use Rattle.mako_call.specs.declared.leaving.LeaveStage.TheVariants.{Refused, TurnedAway, FromTablet, FromOwn}
+use Rattle.mako_call.specs.declared.rooting.RootStage.{RootStage}
+use Rattle.mako_call.specs.declared.rooting.RootStage.TheVariants.{StoringNumber, StoringNull, LoadingCopied, StoringCopied, LoadingShown, LoadingSource, LoadingTarget, LoadingValue, LoadingPhase}
 use Rattle.mako_mutator.specs.Drivers as drivers
-use Rattle.mako_mutator.specs.Objects.{ValueIsKnown}
+use Rattle.mako_call.specs.Objects.{ValueIsKnown}
 use Rattle.mako_state.specs.Carried.{stage_carried}
 use Rattle.mako_state.specs.Invariants.{WordStands}
 use Rattle.mako_state.specs.Standings.{stage_standing}

@@ -10,10 +10,10 @@ use Rattle.mako_alloc.specs.declared.progress.NewStage.TheVariants.{Arriving, Tu
 use Rattle.mako_alloc.specs.declared.progress.NewRecord.{NewRecord}
 use Rattle.mako_alloc.specs.declared.progress.Part.{Part}
 use Rattle.mako_alloc.specs.declared.progress.Part.TheVariants.{Header, Field, Top, Entry}
-use Rattle.mako_mutator.specs.declared.call_stage.CallStage.{CallStage}
-use Rattle.mako_mutator.specs.declared.call_stage.CallStage.TheVariants.{Allocating}
-use Rattle.mako_mutator.specs.declared.allocating.AllocStage.{AllocStage}
-use Rattle.mako_mutator.specs.declared.allocating.AllocStage.TheVariants.{LoadingPhase as NewPhase, Searching, StoringRoot, GivingTurn as GivingNewTurn}
+use Rattle.mako_call.specs.declared.call_stage.CallStage.{CallStage}
+use Rattle.mako_call.specs.declared.call_stage.CallStage.TheVariants.{Allocating}
+use Rattle.mako_call.specs.declared.allocating.AllocStage.{AllocStage}
+use Rattle.mako_call.specs.declared.allocating.AllocStage.TheVariants.{LoadingPhase as NewPhase, Searching, StoringRoot, GivingTurn as GivingNewTurn}
 use Rattle.mako_layout.specs.Facets.{asks}
 use Rattle.mako_layout.proofs.Debts.{filled_is}
 use Rattle.mako_state.specs.Invariants.{layout_state}

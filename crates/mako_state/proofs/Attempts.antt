@@ -19,10 +19,10 @@ use Rattle.mako_model.specs.Lawful.{IsLawful, heap_after}
 use Rattle.mako_model.specs.Legal.{Facts, state_of}
 use Rattle.mako_model.specs.Starved.{words_made, words_by}
 use Rattle.mako_model.proofs.Histories.{state_push}
-use Rattle.mako_mutator.specs.declared.caller.Caller.{Caller}
-use Rattle.mako_mutator.specs.declared.call_stage.CallStage.{CallStage}
+use Rattle.mako_call.specs.declared.caller.Caller.{Caller}
+use Rattle.mako_call.specs.declared.call_stage.CallStage.{CallStage}
 use Rattle.mako_mutator.specs.declared.progress.Task.TheVariants.{Attempting}
-use Rattle.mako_mutator.specs.Calls.{Calling, decided, event_by, outcome_in}
+use Rattle.mako_call.specs.Calls.{Calling, decided, event_by, outcome_in}
 use Rattle.mako_mutator.specs.Drivers as drivers
 use Rattle.mako_mutator.specs.Drivers.{Driving, told_reply, attempt_on, ahead}
 use Rattle.mako_seat.specs.declared.seat.Seat.TheVariants.{Mutator}

@@ -15,15 +15,15 @@ use Rattle.mako_model.specs.declared.attempt.Pause.TheVariants.{Stopped}
 use Rattle.mako_model.specs.Fronts.{Seen}
 use Rattle.mako_model.specs.Heaps.{Heap}
 use Rattle.mako_model.specs.Legal.{Facts}
-use Rattle.mako_mutator.specs.declared.caller.Caller.{Caller}
-use Rattle.mako_mutator.specs.declared.call_machine.Keep.{Keep}
-use Rattle.mako_mutator.specs.declared.call_stage.CallStage.{CallStage}
-use Rattle.mako_mutator.specs.declared.call_stage.CallStage.TheVariants.{Leaving, Ended}
-use Rattle.mako_mutator.specs.declared.leaving.LeaveStage.TheVariants.{Refused, FromOwn}
+use Rattle.mako_call.specs.declared.caller.Caller.{Caller}
+use Rattle.mako_call.specs.declared.call_machine.Keep.{Keep}
+use Rattle.mako_call.specs.declared.call_stage.CallStage.{CallStage}
+use Rattle.mako_call.specs.declared.call_stage.CallStage.TheVariants.{Leaving, Ended}
+use Rattle.mako_call.specs.declared.leaving.LeaveStage.TheVariants.{Refused, FromOwn}
 use Rattle.mako_mutator.specs.declared.progress.Task.{Task}
 use Rattle.mako_mutator.specs.declared.progress.Task.TheVariants.{Attempting}
-use Rattle.mako_mutator.specs.Agreeing.{asked_of, Arrives}
-use Rattle.mako_mutator.specs.Calls.{opening}
+use Rattle.mako_call.specs.Agreeing.{asked_of, Arrives}
+use Rattle.mako_call.specs.Calls.{opening}
 use Rattle.mako_mutator.specs.Drivers as drivers
 use Rattle.mako_mutator.specs.Drivers.{Driving, task_for, awaiting}
 use Rattle.mako_layout.specs.Facets.{idle}

@@ -21,16 +21,16 @@ use Rattle.mako_alloc.specs.declared.job.Job.{Job}
 use Rattle.mako_alloc.specs.declared.progress.NewStage.{NewStage}
 use Rattle.mako_alloc.specs.declared.progress.NewStage.TheVariants.{Arriving as NewArriving, TurnedAway as NewTurnedAway, TakingTurn as NewTakingTurn, LoadingLeaving, GivingTurn as PassingTurn, Leaving as NewLeaving}
 use Rattle.mako_alloc.proofs.Bounds.{tablet_below}
-use Rattle.mako_mutator.specs.declared.object.Errand.{Errand}
-use Rattle.mako_mutator.specs.declared.call_stage.CallStage.{CallStage}
-use Rattle.mako_mutator.specs.declared.call_stage.CallStage.TheVariants.{Arriving, Entering, Allocating, Leaving}
-use Rattle.mako_mutator.specs.declared.entering.EnterStage.TheVariants.{Arriving as EnterArriving, LoadingEntry}
-use Rattle.mako_mutator.specs.declared.allocating.AllocStage.TheVariants.{Searching, GivingTurn as GivingNewTurn}
-use Rattle.mako_mutator.specs.declared.leaving.LeaveStage.TheVariants.{Refused, TurnedAway, FromTablet}
-use Rattle.mako_mutator.specs.Agreeing.{Arrives}
-use Rattle.mako_mutator.specs.Calls.{admitted as admitted_stage}
-use Rattle.mako_mutator.specs.Leaving.{leaving, answered_at}
-use Rattle.mako_mutator.specs.Objects.{tablet_of}
+use Rattle.mako_call.specs.declared.object.Errand.{Errand}
+use Rattle.mako_call.specs.declared.call_stage.CallStage.{CallStage}
+use Rattle.mako_call.specs.declared.call_stage.CallStage.TheVariants.{Arriving, Entering, Allocating, Leaving}
+use Rattle.mako_call.specs.declared.entering.EnterStage.TheVariants.{Arriving as EnterArriving, LoadingEntry}
+use Rattle.mako_call.specs.declared.allocating.AllocStage.TheVariants.{Searching, GivingTurn as GivingNewTurn}
+use Rattle.mako_call.specs.declared.leaving.LeaveStage.TheVariants.{Refused, TurnedAway, FromTablet}
+use Rattle.mako_call.specs.Agreeing.{Arrives}
+use Rattle.mako_call.specs.Calls.{admitted as admitted_stage}
+use Rattle.mako_call.specs.Leaving.{leaving, answered_at}
+use Rattle.mako_call.specs.Objects.{tablet_of}
 use Rattle.mako_mutator.specs.Drivers as drivers
 use Rattle.mako_state.specs.Carried.{stage_carried}
 use Rattle.mako_state.specs.Says.{StageSays}

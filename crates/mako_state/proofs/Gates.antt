@@ -7,8 +7,8 @@ use Rattle.mako_gate.specs.Standings.{Standing, mutator_at}
 use Rattle.mako_gate.proofs.Changes.{acts_make}
 use Rattle.mako_step.specs.Acts.{after_op, words_after}
 use Rattle.mako_step.specs.declared.act.Op.{Op}
-use Rattle.mako_mutator.specs.declared.caller.Caller.{Caller}
-use Rattle.mako_mutator.specs.declared.call_stage.CallStage.{CallStage}
+use Rattle.mako_call.specs.declared.caller.Caller.{Caller}
+use Rattle.mako_call.specs.declared.call_stage.CallStage.{CallStage}
 use Rattle.mako_mutator.specs.Drivers as drivers
 use Rattle.mako_mutator.specs.Drivers.{Driving}
 use Rattle.mako_seat.specs.declared.seat.Seat.TheVariants.{Mutator}

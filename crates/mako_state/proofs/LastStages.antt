@@ -24,11 +24,11 @@ use Rattle.mako_model.proofs.Histories.{state_push, legal_push}
 use Rattle.mako_model.proofs.RootRows.{has_roots}
 use Rattle.mako_model.proofs.CycleCounts.{cycles_stay}
 use Rattle.std.proofs.lemmas.List.Sums.{sum_by_push}
-use Rattle.mako_mutator.specs.declared.call_stage.CallStage.{CallStage}
-use Rattle.mako_mutator.specs.declared.call_stage.CallStage.TheVariants.{Asking, Leaving}
-use Rattle.mako_mutator.specs.declared.asking.AskStage.TheVariants.{LoadingPhase as AskPhase}
-use Rattle.mako_mutator.specs.declared.leaving.LeaveStage.TheVariants.{FromOwn}
-use Rattle.mako_mutator.specs.Calls.{decided}
+use Rattle.mako_call.specs.declared.call_stage.CallStage.{CallStage}
+use Rattle.mako_call.specs.declared.call_stage.CallStage.TheVariants.{Asking, Leaving}
+use Rattle.mako_call.specs.declared.asking.AskStage.TheVariants.{LoadingPhase as AskPhase}
+use Rattle.mako_call.specs.declared.leaving.LeaveStage.TheVariants.{FromOwn}
+use Rattle.mako_call.specs.Calls.{decided}
 use Rattle.mako_mutator.specs.Drivers as drivers
 use Rattle.mako_mutator.specs.Drivers.{Driving, task_for}
 use Rattle.mako_seat.specs.declared.seat.Seat.TheVariants.{Mutator}

@@ -27,9 +27,9 @@ use Rattle.mako_alloc.specs.declared.progress.NewStage.TheVariants.{Making}
 use Rattle.mako_alloc.specs.declared.progress.NewRecord.{NewRecord}
 use Rattle.mako_alloc.specs.declared.progress.Part.{Part}
 use Rattle.mako_alloc.specs.declared.progress.Part.TheVariants.{Header, Field, Top, Entry}
-use Rattle.mako_mutator.specs.declared.call_stage.CallStage.{CallStage}
-use Rattle.mako_mutator.specs.declared.call_stage.CallStage.TheVariants.{Allocating}
-use Rattle.mako_mutator.specs.declared.allocating.AllocStage.TheVariants.{StoringRoot}
+use Rattle.mako_call.specs.declared.call_stage.CallStage.{CallStage}
+use Rattle.mako_call.specs.declared.call_stage.CallStage.TheVariants.{Allocating}
+use Rattle.mako_call.specs.declared.allocating.AllocStage.TheVariants.{StoringRoot}
 use Rattle.mako_mutator.specs.Drivers as drivers
 use Rattle.mako_names.specs.Tables.{EntryStands, entry_of, phase_of, settled_of, published}
 use Rattle.mako_names.proofs.Counts.{names_in_order}

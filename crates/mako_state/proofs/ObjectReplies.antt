@@ -27,17 +27,17 @@ use Rattle.mako_model.specs.Legal.{state_of}
 use Rattle.mako_model.specs.Starved.{words_by, words_made}
 use Rattle.mako_model.proofs.Changes.{put_writes}
 use Rattle.mako_model.proofs.Lookups.{root_same, root_other}
-use Rattle.mako_mutator.specs.declared.object.Access.TheVariants.{Get as Gets, Put as Puts}
-use Rattle.mako_mutator.specs.declared.object.Get.{Get as GetArgs}
-use Rattle.mako_mutator.specs.declared.object.Put.{Put as PutArgs}
-use Rattle.mako_mutator.specs.declared.object.Located.{Located}
-use Rattle.mako_mutator.specs.declared.call_stage.CallStage.{CallStage}
-use Rattle.mako_mutator.specs.declared.call_stage.CallStage.TheVariants.{Getting, Putting}
-use Rattle.mako_mutator.specs.declared.getting.GetStage.TheVariants.{LoadingHeader as GetHeader, LoadingField as GetField, StoringRoot as StoringGot}
-use Rattle.mako_mutator.specs.declared.putting.PutStage.TheVariants.{LoadingHeader as PutHeader, StoringField}
-use Rattle.mako_mutator.specs.Calls.{decided}
-use Rattle.mako_mutator.specs.Leaving.{answered_at}
-use Rattle.mako_mutator.specs.Objects.{tablet_of}
+use Rattle.mako_call.specs.declared.object.Access.TheVariants.{Get as Gets, Put as Puts}
+use Rattle.mako_call.specs.declared.object.Get.{Get as GetArgs}
+use Rattle.mako_call.specs.declared.object.Put.{Put as PutArgs}
+use Rattle.mako_call.specs.declared.object.Located.{Located}
+use Rattle.mako_call.specs.declared.call_stage.CallStage.{CallStage}
+use Rattle.mako_call.specs.declared.call_stage.CallStage.TheVariants.{Getting, Putting}
+use Rattle.mako_call.specs.declared.getting.GetStage.TheVariants.{LoadingHeader as GetHeader, LoadingField as GetField, StoringRoot as StoringGot}
+use Rattle.mako_call.specs.declared.putting.PutStage.TheVariants.{LoadingHeader as PutHeader, StoringField}
+use Rattle.mako_call.specs.Calls.{decided}
+use Rattle.mako_call.specs.Leaving.{answered_at}
+use Rattle.mako_call.specs.Objects.{tablet_of}
 use Rattle.mako_mutator.specs.Drivers as drivers
 use Rattle.mako_layout.specs.Facets.{idle}
 use Rattle.mako_layout.specs.Evacuations.{Evacuation}

@@ -12,19 +12,19 @@ use Rattle.mako_model.specs.declared.reply.Reply.{Reply}
 use Rattle.mako_model.specs.declared.point.Point.TheVariants.{Did}
 use Rattle.mako_model.specs.Fronts.{Seen, with_point}
 use Rattle.mako_model.specs.Lawful.{IsLawful, heap_after}
-use Rattle.mako_mutator.specs.declared.object.Access.{Access}
-use Rattle.mako_mutator.specs.declared.object.Access.TheVariants.{Get as Gets, Put as Puts}
-use Rattle.mako_mutator.specs.declared.object.Errand.{Errand}
-use Rattle.mako_mutator.specs.declared.object.Get.{Get as GetArgs}
-use Rattle.mako_mutator.specs.declared.object.Put.{Put as PutArgs}
-use Rattle.mako_mutator.specs.declared.object.Located.{Located}
-use Rattle.mako_mutator.specs.declared.call_stage.CallStage.{CallStage}
-use Rattle.mako_mutator.specs.declared.call_stage.CallStage.TheVariants.{Entering, Getting, Putting}
-use Rattle.mako_mutator.specs.declared.entering.EnterStage.TheVariants.{LoadingEntry, LoadingHome}
-use Rattle.mako_mutator.specs.declared.getting.GetStage.TheVariants.{LoadingHeader as GetHeader, LoadingField as GetField}
-use Rattle.mako_mutator.specs.declared.putting.PutStage.TheVariants.{LoadingHeader as PutHeader, StoringField}
-use Rattle.mako_mutator.specs.Calls.{decided}
-use Rattle.mako_mutator.specs.Objects.{tablet_of, at_object, at_record}
+use Rattle.mako_call.specs.declared.object.Access.{Access}
+use Rattle.mako_call.specs.declared.object.Access.TheVariants.{Get as Gets, Put as Puts}
+use Rattle.mako_call.specs.declared.object.Errand.{Errand}
+use Rattle.mako_call.specs.declared.object.Get.{Get as GetArgs}
+use Rattle.mako_call.specs.declared.object.Put.{Put as PutArgs}
+use Rattle.mako_call.specs.declared.object.Located.{Located}
+use Rattle.mako_call.specs.declared.call_stage.CallStage.{CallStage}
+use Rattle.mako_call.specs.declared.call_stage.CallStage.TheVariants.{Entering, Getting, Putting}
+use Rattle.mako_call.specs.declared.entering.EnterStage.TheVariants.{LoadingEntry, LoadingHome}
+use Rattle.mako_call.specs.declared.getting.GetStage.TheVariants.{LoadingHeader as GetHeader, LoadingField as GetField}
+use Rattle.mako_call.specs.declared.putting.PutStage.TheVariants.{LoadingHeader as PutHeader, StoringField}
+use Rattle.mako_call.specs.Calls.{decided}
+use Rattle.mako_call.specs.Objects.{tablet_of, at_object, at_record}
 use Rattle.mako_mutator.specs.Drivers as drivers
 use Rattle.mako_seat.specs.declared.seat.Seat.TheVariants.{Mutator}
 use Rattle.mako_names.specs.Tables.{entry_of}

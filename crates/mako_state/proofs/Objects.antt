@@ -15,10 +15,10 @@ use Rattle.mako_gate.specs.Standings.{admitted, at_tablet, mutator_at}
 use Rattle.mako_model.specs.declared.call.Call.{Call}
 use Rattle.mako_model.specs.declared.call.Call.TheVariants as call
 use Rattle.mako_model.specs.Heaps.{Heap, root_of, fields_of}
-use Rattle.mako_mutator.specs.declared.object.Access.{Access}
-use Rattle.mako_mutator.specs.declared.object.Access.TheVariants.{Get as Gets, Put as Puts}
-use Rattle.mako_mutator.specs.declared.call_stage.CallStage.{CallStage}
-use Rattle.mako_mutator.specs.Agreeing.{AccessOf}
+use Rattle.mako_call.specs.declared.object.Access.{Access}
+use Rattle.mako_call.specs.declared.object.Access.TheVariants.{Get as Gets, Put as Puts}
+use Rattle.mako_call.specs.declared.call_stage.CallStage.{CallStage}
+use Rattle.mako_call.specs.Agreeing.{AccessOf}
 use Rattle.mako_names.specs.Tables.{IsTaken, entry_of}
 use Rattle.mako_names.proofs.Good.{root_is_good, good_is_taken}
 use Rattle.mako_layout.specs.Facets.{uses}

@@ -11,14 +11,14 @@ use Rattle.mako_model.specs.Heaps.{Heap}
 use Rattle.mako_model.specs.Legal.{Facts}
 use Rattle.mako_script.specs.Programs.{ProgramView}
 use Rattle.mako_script.specs.Scripts.{ScriptView}
-use Rattle.mako_mutator.specs.declared.caller.Caller.{Caller}
-use Rattle.mako_mutator.specs.declared.call_stage.CallStage.{CallStage}
-use Rattle.mako_mutator.specs.declared.call_stage.CallStage.TheVariants.{Arriving, Asking}
-use Rattle.mako_mutator.specs.declared.asking.AskStage.TheVariants.{LoadingPhase as AskPhase}
+use Rattle.mako_call.specs.declared.caller.Caller.{Caller}
+use Rattle.mako_call.specs.declared.call_stage.CallStage.{CallStage}
+use Rattle.mako_call.specs.declared.call_stage.CallStage.TheVariants.{Arriving, Asking}
+use Rattle.mako_call.specs.declared.asking.AskStage.TheVariants.{LoadingPhase as AskPhase}
 use Rattle.mako_mutator.specs.declared.progress.Task.{Task}
 use Rattle.mako_mutator.specs.declared.progress.Task.TheVariants.{Attempting, Finishing}
-use Rattle.mako_mutator.specs.Calls as calling
-use Rattle.mako_mutator.specs.Calls.{first_stage}
+use Rattle.mako_call.specs.Calls as calling
+use Rattle.mako_call.specs.Calls.{first_stage}
 use Rattle.mako_mutator.specs.Drivers.{task_for, begun}
 use Rattle.mako_server.specs.Serving as serving
 use Rattle.mako_pause.specs.Opening as collecting

@@ -28,8 +28,8 @@ use Rattle.mako_model.proofs.Lists.{get_replicate}
 use Rattle.mako_script.specs.Programs.{ProgramView}
 use Rattle.mako_script.specs.Scripts.{ScriptView, IsProper}
 use Rattle.mako_script.specs.ScriptFacts.{facts_of}
-use Rattle.mako_mutator.specs.declared.caller.Caller.{Caller}
-use Rattle.mako_mutator.specs.Callers as callers
+use Rattle.mako_call.specs.declared.caller.Caller.{Caller}
+use Rattle.mako_call.specs.Callers as callers
 use Rattle.mako_mutator.proofs.DriverGoing.{opening_known}
 use Rattle.mako_mutator.proofs.ProgramCalls.{program_fits, few_calls, caller_of}
 use Rattle.mako_seat.specs.declared.seat.Seat.{Seat}

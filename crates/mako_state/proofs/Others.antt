@@ -13,7 +13,7 @@ use Rattle.mako_step.specs.Acts.{after_op, words_after}
 use Rattle.mako_step.specs.declared.act.Op.TheVariants.{Load, Add}
 use Rattle.mako_model.specs.Legal.{Facts, state_of}
 use Rattle.mako_model.specs.Starved.{words_made}
-use Rattle.mako_mutator.specs.declared.caller.Caller.{Caller}
+use Rattle.mako_call.specs.declared.caller.Caller.{Caller}
 use Rattle.mako_mutator.specs.declared.progress.Task.{Task}
 use Rattle.mako_mutator.specs.declared.progress.Task.TheVariants.{Attempting, Awaiting, Finishing, Ended as TaskEnded}
 use Rattle.mako_mutator.specs.Drivers as drivers

@@ -23,26 +23,26 @@ use Rattle.mako_model.specs.Starved.{IsEntryUnavailable, IsTabletFull, words_by}
 use Rattle.mako_model.proofs.Changes.{put_writes}
 use Rattle.mako_model.proofs.Histories.{made_stays}
 use Rattle.mako_model.proofs.Lookups.{root_other, fields_same, fields_other, name_cases}
-use Rattle.mako_mutator.specs.declared.object.Access.{Access}
-use Rattle.mako_mutator.specs.declared.object.Access.TheVariants.{Get as Gets, Put as Puts}
-use Rattle.mako_mutator.specs.declared.object.Get.{Get as GetArgs}
-use Rattle.mako_mutator.specs.declared.object.Put.{Put as PutArgs}
-use Rattle.mako_mutator.specs.declared.call_stage.CallStage.{CallStage}
-use Rattle.mako_mutator.specs.declared.call_stage.CallStage.TheVariants.{Arriving, Rooting, Entering, Moving, Getting, Putting, Allocating, Asking, Leaving, Ended}
-use Rattle.mako_mutator.specs.declared.rooting.RootStage.{RootStage}
-use Rattle.mako_mutator.specs.declared.rooting.RootStage.TheVariants.{StoringCopied, LoadingValue, LoadingPhase}
-use Rattle.mako_mutator.specs.declared.getting.GetStage.{GetStage}
-use Rattle.mako_mutator.specs.declared.getting.GetStage.TheVariants.{LoadingHeader as GetHeader, LoadingField as GetField, StoringRoot as StoringGot}
-use Rattle.mako_mutator.specs.declared.putting.PutStage.{PutStage}
-use Rattle.mako_mutator.specs.declared.putting.PutStage.TheVariants.{LoadingHeader as PutHeader, LoadingOld, LookingAtBarrier, StoringBarrier, StoringField}
+use Rattle.mako_call.specs.declared.object.Access.{Access}
+use Rattle.mako_call.specs.declared.object.Access.TheVariants.{Get as Gets, Put as Puts}
+use Rattle.mako_call.specs.declared.object.Get.{Get as GetArgs}
+use Rattle.mako_call.specs.declared.object.Put.{Put as PutArgs}
+use Rattle.mako_call.specs.declared.call_stage.CallStage.{CallStage}
+use Rattle.mako_call.specs.declared.call_stage.CallStage.TheVariants.{Arriving, Rooting, Entering, Moving, Getting, Putting, Allocating, Asking, Leaving, Ended}
+use Rattle.mako_call.specs.declared.rooting.RootStage.{RootStage}
+use Rattle.mako_call.specs.declared.rooting.RootStage.TheVariants.{StoringCopied, LoadingValue, LoadingPhase}
+use Rattle.mako_call.specs.declared.getting.GetStage.{GetStage}
+use Rattle.mako_call.specs.declared.getting.GetStage.TheVariants.{LoadingHeader as GetHeader, LoadingField as GetField, StoringRoot as StoringGot}
+use Rattle.mako_call.specs.declared.putting.PutStage.{PutStage}
+use Rattle.mako_call.specs.declared.putting.PutStage.TheVariants.{LoadingHeader as PutHeader, LoadingOld, LookingAtBarrier, StoringBarrier, StoringField}
 use Rattle.mako_mutator.specs.declared.progress.Task.{Task}
 use Rattle.mako_mutator.specs.declared.progress.Task.TheVariants.{Attempting, Awaiting, Finishing, Ended as TaskEnded}
 use Rattle.mako_alloc.specs.declared.progress.NewStage.{NewStage}
 use Rattle.mako_alloc.specs.declared.progress.NewStage.TheVariants.{Arriving as NewArriving, TurnedAway as NewTurnedAway, TakingTurn as NewTakingTurn, LoadingLeaving, LoadingTop, LoadingEntry as NewEntry, LoadingHome as NewHome, Making, GivingTurn as PassingTurn, Leaving as NewLeaving, Ended as NewEnded}
-use Rattle.mako_mutator.specs.declared.allocating.AllocStage.{AllocStage}
-use Rattle.mako_mutator.specs.declared.allocating.AllocStage.TheVariants.{Searching}
-use Rattle.mako_mutator.specs.declared.leaving.LeaveStage.{LeaveStage}
-use Rattle.mako_mutator.specs.declared.leaving.LeaveStage.TheVariants.{FromTablet, FromOwn}
+use Rattle.mako_call.specs.declared.allocating.AllocStage.{AllocStage}
+use Rattle.mako_call.specs.declared.allocating.AllocStage.TheVariants.{Searching}
+use Rattle.mako_call.specs.declared.leaving.LeaveStage.{LeaveStage}
+use Rattle.mako_call.specs.declared.leaving.LeaveStage.TheVariants.{FromTablet, FromOwn}
 use Rattle.mako_model.specs.declared.attempt.Attempt.{Attempt}
 use Rattle.mako_model.specs.declared.attempt.Attempt.TheVariants.{Full as NoRoom}
 use Rattle.mako_state.specs.Says.{AccessSays, HasMore, RootSays, GetSays, PutSays, StageSays, TaskSays}

@@ -21,12 +21,12 @@ use Rattle.mako_model.specs.Lawful.{IsLawful, HasRoot, IsNoRef, heap_after}
 use Rattle.mako_model.specs.Legal.{Facts}
 use Rattle.mako_model.specs.Starved.{words_by}
 use Rattle.mako_model.proofs.Lookups.{root_same, root_other}
-use Rattle.mako_mutator.specs.declared.call_stage.CallStage.{CallStage}
-use Rattle.mako_mutator.specs.declared.call_stage.CallStage.TheVariants.{Rooting}
-use Rattle.mako_mutator.specs.declared.rooting.RootStage.TheVariants.{StoringNumber, StoringNull, StoringCopied, LoadingShown, LoadingSource, LoadingTarget}
-use Rattle.mako_mutator.specs.Agreeing.{RootStageOf}
-use Rattle.mako_mutator.specs.Calls.{decided}
-use Rattle.mako_mutator.specs.Leaving.{answered as answering}
+use Rattle.mako_call.specs.declared.call_stage.CallStage.{CallStage}
+use Rattle.mako_call.specs.declared.call_stage.CallStage.TheVariants.{Rooting}
+use Rattle.mako_call.specs.declared.rooting.RootStage.TheVariants.{StoringNumber, StoringNull, StoringCopied, LoadingShown, LoadingSource, LoadingTarget}
+use Rattle.mako_call.specs.Agreeing.{RootStageOf}
+use Rattle.mako_call.specs.Calls.{decided}
+use Rattle.mako_call.specs.Leaving.{answered as answering}
 use Rattle.mako_mutator.specs.Drivers as drivers
 use Rattle.mako_gate.specs.Standings.{mutator_at}
 use Rattle.mako_names.specs.Steps.{IsPlain}

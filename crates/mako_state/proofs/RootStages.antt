@@ -15,11 +15,11 @@ use Rattle.mako_model.specs.Heaps.{root_of}
 use Rattle.mako_model.specs.Laws.{NamesFit, RootsFit, ValuesFit}
 use Rattle.mako_model.proofs.Fitting.{heap_fits}
 use Rattle.mako_model.proofs.RootRows.{has_roots}
-use Rattle.mako_mutator.specs.declared.object.Access.TheVariants.{Get as Gets, Put as Puts}
-use Rattle.mako_mutator.specs.declared.call_stage.CallStage.{CallStage}
-use Rattle.mako_mutator.specs.declared.call_stage.CallStage.TheVariants.{Rooting}
-use Rattle.mako_mutator.specs.declared.rooting.RootStage.TheVariants.{LoadingCopied, StoringCopied, LoadingSource, LoadingTarget, LoadingValue, LoadingPhase}
-use Rattle.mako_mutator.specs.Objects.{begun_at}
+use Rattle.mako_call.specs.declared.object.Access.TheVariants.{Get as Gets, Put as Puts}
+use Rattle.mako_call.specs.declared.call_stage.CallStage.{CallStage}
+use Rattle.mako_call.specs.declared.call_stage.CallStage.TheVariants.{Rooting}
+use Rattle.mako_call.specs.declared.rooting.RootStage.TheVariants.{LoadingCopied, StoringCopied, LoadingSource, LoadingTarget, LoadingValue, LoadingPhase}
+use Rattle.mako_call.specs.Objects.{begun_at}
 use Rattle.mako_mutator.specs.Drivers as drivers
 use Rattle.mako_state.specs.Invariants.{WordStands}
 use Rattle.mako_state.specs.Carried.{stage_carried}

@@ -3,7 +3,7 @@ use Rattle.std.proofs.Common.{◌≡◌, ℕ, slice_get, Some, sym, ap, subst, �
 use Rattle.mako_shape.specs.declared.numbers.Numbers.{Numbers}
 use Rattle.mako_model.specs.Legal.{Facts}
 use Rattle.mako_mutator.specs.declared.progress.Task.TheVariants.{Attempting}
-use Rattle.mako_mutator.specs.Calls.{Calling}
+use Rattle.mako_call.specs.Calls.{Calling}
 use Rattle.mako_mutator.specs.Drivers.{Driving, TaskIsKnown, IsAttempt}
 use Rattle.mako_seat.specs.declared.seat.Seat.TheVariants.{Mutator}
 use Rattle.mako_state.specs.CoreStates.{CoreState}

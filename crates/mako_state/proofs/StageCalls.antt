@@ -4,11 +4,11 @@ use Rattle.mako_words.specs.declared.name.Name.{Name}
 use Rattle.mako_words.specs.declared.value.Value.{Value}
 use Rattle.mako_model.specs.declared.call.Call.{Call}
 use Rattle.mako_model.specs.declared.call.Call.TheVariants as call
-use Rattle.mako_mutator.specs.declared.object.Access.TheVariants.{Get as Gets, Put as Puts}
-use Rattle.mako_mutator.specs.declared.object.Get.{Get as GetArgs}
-use Rattle.mako_mutator.specs.declared.object.Put.{Put as PutArgs}
-use Rattle.mako_mutator.specs.declared.rooting.RootStage.TheVariants.{LoadingCopied, LoadingSource, LoadingTarget, LoadingValue, LoadingPhase}
-use Rattle.mako_mutator.specs.Agreeing.{RootStageOf, AccessOf}
+use Rattle.mako_call.specs.declared.object.Access.TheVariants.{Get as Gets, Put as Puts}
+use Rattle.mako_call.specs.declared.object.Get.{Get as GetArgs}
+use Rattle.mako_call.specs.declared.object.Put.{Put as PutArgs}
+use Rattle.mako_call.specs.declared.rooting.RootStage.TheVariants.{LoadingCopied, LoadingSource, LoadingTarget, LoadingValue, LoadingPhase}
+use Rattle.mako_call.specs.Agreeing.{RootStageOf, AccessOf}
 
 -- which calls the stages are those of
 pub copies : (c : Call) (r q : ℕ) → RootStageOf c (LoadingCopied r q) → c ≡ call.CopyRoot r q

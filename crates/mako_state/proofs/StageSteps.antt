@@ -23,35 +23,35 @@ use Rattle.mako_model.specs.declared.attempt.Attempt.TheVariants.{Answer, Full a
 use Rattle.mako_model.specs.declared.attempt.Pause.{Pause as Reason}
 use Rattle.mako_model.specs.declared.point.Point.TheVariants.{Did}
 use Rattle.mako_model.specs.Fronts.{calls_by, with_point}
-use Rattle.mako_mutator.specs.declared.object.Access.{Access}
-use Rattle.mako_mutator.specs.declared.object.Access.TheVariants.{Get as Gets, Put as Puts}
-use Rattle.mako_mutator.specs.declared.object.Get.{Get as GetArgs}
-use Rattle.mako_mutator.specs.declared.object.Put.{Put as PutArgs}
-use Rattle.mako_mutator.specs.declared.object.Located.{Located}
-use Rattle.mako_mutator.specs.declared.object.Errand.{Errand}
-use Rattle.mako_mutator.specs.declared.call_stage.CallStage.{CallStage}
-use Rattle.mako_mutator.specs.declared.call_stage.CallStage.TheVariants.{Rooting, Entering, Moving, Getting, Putting, Asking, Leaving, Ended}
-use Rattle.mako_mutator.specs.declared.rooting.RootStage.{RootStage}
-use Rattle.mako_mutator.specs.declared.rooting.RootStage.TheVariants.{StoringNumber, StoringNull, LoadingCopied, StoringCopied, LoadingShown, LoadingSource, LoadingTarget, LoadingValue, LoadingPhase}
-use Rattle.mako_mutator.specs.declared.entering.EnterStage.{EnterStage}
-use Rattle.mako_mutator.specs.declared.entering.EnterStage.TheVariants.{Arriving as EnterArriving, LoadingEntry, LoadingHome}
-use Rattle.mako_mutator.specs.declared.moving.MoveStage.TheVariants.{TakingTurn}
-use Rattle.mako_mutator.specs.declared.getting.GetStage.{GetStage}
-use Rattle.mako_mutator.specs.declared.getting.GetStage.TheVariants.{LoadingHeader as GetHeader, LoadingField as GetField, StoringRoot as StoringGot}
-use Rattle.mako_mutator.specs.declared.putting.PutStage.{PutStage}
-use Rattle.mako_mutator.specs.declared.putting.PutStage.TheVariants.{LoadingHeader as PutHeader, LoadingOld, LookingAtBarrier, StoringBarrier, StoringField}
-use Rattle.mako_mutator.specs.declared.asking.AskStage.{AskStage}
-use Rattle.mako_mutator.specs.declared.asking.AskStage.TheVariants.{LoadingPhase as AskPhase, RaisingDemand, Awaiting as AskAwaiting}
-use Rattle.mako_mutator.specs.declared.leaving.LeaveStage.{LeaveStage}
-use Rattle.mako_mutator.specs.declared.leaving.LeaveStage.TheVariants.{Refused, TurnedAway, FromTablet, FromOwn}
-use Rattle.mako_mutator.specs.Agreeing.{IsNew, IsCollect}
-use Rattle.mako_mutator.specs.Callers.{CallFits}
+use Rattle.mako_call.specs.declared.object.Access.{Access}
+use Rattle.mako_call.specs.declared.object.Access.TheVariants.{Get as Gets, Put as Puts}
+use Rattle.mako_call.specs.declared.object.Get.{Get as GetArgs}
+use Rattle.mako_call.specs.declared.object.Put.{Put as PutArgs}
+use Rattle.mako_call.specs.declared.object.Located.{Located}
+use Rattle.mako_call.specs.declared.object.Errand.{Errand}
+use Rattle.mako_call.specs.declared.call_stage.CallStage.{CallStage}
+use Rattle.mako_call.specs.declared.call_stage.CallStage.TheVariants.{Rooting, Entering, Moving, Getting, Putting, Asking, Leaving, Ended}
+use Rattle.mako_call.specs.declared.rooting.RootStage.{RootStage}
+use Rattle.mako_call.specs.declared.rooting.RootStage.TheVariants.{StoringNumber, StoringNull, LoadingCopied, StoringCopied, LoadingShown, LoadingSource, LoadingTarget, LoadingValue, LoadingPhase}
+use Rattle.mako_call.specs.declared.entering.EnterStage.{EnterStage}
+use Rattle.mako_call.specs.declared.entering.EnterStage.TheVariants.{Arriving as EnterArriving, LoadingEntry, LoadingHome}
+use Rattle.mako_call.specs.declared.moving.MoveStage.TheVariants.{TakingTurn}
+use Rattle.mako_call.specs.declared.getting.GetStage.{GetStage}
+use Rattle.mako_call.specs.declared.getting.GetStage.TheVariants.{LoadingHeader as GetHeader, LoadingField as GetField, StoringRoot as StoringGot}
+use Rattle.mako_call.specs.declared.putting.PutStage.{PutStage}
+use Rattle.mako_call.specs.declared.putting.PutStage.TheVariants.{LoadingHeader as PutHeader, LoadingOld, LookingAtBarrier, StoringBarrier, StoringField}
+use Rattle.mako_call.specs.declared.asking.AskStage.{AskStage}
+use Rattle.mako_call.specs.declared.asking.AskStage.TheVariants.{LoadingPhase as AskPhase, RaisingDemand, Awaiting as AskAwaiting}
+use Rattle.mako_call.specs.declared.leaving.LeaveStage.{LeaveStage}
+use Rattle.mako_call.specs.declared.leaving.LeaveStage.TheVariants.{Refused, TurnedAway, FromTablet, FromOwn}
+use Rattle.mako_call.specs.Agreeing.{IsNew, IsCollect}
+use Rattle.mako_call.specs.Callers.{CallFits}
 use Rattle.mako_mutator.specs.Drivers as drivers
 use Rattle.mako_mutator.specs.Drivers.{Driving, task_for}
-use Rattle.mako_mutator.specs.Leaving.{outcome_of, answered_at}
-use Rattle.mako_mutator.specs.Objects.{tablet_of, at_object, at_record}
-use Rattle.mako_mutator.specs.Putting.{before_store}
-use Rattle.mako_mutator.specs.Rooting.{source_fed, target_fed}
+use Rattle.mako_call.specs.Leaving.{outcome_of, answered_at}
+use Rattle.mako_call.specs.Objects.{tablet_of, at_object, at_record}
+use Rattle.mako_call.specs.Putting.{before_store}
+use Rattle.mako_call.specs.Rooting.{source_fed, target_fed}
 use Rattle.mako_seat.specs.declared.seat.Seat.TheVariants.{Mutator}
 use Rattle.mako_names.specs.Tables.{phase_of}
 use Rattle.mako_names.specs.Trying.{tablet_at}

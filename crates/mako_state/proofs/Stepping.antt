@@ -5,9 +5,9 @@ use Rattle.mako_shape.specs.Places.{mutator_gate, word_at}
 use Rattle.mako_step.specs.Acts.{finds}
 use Rattle.mako_step.specs.declared.act.Op.TheVariants.{Add}
 use Rattle.mako_step.specs.Machines.{IsAct}
-use Rattle.mako_mutator.specs.declared.call_stage.CallStage.{CallStage}
-use Rattle.mako_mutator.specs.declared.call_stage.CallStage.TheVariants.{Arriving}
-use Rattle.mako_mutator.specs.Calls.{arrived}
+use Rattle.mako_call.specs.declared.call_stage.CallStage.{CallStage}
+use Rattle.mako_call.specs.declared.call_stage.CallStage.TheVariants.{Arriving}
+use Rattle.mako_call.specs.Calls.{arrived}
 use Rattle.mako_mutator.specs.Drivers as drivers
 use Rattle.mako_mutator.proofs.DriverGoing.{driver_known}
 use Rattle.mako_seat.specs.declared.seat.Seat.TheVariants.{Mutator}

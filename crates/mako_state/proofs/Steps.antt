@@ -13,13 +13,13 @@ use Rattle.mako_step.specs.declared.step.Step.TheVariants.{Do, Ended as NoStep}
 use Rattle.mako_model.specs.declared.reply.Reply.TheVariants as reply
 use Rattle.mako_model.specs.declared.attempt.Attempt.TheVariants.{Answer}
 use Rattle.mako_model.specs.Legal.{Facts, state_of}
-use Rattle.mako_mutator.specs.declared.caller.Caller.{Caller}
-use Rattle.mako_mutator.specs.declared.call_stage.CallStage.{CallStage}
-use Rattle.mako_mutator.specs.declared.call_stage.CallStage.TheVariants.{Arriving, Rooting, Entering, Moving, Getting, Putting, Allocating, Asking, Leaving, Ended}
-use Rattle.mako_mutator.specs.declared.asking.AskStage.TheVariants.{LoadingPhase as AskPhase, RaisingDemand}
+use Rattle.mako_call.specs.declared.caller.Caller.{Caller}
+use Rattle.mako_call.specs.declared.call_stage.CallStage.{CallStage}
+use Rattle.mako_call.specs.declared.call_stage.CallStage.TheVariants.{Arriving, Rooting, Entering, Moving, Getting, Putting, Allocating, Asking, Leaving, Ended}
+use Rattle.mako_call.specs.declared.asking.AskStage.TheVariants.{LoadingPhase as AskPhase, RaisingDemand}
 use Rattle.mako_mutator.specs.declared.progress.Task.{Task}
 use Rattle.mako_mutator.specs.declared.progress.Task.TheVariants.{Attempting, Awaiting, Finishing, Ended as TaskEnded}
-use Rattle.mako_mutator.specs.Calls.{Calling}
+use Rattle.mako_call.specs.Calls.{Calling}
 use Rattle.mako_mutator.specs.Drivers as drivers
 use Rattle.mako_mutator.specs.Drivers.{Driving, TaskIsKnown, IsWait, task_for, after_wait}
 use Rattle.mako_mutator.proofs.DriverGoing.{driver_known}

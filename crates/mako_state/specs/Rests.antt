@@ -5,21 +5,21 @@ use Rattle.mako_words.specs.declared.phase_word.PhaseWord.TheVariants.{Idle as I
 use Rattle.mako_shape.specs.declared.numbers.Numbers.{Numbers}
 use Rattle.mako_shape.specs.Places.{phase, demand, finished, home, word_at}
 use Rattle.mako_shape.specs.Belongings.{region_of_address, opening_home}
-use Rattle.mako_mutator.specs.declared.object.Access.{Access}
-use Rattle.mako_mutator.specs.declared.object.Access.TheVariants.{Get as Gets, Put as Puts}
-use Rattle.mako_mutator.specs.declared.object.Put.{Put as PutArgs}
-use Rattle.mako_mutator.specs.declared.call_stage.CallStage.{CallStage}
-use Rattle.mako_mutator.specs.declared.call_stage.CallStage.TheVariants.{Arriving, Rooting, Entering, Moving, Getting, Putting, Allocating, Asking, Leaving, Ended}
-use Rattle.mako_mutator.specs.declared.object.Errand.{Errand}
-use Rattle.mako_mutator.specs.declared.entering.EnterStage.{EnterStage}
-use Rattle.mako_mutator.specs.declared.entering.EnterStage.TheVariants.{Arriving as EnterArriving, LoadingEntry, LoadingHome}
-use Rattle.mako_mutator.specs.Objects.{tablet_of}
-use Rattle.mako_mutator.specs.declared.putting.PutStage.{PutStage}
-use Rattle.mako_mutator.specs.declared.putting.PutStage.TheVariants.{LoadingHeader as PutHeader, LoadingOld, LookingAtBarrier, StoringBarrier, StoringField}
-use Rattle.mako_mutator.specs.declared.allocating.AllocStage.{AllocStage}
-use Rattle.mako_mutator.specs.declared.allocating.AllocStage.TheVariants.{LoadingPhase as NewPhase, Searching, StoringRoot, GivingTurn as GivingNewTurn}
-use Rattle.mako_mutator.specs.declared.asking.AskStage.{AskStage}
-use Rattle.mako_mutator.specs.declared.asking.AskStage.TheVariants.{LoadingPhase as AskPhase, RaisingDemand, Awaiting as AskAwaiting}
+use Rattle.mako_call.specs.declared.object.Access.{Access}
+use Rattle.mako_call.specs.declared.object.Access.TheVariants.{Get as Gets, Put as Puts}
+use Rattle.mako_call.specs.declared.object.Put.{Put as PutArgs}
+use Rattle.mako_call.specs.declared.call_stage.CallStage.{CallStage}
+use Rattle.mako_call.specs.declared.call_stage.CallStage.TheVariants.{Arriving, Rooting, Entering, Moving, Getting, Putting, Allocating, Asking, Leaving, Ended}
+use Rattle.mako_call.specs.declared.object.Errand.{Errand}
+use Rattle.mako_call.specs.declared.entering.EnterStage.{EnterStage}
+use Rattle.mako_call.specs.declared.entering.EnterStage.TheVariants.{Arriving as EnterArriving, LoadingEntry, LoadingHome}
+use Rattle.mako_call.specs.Objects.{tablet_of}
+use Rattle.mako_call.specs.declared.putting.PutStage.{PutStage}
+use Rattle.mako_call.specs.declared.putting.PutStage.TheVariants.{LoadingHeader as PutHeader, LoadingOld, LookingAtBarrier, StoringBarrier, StoringField}
+use Rattle.mako_call.specs.declared.allocating.AllocStage.{AllocStage}
+use Rattle.mako_call.specs.declared.allocating.AllocStage.TheVariants.{LoadingPhase as NewPhase, Searching, StoringRoot, GivingTurn as GivingNewTurn}
+use Rattle.mako_call.specs.declared.asking.AskStage.{AskStage}
+use Rattle.mako_call.specs.declared.asking.AskStage.TheVariants.{LoadingPhase as AskPhase, RaisingDemand, Awaiting as AskAwaiting}
 use Rattle.mako_mutator.specs.declared.progress.Task.{Task}
 use Rattle.mako_mutator.specs.declared.progress.Task.TheVariants.{Attempting, Awaiting, Finishing, Ended as TaskEnded}
 use Rattle.mako_pause.specs.declared.stage.CollectStage.{CollectStage}

@@ -6,18 +6,18 @@ use Rattle.mako_words.specs.declared.value.Value.TheVariants.{Ref}
 use Rattle.mako_model.specs.Heaps.{Heap, root_of, fields_of}
 use Rattle.mako_model.specs.declared.call.Call.{Call}
 use Rattle.mako_model.specs.declared.call.Call.TheVariants.{CopyRoot, Get, Put}
-use Rattle.mako_mutator.specs.declared.object.Access.{Access}
-use Rattle.mako_mutator.specs.declared.object.Access.TheVariants.{Get as Gets, Put as Puts}
-use Rattle.mako_mutator.specs.declared.object.Get.{Get as GetArgs}
-use Rattle.mako_mutator.specs.declared.object.Put.{Put as PutArgs}
-use Rattle.mako_mutator.specs.declared.call_stage.CallStage.{CallStage}
-use Rattle.mako_mutator.specs.declared.call_stage.CallStage.TheVariants.{Arriving, Rooting, Entering, Moving, Getting, Putting, Allocating, Asking, Leaving, Ended}
-use Rattle.mako_mutator.specs.declared.rooting.RootStage.{RootStage}
-use Rattle.mako_mutator.specs.declared.rooting.RootStage.TheVariants.{StoringCopied, LoadingValue, LoadingPhase}
-use Rattle.mako_mutator.specs.declared.getting.GetStage.{GetStage}
-use Rattle.mako_mutator.specs.declared.getting.GetStage.TheVariants.{LoadingHeader as GetHeader, LoadingField as GetField, StoringRoot as StoringGot}
-use Rattle.mako_mutator.specs.declared.putting.PutStage.{PutStage}
-use Rattle.mako_mutator.specs.declared.putting.PutStage.TheVariants.{LoadingHeader as PutHeader, LoadingOld, LookingAtBarrier, StoringBarrier, StoringField}
+use Rattle.mako_call.specs.declared.object.Access.{Access}
+use Rattle.mako_call.specs.declared.object.Access.TheVariants.{Get as Gets, Put as Puts}
+use Rattle.mako_call.specs.declared.object.Get.{Get as GetArgs}
+use Rattle.mako_call.specs.declared.object.Put.{Put as PutArgs}
+use Rattle.mako_call.specs.declared.call_stage.CallStage.{CallStage}
+use Rattle.mako_call.specs.declared.call_stage.CallStage.TheVariants.{Arriving, Rooting, Entering, Moving, Getting, Putting, Allocating, Asking, Leaving, Ended}
+use Rattle.mako_call.specs.declared.rooting.RootStage.{RootStage}
+use Rattle.mako_call.specs.declared.rooting.RootStage.TheVariants.{StoringCopied, LoadingValue, LoadingPhase}
+use Rattle.mako_call.specs.declared.getting.GetStage.{GetStage}
+use Rattle.mako_call.specs.declared.getting.GetStage.TheVariants.{LoadingHeader as GetHeader, LoadingField as GetField, StoringRoot as StoringGot}
+use Rattle.mako_call.specs.declared.putting.PutStage.{PutStage}
+use Rattle.mako_call.specs.declared.putting.PutStage.TheVariants.{LoadingHeader as PutHeader, LoadingOld, LookingAtBarrier, StoringBarrier, StoringField}
 use Rattle.mako_mutator.specs.declared.progress.Task.{Task}
 use Rattle.mako_mutator.specs.declared.progress.Task.TheVariants.{Attempting, Awaiting, Finishing, Ended as TaskEnded}
 

@@ -10,12 +10,12 @@ use Rattle.mako_model.specs.Starved.{IsEntryUnavailable, IsTabletFull}
 use Rattle.mako_alloc.specs.Allocating.{Allocation}
 use Rattle.mako_alloc.specs.declared.progress.NewStage.{NewStage}
 use Rattle.mako_alloc.specs.declared.progress.NewStage.TheVariants.{Arriving as NewArriving, TurnedAway as NewTurnedAway, TakingTurn as NewTakingTurn, LoadingLeaving, LoadingTop, LoadingEntry as NewEntry, LoadingHome as NewHome, Making, GivingTurn as PassingTurn, Leaving as NewLeaving, Ended as NewEnded}
-use Rattle.mako_mutator.specs.declared.call_stage.CallStage.{CallStage}
-use Rattle.mako_mutator.specs.declared.call_stage.CallStage.TheVariants.{Allocating, Leaving}
-use Rattle.mako_mutator.specs.declared.allocating.AllocStage.{AllocStage}
-use Rattle.mako_mutator.specs.declared.allocating.AllocStage.TheVariants.{Searching}
-use Rattle.mako_mutator.specs.declared.leaving.LeaveStage.{LeaveStage}
-use Rattle.mako_mutator.specs.declared.leaving.LeaveStage.TheVariants.{FromTablet, FromOwn}
+use Rattle.mako_call.specs.declared.call_stage.CallStage.{CallStage}
+use Rattle.mako_call.specs.declared.call_stage.CallStage.TheVariants.{Allocating, Leaving}
+use Rattle.mako_call.specs.declared.allocating.AllocStage.{AllocStage}
+use Rattle.mako_call.specs.declared.allocating.AllocStage.TheVariants.{Searching}
+use Rattle.mako_call.specs.declared.leaving.LeaveStage.{LeaveStage}
+use Rattle.mako_call.specs.declared.leaving.LeaveStage.TheVariants.{FromTablet, FromOwn}
 use Rattle.mako_mutator.specs.declared.progress.Task.{Task}
 use Rattle.mako_mutator.specs.declared.progress.Task.TheVariants.{Attempting}
 use Rattle.mako_names.specs.Trying.{tablet_at}

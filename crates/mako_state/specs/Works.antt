@@ -13,17 +13,17 @@ use Rattle.mako_alloc.specs.declared.progress.NewStage.{NewStage}
 use Rattle.mako_alloc.specs.declared.progress.NewStage.TheVariants.{Arriving as NewArriving, TurnedAway as NewTurnedAway, TakingTurn as NewTakingTurn, LoadingLeaving, LoadingTop, LoadingEntry as NewEntry, LoadingHome as NewHome, Making, GivingTurn as PassingTurn, Leaving as NewLeaving, Ended as NewEnded}
 use Rattle.mako_alloc.specs.declared.progress.Part.{Part}
 use Rattle.mako_alloc.specs.declared.progress.Part.TheVariants.{Header, Field, Top, Entry}
-use Rattle.mako_mutator.specs.declared.object.Located.{Located}
-use Rattle.mako_mutator.specs.declared.call_stage.CallStage.{CallStage}
-use Rattle.mako_mutator.specs.declared.call_stage.CallStage.TheVariants.{Arriving, Rooting, Entering, Moving, Getting, Putting, Allocating, Asking, Leaving, Ended}
-use Rattle.mako_mutator.specs.declared.entering.EnterStage.{EnterStage}
-use Rattle.mako_mutator.specs.declared.entering.EnterStage.TheVariants.{Arriving as EnterArriving, LoadingEntry, LoadingHome}
-use Rattle.mako_mutator.specs.declared.moving.MoveStage.{MoveStage}
-use Rattle.mako_mutator.specs.declared.moving.MoveStage.TheVariants.{TakingTurn, LoadingEntry as LoadingAgain, Copying as Copies, GivingTurn}
-use Rattle.mako_mutator.specs.declared.getting.GetStage.{GetStage}
-use Rattle.mako_mutator.specs.declared.getting.GetStage.TheVariants.{LoadingHeader as GetHeader, LoadingField as GetField, StoringRoot as StoringGot}
-use Rattle.mako_mutator.specs.declared.allocating.AllocStage.{AllocStage}
-use Rattle.mako_mutator.specs.declared.allocating.AllocStage.TheVariants.{LoadingPhase as NewPhase, Searching, StoringRoot, GivingTurn as GivingNewTurn}
+use Rattle.mako_call.specs.declared.object.Located.{Located}
+use Rattle.mako_call.specs.declared.call_stage.CallStage.{CallStage}
+use Rattle.mako_call.specs.declared.call_stage.CallStage.TheVariants.{Arriving, Rooting, Entering, Moving, Getting, Putting, Allocating, Asking, Leaving, Ended}
+use Rattle.mako_call.specs.declared.entering.EnterStage.{EnterStage}
+use Rattle.mako_call.specs.declared.entering.EnterStage.TheVariants.{Arriving as EnterArriving, LoadingEntry, LoadingHome}
+use Rattle.mako_call.specs.declared.moving.MoveStage.{MoveStage}
+use Rattle.mako_call.specs.declared.moving.MoveStage.TheVariants.{TakingTurn, LoadingEntry as LoadingAgain, Copying as Copies, GivingTurn}
+use Rattle.mako_call.specs.declared.getting.GetStage.{GetStage}
+use Rattle.mako_call.specs.declared.getting.GetStage.TheVariants.{LoadingHeader as GetHeader, LoadingField as GetField, StoringRoot as StoringGot}
+use Rattle.mako_call.specs.declared.allocating.AllocStage.{AllocStage}
+use Rattle.mako_call.specs.declared.allocating.AllocStage.TheVariants.{LoadingPhase as NewPhase, Searching, StoringRoot, GivingTurn as GivingNewTurn}
 use Rattle.mako_mutator.specs.declared.progress.Task.{Task}
 use Rattle.mako_mutator.specs.declared.progress.Task.TheVariants.{Attempting, Awaiting, Finishing, Ended as TaskEnded}
 use Rattle.mako_mutator.specs.Drivers.{Driving}

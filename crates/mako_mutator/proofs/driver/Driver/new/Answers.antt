@@ -4,7 +4,7 @@ use Rattle.mako_model.specs.declared.call.Call.{Call}
 use Rattle.mako_model.specs.declared.reply.Reply.{Reply}
 use Rattle.mako_script.specs.Programs.{ProgramView}
 use Rattle.mako_script.specs.Scripts.{ScriptView}
-use Rattle.mako_mutator.specs.declared.caller.Caller.{Caller}
+use Rattle.mako_call.specs.declared.caller.Caller.{Caller}
 use Rattle.mako_mutator.specs.declared.progress.Progress.{Progress}
 use Rattle.mako_mutator.specs.Drivers.{begun, AreFitting, IsKnown}
 use Rattle.mako_mutator.proofs.ProgramCalls.{program_fits, few_calls, caller_of}

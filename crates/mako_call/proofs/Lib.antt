@@ -1,0 +1,11 @@
+pub mod Going
+pub mod GroupGoing
+pub mod CallGoing
+pub mod FirstStages
+pub mod Deciding
+pub mod AnswerLaws
+pub mod Decided
+pub mod Evidence
+pub mod Shown
+pub mod Stopping
+pub mod ReadWords

@@ -1,0 +1,89 @@
+//! The stages of a `new`.
+
+ghost use Rattle.std.specs.Prelude.{◌≡◌, ◌<◌, ◌≤◌};
+ghost use Rattle.mako_shape.specs.Places.{total};
+ghost use Rattle.mako_step.specs.Acts.{IsWithin};
+ghost use Rattle.mako_call.specs.Callers.{IsCaller};
+ghost use Rattle.mako_call.specs.Allocating.{new_next, new_fed, found_fed, NewFits, NewIsKnown};
+
+use crate::asking::cycle_of;
+use crate::call_stage::CallStage;
+use crate::caller::Caller;
+use crate::leaving::{answered_at, leaving};
+use crate::words::phase_of;
+use mako_alloc::{Found, NewMachine};
+use mako_model::{Attempt, Reply};
+use mako_step::{Machine, Step};
+use mako_words::{Name, Value};
+
+/// Where a `new` stands.
+#[derive(Clone, Copy)]
+pub enum AllocStage {
+    /// Next it loads the phase, for the cycle in which its object is born.
+    LoadingPhase { root: u8, fields: u8 },
+    /// It goes over the tablets, and makes the object.
+    Searching { root: u8, search: NewMachine },
+    /// The object of this name stands. It stores the name into its root.
+    StoringRoot { root: u8, name: Name, tablet: u32 },
+    /// It gives the tablet's turn back.
+    GivingTurn { name: Name, tablet: u32 },
+}
+
+impl AllocStage {
+    pub(crate) fn next(self, caller: &Caller) -> Step
+        requires caller { IsCaller caller.now }
+        requires known { NewIsKnown caller.now self }
+        ensures next { result ≡ new_next caller.now self }
+        ensures within { IsWithin (total caller.now.shape) result }
+    {
+        match self {
+            AllocStage::LoadingPhase { .. } => Step::load(caller.shape.phase()),
+            AllocStage::Searching { search, .. } => search.next(),
+            AllocStage::StoringRoot { root, name, .. } => {
+                Step::store(caller.root(root), Value::Ref(name).pack())
+            }
+            AllocStage::GivingTurn { tablet, .. } => Step::store(caller.shape.turn(tablet), 0),
+        }
+    }
+
+    pub(crate) fn fed(self, caller: &Caller, before: u64) -> CallStage
+        requires caller { IsCaller caller.now }
+        requires known { NewIsKnown caller.now self }
+        requires fits { NewFits caller.now.shape self before }
+        ensures { result ≡ new_fed caller.now self before }
+    {
+        match self {
+            AllocStage::LoadingPhase { root, fields } => {
+                let cycle = cycle_of(phase_of(before));
+                let search = NewMachine::new(caller.shape, caller.mutator, fields, cycle);
+                CallStage::Allocating(AllocStage::Searching { root, search })
+            }
+            AllocStage::Searching { root, mut search } => {
+                search.feed(before);
+                match search.next() {
+                    Step::Do(_) => CallStage::Allocating(AllocStage::Searching { root, search }),
+                    Step::Ended => found(root, search.result()),
+                }
+            }
+            AllocStage::StoringRoot { name, tablet, .. } => {
+                CallStage::Allocating(AllocStage::GivingTurn { name, tablet })
+            }
+            AllocStage::GivingTurn { name, tablet } => answered_at(tablet, Reply::Made(name)),
+        }
+    }
+}
+
+/// Where it stands once it has gone over the tablets.
+fn found(root: u8, found: Found) -> CallStage
+    ensures { result ≡ found_fed root found }
+{
+    match found {
+        Found::Made { name, tablet } => CallStage::Allocating(AllocStage::StoringRoot {
+            root,
+            name,
+            tablet,
+        }),
+        Found::Full => leaving(Attempt::Full),
+        Found::Pause(pause) => leaving(Attempt::Pause(pause)),
+    }
+}

@@ -1,0 +1,87 @@
+//! The stages of a `collect`, which asks for a cycle of the collector and looks whether it has finished.
+
+ghost use Rattle.std.specs.Prelude.{◌≡◌};
+ghost use Rattle.mako_shape.specs.Places.{total};
+ghost use Rattle.mako_step.specs.Acts.{IsWithin};
+ghost use Rattle.mako_words.specs.Phases as phases;
+ghost use Rattle.mako_call.specs.Asking as asking;
+ghost use Rattle.mako_call.specs.Asking.{ask_next, ask_fed, AskFits};
+
+use crate::call_stage::CallStage;
+use crate::words::phase_of;
+use mako_model::{Attempt, Pause, Reply};
+use mako_shape::Shape;
+use mako_step::Step;
+use mako_words::PhaseWord;
+
+/// Where an attempt stands that asks for a cycle.
+#[derive(Clone, Copy)]
+pub enum AskStage {
+    LoadingPhase,
+    /// It raises the demand to this cycle.
+    RaisingDemand { cycle: u32 },
+    /// It has asked for this cycle, and looks whether it has finished.
+    Awaiting { cycle: u32 },
+}
+
+impl AskStage {
+    pub(crate) fn next(self, shape: &Shape) -> Step
+        ensures next { result ≡ ask_next shape.now self }
+        ensures within { IsWithin (total shape.now) result }
+    {
+        match self {
+            AskStage::LoadingPhase | AskStage::Awaiting { .. } => Step::load(shape.phase()),
+            AskStage::RaisingDemand { cycle } => Step::max(shape.demand(), u64::from(cycle)),
+        }
+    }
+
+    pub(crate) fn fed(self, shape: &Shape, before: u64) -> CallStage
+        requires { AskFits shape.now self before }
+        ensures { result ≡ ask_fed shape.now self before }
+    {
+        match self {
+            AskStage::LoadingPhase => {
+                let cycle = cycle_of(phase_of(before));
+                if cycle == shape.numbers().cycles {
+                    CallStage::Ended(Attempt::Answer(Reply::Spent))
+                } else {
+                    CallStage::Asking(AskStage::RaisingDemand { cycle: cycle + 1 })
+                }
+            }
+            AskStage::RaisingDemand { cycle } => CallStage::Asking(AskStage::Awaiting { cycle }),
+            AskStage::Awaiting { cycle } => {
+                if finished_cycles(phase_of(before)) >= cycle {
+                    CallStage::Ended(Attempt::Answer(Reply::Cycle(cycle)))
+                } else {
+                    CallStage::Ended(Attempt::Pause(Pause::Cycle {
+                        wanted: cycle,
+                        word: before,
+                    }))
+                }
+            }
+        }
+    }
+}
+
+/// The cycle of a phase.
+pub(crate) fn cycle_of(phase: PhaseWord) -> u32
+    ensures { result ≡ phases.cycle_of phase }
+{
+    match phase {
+        PhaseWord::Idle(cycle)
+        | PhaseWord::Trace(cycle)
+        | PhaseWord::Evac(cycle)
+        | PhaseWord::Stop(cycle) => cycle,
+    }
+}
+
+/// How many cycles have finished in a phase.
+fn finished_cycles(phase: PhaseWord) -> u32
+    requires { asking.CountsFrom phase }
+    ensures { result ≡ asking.finished_cycles phase }
+{
+    match phase {
+        PhaseWord::Idle(cycle) | PhaseWord::Stop(cycle) => cycle,
+        PhaseWord::Trace(cycle) | PhaseWord::Evac(cycle) => cycle - 1,
+    }
+}

@@ -1,0 +1,280 @@
+//! An attempt of a call, as a machine.
+
+ghost use Rattle.std.specs.Prelude.{◌≡◌, ◌<◌, ◌≤◌, false, IfSome, Some, None, ◌↔◌, IsTrue};
+ghost use Rattle.mako_shape.specs.Places.{total};
+ghost use Rattle.mako_step.specs.Acts.{IsWithin};
+ghost use Rattle.mako_step.specs.declared.step.Step.TheVariants as steps;
+ghost use Rattle.mako_call.specs.Agreeing.{Arrives, AskedFits};
+ghost use Rattle.mako_call.specs.Keeping.{KeepFits};
+ghost use Rattle.mako_call.specs.Callers.{CallFits};
+ghost use Rattle.mako_call.specs.Calls as calls;
+
+use crate::allocating::AllocStage;
+use crate::asking::AskStage;
+use crate::call_stage::CallStage;
+use crate::caller::Caller;
+use crate::fitting::is_gate;
+use crate::leaving::LeaveStage;
+use crate::putting::PutStage;
+use crate::rooting::RootStage;
+use mako_model::{Attempt, Call, Event, Pause, Point};
+use mako_shape::Shape;
+use mako_step::{Machine, Step};
+use mako_words::GateWord;
+use std::marker::Model;
+
+/// What a mutator keeps from one attempt to the next.
+#[derive(Clone, Copy, Debug, PartialEq, Eq)]
+pub struct Keep {
+    /// The cycle that a `collect` has asked for. Any other call forgets it.
+    pub asked: Option<u32>,
+    /// The slot of the mutator's barrier ring into which the next name goes.
+    pub barrier_at: u64,
+}
+
+/// One attempt of a call. It comes to an answer, whose point is in the history then, to a pause after
+/// which the call is to be attempted again, or to the finding that there is no room.
+#[derive(Clone, Copy)]
+pub struct CallMachine {
+    caller: Caller,
+    call: Call,
+    last: bool,
+    slot: u32,
+    stage: CallStage,
+}
+
+impl Model for CallMachine {
+    ghost use Rattle.mako_call.specs.Calls.{Calling, IsKnown};
+
+    ghost Value = { Calling };
+
+    ghost view = { λ m. record { caller = m.caller; call = m.call; last = m.last; slot = m.slot; stage = m.stage } };
+
+    ghost invariant = { λ m. IsKnown (record { caller = m.caller; call = m.call; last = m.last; slot = m.slot; stage = m.stage }) };
+
+    ghost inverse = { λ v. record { caller = v.caller; call = v.call; last = v.last; slot = v.slot; stage = v.stage } };
+}
+
+impl CallMachine {
+    ghost use Rattle.mako_call.specs.declared.call_stage.CallStage.TheVariants as stages;
+
+    /// An attempt of the mutator's call. Where it is the last, a `new` that finds no room is answered.
+    pub fn new(shape: Shape, mutator: u32, call: Call, last: bool, keep: Keep) -> CallMachine
+        requires mutator { mutator < shape.mutators }
+        requires call { CallFits shape call }
+        requires asked { AskedFits shape keep.asked }
+        requires barrier { keep.barrier_at < shape.ring }
+        ensures { result ≡ calls.opening (record { shape = shape; mutator = mutator }) call last keep.asked keep.barrier_at }
+    {
+        let _numbers = shape.numbers();
+        let stage = match (call, keep.asked) {
+            (Call::Collect, None) => CallStage::Asking(AskStage::LoadingPhase),
+            (Call::Collect, Some(cycle)) => CallStage::Asking(AskStage::Awaiting { cycle }),
+            _ => CallStage::Arriving,
+        };
+        CallMachine {
+            caller: Caller { shape, mutator },
+            call,
+            last,
+            slot: keep.barrier_at as u32,
+            stage,
+        }
+    }
+
+    /// Whether it can go on with this word. A word that is not read may be any.
+    pub fn can_go_on(&self, before: u64) -> bool
+        ensures { IsTrue result ↔ calls.Fits self.now before }
+    {
+        let shape = &self.caller.shape;
+        match self.stage {
+            CallStage::Arriving => is_gate(before),
+            CallStage::Rooting(stage) => stage.can_go_on(shape, before),
+            CallStage::Entering(_, stage) => stage.can_go_on(shape, before),
+            CallStage::Moving(_, stage) => stage.can_go_on(shape, before),
+            CallStage::Getting(located, _, stage) => stage.can_go_on(shape, located, before),
+            CallStage::Putting(located, _, stage) => stage.can_go_on(shape, located, before),
+            CallStage::Allocating(stage) => stage.can_go_on(shape, before),
+            CallStage::Asking(stage) => stage.can_go_on(shape, before),
+            CallStage::Leaving(_) | CallStage::Ended(_) => true,
+        }
+    }
+
+    /// What the attempt came to, and what is kept for the next one.
+    pub fn result(&self) -> (Attempt, Keep)
+        requires { calls.next_of self.now ≡ steps.Ended }
+        ensures outcome { self.now.stage ≡ stages.Ended result.0 }
+        ensures keep { result.1 ≡ calls.kept self.now result.0 }
+        ensures asked { AskedFits self.now.caller.shape result.1.asked }
+        ensures barrier { result.1.barrier_at < self.now.caller.shape.ring }
+    {
+        let CallStage::Ended(outcome) = self.stage else {
+            unreachable!()
+        };
+        (outcome, self.keep(outcome))
+    }
+
+    /// Whether it has ended.
+    pub fn has_ended(&self) -> bool
+        ensures ended { result ≡ false → calls.outcome_in self.now.stage ≡ None }
+    {
+        matches!(self.stage, CallStage::Ended(_))
+    }
+
+    /// What it came to and keeps, where it has ended.
+    pub fn outcome(&self) -> Option<(Attempt, Keep)>
+        ensures none { result ≡ None → calls.outcome_in self.now.stage ≡ None }
+        ensures some { IfSome result (λ r. (calls.outcome_in self.now.stage ≡ Some r.0) × (r.1 ≡ calls.kept self.now r.0) × KeepFits self.now.caller.shape r.1) }
+    {
+        match self.stage {
+            CallStage::Ended(outcome) => Some((outcome, self.keep(outcome))),
+            _ => None,
+        }
+    }
+
+    /// The call, and whether this is its last attempt.
+    pub fn of(&self) -> (Call, bool)
+        ensures { result ≡ (self.now.call, self.now.last) }
+    {
+        (self.call, self.last)
+    }
+
+    /// What is kept after this outcome.
+    fn keep(&self, outcome: Attempt) -> Keep
+        ensures { result ≡ calls.kept self.now outcome }
+    {
+        let asked = match (self.call, outcome) {
+            (Call::Collect, Attempt::Pause(Pause::Cycle { wanted, .. })) => Some(wanted),
+            _ => None,
+        };
+        Keep {
+            asked,
+            barrier_at: u64::from(self.slot),
+        }
+    }
+
+    /// Where it stands after the word that its act found.
+    fn stage_after(&self, before: u64) -> CallStage
+        requires { calls.Fits self.now before }
+        ensures { result ≡ (calls.fed self.now before).stage }
+    {
+        let caller = &self.caller;
+        match self.stage {
+            CallStage::Arriving if before >= GateWord::SHUT => {
+                CallStage::Leaving(LeaveStage::Refused(before))
+            }
+            CallStage::Arriving => admitted(self.call),
+            CallStage::Rooting(stage) => stage.fed(caller, before),
+            CallStage::Entering(errand, stage) => stage.fed(caller, errand, before),
+            CallStage::Moving(errand, stage) => stage.fed(caller, errand, before),
+            CallStage::Getting(located, get, stage) => stage.fed(caller, located, get, before),
+            CallStage::Putting(located, put, stage) => {
+                stage.fed(caller, self.slot, located, put, before)
+            }
+            CallStage::Allocating(stage) => stage.fed(caller, before),
+            CallStage::Asking(stage) => stage.fed(&caller.shape, before),
+            CallStage::Leaving(stage) => stage.fed(self.last),
+            CallStage::Ended(outcome) => CallStage::Ended(outcome),
+        }
+    }
+
+    /// The slot for the next name, which rises where a name is stored.
+    fn slot_after(&self) -> u32
+        ensures { result ≡ (calls.slot_after self.now.caller.shape self.now.slot self.now.stage) }
+    {
+        match self.stage {
+            CallStage::Putting(_, _, PutStage::StoringBarrier(_)) => {
+                let next = self.slot + 1;
+                if next == self.caller.shape.numbers().ring {
+                    0
+                } else {
+                    next
+                }
+            }
+            _ => self.slot,
+        }
+    }
+}
+
+/// What a call does once it is admitted at the own gate.
+fn admitted(call: Call) -> CallStage
+    requires { Arrives call }
+    ensures { result ≡ calls.admitted call }
+{
+    match call {
+        Call::New { root, fields } => {
+            CallStage::Allocating(AllocStage::LoadingPhase { root, fields })
+        }
+        Call::Num { root, value } => {
+            let number = value;
+            CallStage::Rooting(RootStage::StoringNumber { root, number })
+        }
+        Call::CopyRoot { to, from } => { CallStage::Rooting(RootStage::LoadingCopied { to, from }) }
+        Call::DropRoot { root } => CallStage::Rooting(RootStage::StoringNull { root }),
+        Call::Get { to, from, field } => {
+            CallStage::Rooting(RootStage::LoadingSource { to, from, field })
+        }
+        Call::Put { to, field, from } => {
+            CallStage::Rooting(RootStage::LoadingTarget { to, field, from })
+        }
+        Call::Show { root } => CallStage::Rooting(RootStage::LoadingShown { root }),
+        Call::Collect => unreachable!(),
+    }
+}
+
+impl Machine for CallMachine {
+    type Event = Event;
+
+    ghost use Rattle.mako_call.specs.Calls as calls;
+
+    ghost next_of = { calls.next_of };
+
+    ghost Fits = { calls.Fits };
+
+    ghost fed = { calls.fed };
+
+    ghost event_of = { calls.event_of };
+
+    ghost is_waiting = { λ _ _. false };
+
+    ghost is_renewed = { λ _ _. false };
+
+    ghost rank = { calls.rank };
+
+    fn next(&self) -> Step
+        ensures next { result ≡ calls.next_of self.now }
+        ensures within { IsWithin (total self.now.caller.shape) result }
+    {
+        let caller = &self.caller;
+        match self.stage {
+            CallStage::Arriving => Step::add(caller.gate(), 1),
+            CallStage::Rooting(stage) => stage.next(caller),
+            CallStage::Entering(errand, stage) => stage.next(caller, errand),
+            CallStage::Moving(errand, stage) => stage.next(caller, errand),
+            CallStage::Getting(located, get, stage) => stage.next(caller, located, get),
+            CallStage::Putting(located, put, stage) => stage.next(caller, self.slot, located, put),
+            CallStage::Allocating(stage) => stage.next(caller),
+            CallStage::Asking(stage) => stage.next(&caller.shape),
+            CallStage::Leaving(stage) => stage.next(caller),
+            CallStage::Ended(_) => Step::Ended,
+        }
+    }
+
+    fn waits(&self, _before: u64) -> bool {
+        false
+    }
+
+    fn feed(&mut self, before: u64) -> Event {
+        let earlier = self.stage.decided();
+        let slot = self.slot_after();
+        self.stage = self.stage_after(before);
+        self.slot = slot;
+        match (earlier, self.stage.decided()) {
+            (None, Some(reply)) => Event::Answered(Point::Did {
+                mutator: self.caller.mutator as u8,
+                call: self.call,
+                reply,
+            }),
+            _ => Event::Nothing,
+        }
+    }
+}

@@ -1,0 +1,87 @@
+//! The stages of an attempt that leaves the gates at which it arrived.
+
+ghost use Rattle.std.specs.Prelude.{◌≡◌};
+ghost use Rattle.mako_shape.specs.Places.{total};
+ghost use Rattle.mako_step.specs.Acts.{IsWithin};
+ghost use Rattle.mako_call.specs.Callers.{IsCaller};
+ghost use Rattle.mako_call.specs.Leaving as leaving;
+ghost use Rattle.mako_call.specs.Leaving.{leave_next, leave_fed, LeaveIsKnown};
+
+use crate::call_stage::CallStage;
+use crate::caller::Caller;
+use mako_model::{Attempt, Pause, Reply};
+use mako_step::Step;
+
+/// Where an attempt stands that leaves the gates at which it arrived.
+#[derive(Clone, Copy)]
+pub enum LeaveStage {
+    /// Its own gate was shut when it arrived and found this word; it takes the arrival back.
+    Refused(u64),
+    /// The tablet's gate was shut when it arrived there and found this word; it takes the arrival back.
+    TurnedAway { tablet: u32, word: u64 },
+    /// It leaves the tablet, and then its own gate, and comes to this.
+    FromTablet { tablet: u32, outcome: Attempt },
+    /// It leaves its own gate, and comes to this.
+    FromOwn(Attempt),
+}
+
+impl LeaveStage {
+    pub(crate) fn next(self, caller: &Caller) -> Step
+        requires caller { IsCaller caller.now }
+        requires known { LeaveIsKnown caller.now.shape self }
+        ensures next { result ≡ leave_next caller.now self }
+        ensures within { IsWithin (total caller.now.shape) result }
+    {
+        match self {
+            LeaveStage::Refused(_) | LeaveStage::FromOwn(_) => Step::sub(caller.gate(), 1),
+            LeaveStage::TurnedAway { tablet, .. } | LeaveStage::FromTablet { tablet, .. } => {
+                Step::sub(caller.shape.tablet_gate(tablet), 1)
+            }
+        }
+    }
+
+    /// Where it stands after the step, for a last attempt or another.
+    pub(crate) fn fed(self, last: bool) -> CallStage
+        ensures { result ≡ leave_fed last self }
+    {
+        match self {
+            LeaveStage::Refused(word) => CallStage::Ended(Attempt::Pause(Pause::Stopped(word))),
+            LeaveStage::TurnedAway { tablet, word } => {
+                leaving(Attempt::Pause(Pause::Shut { tablet, word }))
+            }
+            LeaveStage::FromTablet { outcome, .. } => leaving(outcome),
+            LeaveStage::FromOwn(Attempt::Full) if last => {
+                CallStage::Ended(Attempt::Answer(Reply::Full))
+            }
+            LeaveStage::FromOwn(outcome) => CallStage::Ended(outcome),
+        }
+    }
+}
+
+/// It leaves its own gate, and comes to this.
+pub(crate) fn leaving(outcome: Attempt) -> CallStage
+    ensures { result ≡ leaving.leaving outcome }
+{
+    CallStage::Leaving(LeaveStage::FromOwn(outcome))
+}
+
+/// It leaves the tablet and its own gate, and comes to this.
+pub(crate) fn leaving_tablet(tablet: u32, outcome: Attempt) -> CallStage
+    ensures { result ≡ leaving.leaving_tablet tablet outcome }
+{
+    CallStage::Leaving(LeaveStage::FromTablet { tablet, outcome })
+}
+
+/// It was answered at its own gate alone, and leaves.
+pub(crate) fn answered(reply: Reply) -> CallStage
+    ensures { result ≡ leaving.answered reply }
+{
+    leaving(Attempt::Answer(reply))
+}
+
+/// It was answered in the tablet, and leaves.
+pub(crate) fn answered_at(tablet: u32, reply: Reply) -> CallStage
+    ensures { result ≡ leaving.answered_at tablet reply }
+{
+    leaving_tablet(tablet, Attempt::Answer(reply))
+}

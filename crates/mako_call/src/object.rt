@@ -1,0 +1,69 @@
+//! What a call is to do at an object.
+
+ghost use Rattle.std.specs.Prelude.{◌≡◌};
+ghost use Rattle.mako_call.specs.Objects.{at_object, begun_at};
+
+use crate::call_stage::CallStage;
+use crate::entering::EnterStage;
+use crate::getting::GetStage;
+use crate::putting::PutStage;
+use mako_words::{Name, PhaseWord, Value};
+
+/// A `get`: the field that it reads, and the root into which it puts what it read.
+#[derive(Clone, Copy)]
+pub struct Get {
+    pub to: u8,
+    pub field: u8,
+}
+
+/// A `put`: the field into which it puts the value, and the phase that it found before it went to the object.
+#[derive(Clone, Copy)]
+pub struct Put {
+    pub field: u8,
+    pub value: Value,
+    pub phase: PhaseWord,
+}
+
+/// What a call is to do at an object.
+#[derive(Clone, Copy)]
+pub enum Access {
+    Get(Get),
+    Put(Put),
+}
+
+/// An object, and what a call is to do there.
+#[derive(Clone, Copy)]
+pub struct Errand {
+    pub object: Name,
+    pub access: Access,
+}
+
+impl Errand {
+    /// It goes to the object.
+    pub(crate) fn begun(object: Name, access: Access) -> CallStage
+        ensures { result ≡ begun_at object access }
+    {
+        CallStage::Entering(Errand { object, access }, EnterStage::Arriving)
+    }
+
+    /// It is at the object's record, which has this address.
+    pub(crate) fn at(self, address: u32) -> CallStage
+        ensures { result ≡ at_object self address }
+    {
+        let located = Located {
+            object: self.object,
+            address,
+        };
+        match self.access {
+            Access::Get(get) => CallStage::Getting(located, get, GetStage::LoadingHeader),
+            Access::Put(put) => CallStage::Putting(located, put, PutStage::LoadingHeader),
+        }
+    }
+}
+
+/// An object, and the address of its record, an index among all words.
+#[derive(Clone, Copy)]
+pub struct Located {
+    pub object: Name,
+    pub address: u32,
+}

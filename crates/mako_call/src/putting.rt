@@ -1,0 +1,99 @@
+//! The stages of a `put` at its object's record, with the barrier: while the servers trace, a name that
+//! is about to be overwritten is recorded first (the usual snapshot-at-the-beginning scheme).
+
+ghost use Rattle.std.specs.Prelude.{◌≡◌, ◌<◌};
+ghost use Rattle.mako_shape.specs.Places.{total};
+ghost use Rattle.mako_step.specs.Acts.{IsWithin};
+ghost use Rattle.mako_call.specs.Callers.{IsCaller};
+ghost use Rattle.mako_call.specs.Objects.{LocatedIsKnown};
+ghost use Rattle.mako_call.specs.Putting.{put_next, put_fed, PutFits, PutIsKnown};
+
+use crate::call_stage::CallStage;
+use crate::caller::Caller;
+use crate::leaving::{answered_at, leaving_tablet};
+use crate::object::{Located, Put};
+use crate::words::value_of;
+use mako_model::{Attempt, Pause, Reply};
+use mako_step::Step;
+use mako_words::{Name, PhaseWord, Value};
+
+/// Where a `put` stands at its object's record.
+#[derive(Clone, Copy)]
+pub enum PutStage {
+    LoadingHeader,
+    /// While the servers trace, it loads what the field holds.
+    LoadingOld,
+    /// The field holds this name. It looks whether its own barrier slot is empty.
+    LookingAtBarrier(Name),
+    /// It stores the name into the slot.
+    StoringBarrier(Name),
+    StoringField,
+}
+
+impl PutStage {
+    /// The slot of the barrier ring is the one at which the next name goes in.
+    pub(crate) fn next(self, caller: &Caller, slot: u32, located: Located, put: Put) -> Step
+        requires caller { IsCaller caller.now }
+        requires slot { slot < caller.now.shape.ring }
+        requires located { LocatedIsKnown caller.now.shape located }
+        requires known { PutIsKnown caller.now.shape located put self }
+        ensures next { result ≡ put_next caller.now slot located put self }
+        ensures within { IsWithin (total caller.now.shape) result }
+    {
+        let field = located.address + 1 + u32::from(put.field);
+        match self {
+            PutStage::LoadingHeader => Step::load(located.address),
+            PutStage::LoadingOld => Step::load(field),
+            PutStage::LookingAtBarrier(_) => {
+                Step::load(caller.shape.barrier(caller.mutator, slot))
+            }
+            PutStage::StoringBarrier(old) => Step::store(
+                caller.shape.barrier(caller.mutator, slot),
+                Value::Ref(old).pack(),
+            ),
+            PutStage::StoringField => Step::store(field, put.value.pack()),
+        }
+    }
+
+    pub(crate) fn fed(
+        self,
+        caller: &Caller,
+        slot: u32,
+        located: Located,
+        put: Put,
+        before: u64,
+    ) -> CallStage
+        requires caller { IsCaller caller.now }
+        requires located { LocatedIsKnown caller.now.shape located }
+        requires fits { PutFits caller.now.shape located self before }
+        ensures { result ≡ put_fed caller.now.shape slot located put self before }
+    {
+        let tablet = caller.tablet_of(located.object.entry);
+        match self {
+            PutStage::LoadingHeader if u64::from(put.field) >= before => {
+                answered_at(tablet, Reply::NoField)
+            }
+            PutStage::LoadingHeader => match put.phase {
+                PhaseWord::Trace(_) => CallStage::Putting(located, put, PutStage::LoadingOld),
+                _ => CallStage::Putting(located, put, PutStage::StoringField),
+            },
+            PutStage::LoadingOld => match value_of(before) {
+                Value::Ref(old) => {
+                    CallStage::Putting(located, put, PutStage::LookingAtBarrier(old))
+                }
+                _ => CallStage::Putting(located, put, PutStage::StoringField),
+            },
+            PutStage::LookingAtBarrier(old) if before == 0 => {
+                CallStage::Putting(located, put, PutStage::StoringBarrier(old))
+            }
+            PutStage::LookingAtBarrier(_) => {
+                let barrier = Pause::Barrier { slot, word: before };
+                leaving_tablet(tablet, Attempt::Pause(barrier))
+            }
+            PutStage::StoringBarrier(_) => {
+                CallStage::Putting(located, put, PutStage::StoringField)
+            }
+            PutStage::StoringField => answered_at(tablet, Reply::Done),
+        }
+    }
+}

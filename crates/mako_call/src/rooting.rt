@@ -1,0 +1,135 @@
+//! The stages of an attempt at the mutator's own roots.
+
+ghost use Rattle.std.specs.Prelude.{◌≡◌};
+ghost use Rattle.mako_shape.specs.Places.{total};
+ghost use Rattle.mako_step.specs.Acts.{IsWithin};
+ghost use Rattle.mako_call.specs.Callers.{IsCaller};
+ghost use Rattle.mako_call.specs.Rooting.{root_next, root_fed, RootFits, RootIsKnown};
+
+use crate::call_stage::CallStage;
+use crate::caller::Caller;
+use crate::leaving::answered;
+use crate::object::{Access, Errand, Get, Put};
+use crate::words::{phase_of, value_of};
+use mako_model::Reply;
+use mako_step::Step;
+use mako_words::{Name, Value};
+
+/// Where an attempt stands that works on the mutator's own roots, which are given by their numbers.
+#[derive(Clone, Copy)]
+pub enum RootStage {
+    /// A `num` stores its number.
+    StoringNumber {
+        root: u8,
+        number: u32,
+    },
+    /// A `drop` stores null.
+    StoringNull {
+        root: u8,
+    },
+    LoadingCopied {
+        to: u8,
+        from: u8,
+    },
+    /// A `copy` stores what it loaded.
+    StoringCopied {
+        to: u8,
+        value: Value,
+    },
+    LoadingShown {
+        root: u8,
+    },
+    /// A `get` loads the root that names its object.
+    LoadingSource {
+        to: u8,
+        from: u8,
+        field: u8,
+    },
+    /// A `put` loads the root that names its object, then the one of the value, then the phase.
+    LoadingTarget {
+        to: u8,
+        field: u8,
+        from: u8,
+    },
+    LoadingValue {
+        object: Name,
+        field: u8,
+        from: u8,
+    },
+    LoadingPhase {
+        object: Name,
+        field: u8,
+        value: Value,
+    },
+}
+
+impl RootStage {
+    pub(crate) fn next(self, caller: &Caller) -> Step
+        requires caller { IsCaller caller.now }
+        requires known { RootIsKnown caller.now.shape self }
+        ensures next { result ≡ root_next caller.now self }
+        ensures within { IsWithin (total caller.now.shape) result }
+    {
+        match self {
+            RootStage::StoringNumber { root, number } => {
+                Step::store(caller.root(root), Value::Num(number).pack())
+            }
+            RootStage::StoringNull { root } => Step::store(caller.root(root), Value::Null.pack()),
+            RootStage::StoringCopied { to, value } => Step::store(caller.root(to), value.pack()),
+            RootStage::LoadingShown { root } => Step::load(caller.root(root)),
+            RootStage::LoadingTarget { to, .. } => Step::load(caller.root(to)),
+            RootStage::LoadingCopied { from, .. }
+            | RootStage::LoadingSource { from, .. }
+            | RootStage::LoadingValue { from, .. } => Step::load(caller.root(from)),
+            RootStage::LoadingPhase { .. } => Step::load(caller.shape.phase()),
+        }
+    }
+
+    pub(crate) fn fed(self, caller: &Caller, before: u64) -> CallStage
+        requires { RootFits caller.now.shape self before }
+        ensures { result ≡ root_fed self before }
+    {
+        match self {
+            RootStage::StoringNumber { number, .. } => answered(Reply::Value(Value::Num(number))),
+            RootStage::StoringNull { .. } => answered(Reply::Done),
+            RootStage::LoadingCopied { to, .. } => CallStage::Rooting(RootStage::StoringCopied {
+                to,
+                value: value_of(before),
+            }),
+            RootStage::StoringCopied { value, .. } => answered(Reply::Value(value)),
+            RootStage::LoadingShown { .. } => answered(Reply::Value(value_of(before))),
+            RootStage::LoadingSource { to, field, .. } => match value_of(before) {
+                Value::Ref(object) => Errand::begun(object, Access::Get(Get { to, field })),
+                _ => answered(Reply::NoRef),
+            },
+            RootStage::LoadingTarget { field, from, .. } => match value_of(before) {
+                Value::Ref(object) => CallStage::Rooting(RootStage::LoadingValue {
+                    object,
+                    field,
+                    from,
+                }),
+                _ => answered(Reply::NoRef),
+            },
+            RootStage::LoadingValue { object, field, .. } => {
+                CallStage::Rooting(RootStage::LoadingPhase {
+                    object,
+                    field,
+                    value: value_of(before),
+                })
+            }
+            RootStage::LoadingPhase {
+                object,
+                field,
+                value,
+            } => {
+                let phase = phase_of(before);
+                let put = Put {
+                    field,
+                    value,
+                    phase,
+                };
+                Errand::begun(object, Access::Put(put))
+            }
+        }
+    }
+}

@@ -1,5 +1,0 @@
-use Rattle.mako_mutator.proofs.AnswerLaws.{ranks_are_small}
-use Rattle.mako_mutator.proofs.laws.ranks.Goals as goal
-
-pub returns : goal.returns
-returns c = ranks_are_small
