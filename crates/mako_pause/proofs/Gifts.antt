@@ -25,7 +25,7 @@ use Rattle.mako_poll.specs.Polls as polls
 use Rattle.mako_poll.specs.declared.poller.PollStage.{PollStage}
 use Rattle.mako_poll.specs.declared.poller.PollStage.TheVariants.{Asking, Reading, Ended as Polled}
 use Rattle.mako_poll.specs.declared.poller.Polled.TheVariants.{Told, NotYet}
-use Rattle.mako_pause.specs.Choices.{choice}
+use Rattle.mako_choice.specs.Choices.{choice}
 use Rattle.mako_pause.specs.Collecting.{Holdings, Collecting as Machine, window_of, set_window, forward_from, empty_from, barriers_from, told, polled_at, paused, gifts_from, gift_of, chosen_tablet, server_chosen, after_tablet, noticed, idle_fed, pause_fed, forward_fed, barrier_fed, empty_fed, choice_fed, notice_fed, stage_fed}
 use Rattle.mako_pause.specs.Regions.{is_spare}
 use Rattle.mako_pause.specs.Housing.{Housed, homes_after, given_after, choice_homes, choice_given, notice_given, FindsHome, ChoiceFinds, housed_next, HousedFits, housed_fed, housed_opening, AreHomes, IsFreeFor, ChoiceGives, StageGives, CollectorsGive}
@@ -48,7 +48,8 @@ use Rattle.mako_pause.specs.declared.stage.NoticeStage.{NoticeStage}
 use Rattle.mako_pause.specs.declared.stage.NoticeStage.TheVariants.{Looking as NoticeLook, Clearing as NoticeClear, StoringIdle}
 use Rattle.mako_pause.specs.declared.stage.CollectStage.{CollectStage}
 use Rattle.mako_pause.specs.declared.stage.CollectStage.TheVariants.{Idle, Pausing, Forwarding, Barriers, Emptying, Polling, Choosing, Noticing, Ended}
-use Rattle.mako_pause.proofs.Places.{choice_below, choice_few, tablets_below}
+use Rattle.mako_choice.proofs.Places.{choice_below, choice_few}
+use Rattle.mako_pause.proofs.Places.{tablets_below}
 use Rattle.mako_pause.proofs.Roles.{one, role_at, of_server, RolesStand, HomesStand, SpareFound, roles_given, homes_given, roles_next, roles_open, homes_open, spare_left, found_free, spare_is_no_home}
 
 -- ---- what stands at each stage

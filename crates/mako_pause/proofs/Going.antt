@@ -19,7 +19,7 @@ use Rattle.mako_ring.proofs.Found.{owner_in_range}
 use Rattle.mako_poll.specs.declared.poller.PollStage.{PollStage}
 use Rattle.mako_poll.specs.declared.poller.PollStage.TheVariants.{Asking, Reading, Ended as Polled}
 use Rattle.mako_poll.specs.declared.poller.Polled.TheVariants.{Told, NotYet}
-use Rattle.mako_pause.specs.Choices.{choice}
+use Rattle.mako_choice.specs.Choices.{choice}
 use Rattle.mako_pause.specs.Regions.{is_spare, behind, spare_between}
 use Rattle.mako_pause.specs.declared.regions.Role.{Role}
 use Rattle.mako_pause.specs.declared.regions.Role.TheVariants.{Home}
@@ -41,7 +41,8 @@ use Rattle.mako_pause.specs.declared.stage.CollectStage.{CollectStage}
 use Rattle.mako_pause.specs.declared.stage.CollectStage.TheVariants.{Idle, Pausing, Forwarding, Barriers, Emptying, Polling, Choosing, Noticing, Ended}
 use Rattle.mako_pause.specs.Collecting.{Holdings, Collecting as Machine, window_of, set_window, forward_from, empty_from, empty, barriers_from, told, polled_at, paused, gifts_from, spare_for, gift_of, names_of, chosen_tablet, server_chosen, after_tablet, after_root, noticed, idle_fed, pause_fed, forward_fed, barrier_fed, empty_fed, choice_fed, notice_fed, stage_fed, StageFits, IdleFits, BarrierFits, ChoiceFits}
 use Rattle.mako_pause.specs.Keeping.{IsKeptKnown, Runs, all_regions, IsKeptName, PauseIsKnown, ForwardIsKnown, BarrierIsKnown, EmptyIsKnown, ChoiceIsKnown, NoticeIsKnown, StageIsKnown}
-use Rattle.mako_pause.proofs.Places.{choice_few, row_within}
+use Rattle.mako_choice.proofs.Places.{choice_few}
+use Rattle.mako_pause.proofs.Places.{row_within}
 
 abbrev Stands : Machine → Type 0
 Stands c = StageIsKnown c.kept c.stage

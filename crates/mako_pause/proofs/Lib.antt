@@ -1,11 +1,8 @@
-pub mod Candidates
-pub mod ChoiceExamples
 pub mod Gifts
 pub mod Going
 pub mod Lowering
 pub mod Moments
 pub mod NameWords
-pub mod OneChoice
 pub mod Openings
 pub mod Places
 pub mod Rising

@@ -33,9 +33,9 @@ use Rattle.mako_poll.specs.Polls.{PollView}
 use Rattle.mako_poll.specs.declared.poller.PollStage.{PollStage}
 use Rattle.mako_poll.specs.declared.poller.PollStage.TheVariants.{Asking, Reading, Ended as Polled}
 use Rattle.mako_poll.specs.declared.poller.Polled.TheVariants.{Told, NotYet}
-use Rattle.mako_pause.specs.Choices.{choice}
+use Rattle.mako_choice.specs.Choices.{choice}
 use Rattle.mako_pause.specs.Regions.{spare_between}
-use Rattle.mako_pause.specs.declared.chooser.Used.{Used}
+use Rattle.mako_choice.specs.declared.chooser.Used.{Used}
 use Rattle.mako_pause.specs.declared.regions.Role.{Role}
 use Rattle.mako_pause.specs.declared.regions.Role.TheVariants.{Home, Spare}
 use Rattle.mako_pause.specs.declared.stage.Pause.{Pause}

@@ -19,9 +19,9 @@ mod choices;
 mod fitting;
 mod rings;
 
-use crate::chooser::{Chooser, Used};
 use crate::regions::{Role, opening_roles};
 use crate::stage::{BarrierStage, ChoiceStage, CollectStage, ForwardStage, Pause, PauseStage};
+use mako_choice::{Chooser, Used};
 use mako_model::Cycles;
 use mako_poll::{Polled, Poller};
 use mako_ring::Window;

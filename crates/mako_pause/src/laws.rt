@@ -1,23 +1,8 @@
-//! What is true of the choice, and of the collector's trails. Each law is a contract, and its function has nothing to do.
+//! What is true of the collector's trails. Each law is a contract, and its function has nothing to do.
 
-ghost use Rattle.std.specs.Prelude.{[], ◌∷◌};
-ghost use Rattle.mako_pause.specs.Choices.{ChoicesAreOne, IsChoice};
-ghost use Rattle.mako_pause.specs.Examples.{four_tablets};
 ghost use Rattle.mako_pause.specs.Hearing.{ListsRise};
 ghost use Rattle.mako_pause.specs.Housing.{CollectorsGive};
 ghost use Rattle.mako_pause.specs.Moments.{CollectorsGo};
-
-/// There is one choice: whatever is a choice of the same tablets is the same list, the one that the definition computes.
-pub fn choices_are_one()
-    ensures { ChoicesAreOne }
-{}
-
-/// The choice of four tablets, with two spare regions and with more than enough, and that of none.
-pub fn examples()
-    ensures two { IsChoice four_tablets 2 (2 ∷ 1 ∷ []) }
-    ensures three { IsChoice four_tablets 8 (2 ∷ 1 ∷ 3 ∷ []) }
-    ensures none { IsChoice [] 8 [] }
-{}
 
 /// At every moment the phase word that the trail stored last is that of the stage. Trace and Evac are stored only after
 /// each mutator's gate was shut and then found counting nobody, and opened again after the store alone. In each cycle

@@ -1,8 +1,7 @@
-//! The collector, and the choice of the tablets that are evacuated.
+//! The collector.
 #![tactic(auto)]
 
 mod barriers;
-mod chooser;
 mod choosing;
 mod collector;
 mod forwarding;
@@ -16,9 +15,9 @@ mod stage;
 #[cfg(test)]
 mod tests;
 
-pub use chooser::{Candidate, Chooser, Used};
 pub use collector::Collector;
 pub use kept::Kept;
+pub use mako_choice::{Candidate, Chooser, Used};
 pub use regions::Role;
 pub use stage::{
     BarrierStage, ChoiceStage, CollectStage, ForwardStage, Gift, IdleStage, NoticeStage, Pause,

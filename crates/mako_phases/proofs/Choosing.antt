@@ -7,9 +7,9 @@ use Rattle.mako_words.specs.Lives.{live_at}
 use Rattle.mako_shape.specs.declared.numbers.Numbers.{Numbers}
 use Rattle.mako_shape.specs.Places.{top, Within, word_at}
 use Rattle.mako_shape.proofs.Rows.{row-below}
-use Rattle.mako_pause.specs.declared.chooser.Used.{Used}
-use Rattle.mako_pause.specs.declared.chooser.Candidate.{Candidate}
-use Rattle.mako_pause.specs.Choices.{by_live, candidates_from, put_in, in_order, choice}
+use Rattle.mako_choice.specs.declared.chooser.Used.{Used}
+use Rattle.mako_choice.specs.declared.chooser.Candidate.{Candidate}
+use Rattle.mako_choice.specs.Choices.{by_live, candidates_from, put_in, in_order, choice}
 use Rattle.mako_phases.specs.Lives.{live_in, AreOnce}
 use Rattle.mako_phases.specs.LiveSteps.{AgreeOnLives}
 use Rattle.mako_phases.specs.Choosing.{used_at, used_upto, tablets_at, chosen_upto, AreFound}

@@ -5,7 +5,7 @@ use Rattle.mako_shape.specs.Limits.{IsShape}
 use Rattle.mako_shape.specs.Places.{Place, phase, demand, root, barrier, work, ghost, notice, leaving, entry, Within, word_at, total, index}
 use Rattle.mako_names.specs.Examples.{small}
 use Rattle.mako_names.specs.Tables.{entry_of}
-use Rattle.mako_pause.specs.Choices.{candidates_from, put_in, in_order, choice}
+use Rattle.mako_choice.specs.Choices.{candidates_from, put_in, in_order, choice}
 use Rattle.mako_phases.specs.Choosing.{used_upto, chosen_upto}
 use Rattle.mako_phases.specs.Facets.{idle, resting, outside, PhaseFacet, mutating, serving, mutator, server, collector, role_of}
 use Rattle.mako_phases.specs.Orders.{WordsStand, ServerStands, AreSeated, PhaseOrder}

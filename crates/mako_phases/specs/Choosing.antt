@@ -3,8 +3,8 @@ use Rattle.std.specs.Prelude.{ℕ, zero, suc, ◌≡◌, ◌+◌, ◌*◌, ◌<�
 use Rattle.std.specs.List.{Contains}
 use Rattle.mako_shape.specs.declared.numbers.Numbers.{Numbers}
 use Rattle.mako_shape.specs.Places.{top, Within, word_at}
-use Rattle.mako_pause.specs.declared.chooser.Used.{Used}
-use Rattle.mako_pause.specs.Choices.{choice}
+use Rattle.mako_choice.specs.declared.chooser.Used.{Used}
+use Rattle.mako_choice.specs.Choices.{choice}
 use Rattle.mako_phases.specs.Lives.{live_count, AreOnce}
 use Rattle.mako_phases.specs.LiveSteps.{AgreeOnLives}
 

@@ -7,10 +7,10 @@ ghost use Rattle.mako_pause.specs.Collecting.{at, running};
 ghost use Rattle.mako_pause.specs.Keeping.{Runs, all_regions};
 ghost use Rattle.mako_pause.specs.declared.regions.Role.TheVariants as roles;
 
-use crate::chooser::Used;
 use crate::kept::Kept;
 use crate::regions::{Role, spare_between};
 use crate::stage::{ChoiceStage, CollectStage, Gift};
+use mako_choice::Used;
 use mako_words::LiveWord;
 
 impl Kept {

@@ -1,5 +1,5 @@
-use Rattle.mako_pause.proofs.ChoiceExamples.{two, three, none}
-use Rattle.mako_pause.proofs.laws.examples.Goals as goal
+use Rattle.mako_choice.proofs.ChoiceExamples.{two, three, none}
+use Rattle.mako_choice.proofs.laws.examples.Goals as goal
 
 pub returns-clause-two : goal.returns-clause-two
 returns-clause-two c = two

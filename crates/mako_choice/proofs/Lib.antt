@@ -1,0 +1,4 @@
+pub mod Candidates
+pub mod ChoiceExamples
+pub mod OneChoice
+pub mod Places
