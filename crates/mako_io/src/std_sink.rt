@@ -1,6 +1,8 @@
 //! Standard output as a sink.
 
-ghost use Rattle.std.specs.Prelude.{◌≡◌};
+ghost use Rattle.std.specs.Prelude.{◌≡◌, ◌<◌, ◌≤◌, length, take, IfOk, OnErr};
+ghost use Rattle.std.specs.Io.KnownBytes.{Appends, Keeps};
+ghost use Rattle.mako_io.specs.Causes.{raised};
 
 use crate::sink::Sink;
 use crate::source::Failed;
@@ -32,7 +34,22 @@ impl<W: Write> Sink for StdSink<W> {
 
     ghost faults = { λ s. s.faults };
 
-    fn write(&mut self, bytes: &[u8]) -> Result<usize, Failed> {
+    /// A write that takes something, or nothing of an empty piece, leaves the count of faults; every other raises it.
+    fn write(&mut self, bytes: &[u8]) -> Result<usize, Failed>
+        ensures bound { IfOk result (λ count. count ≤ length bytes.now) }
+        ensures grown { IfOk result (λ count. Appends (⟦<StdSink<W> as Sink>⟧.taken self.old)
+            (⟦<StdSink<W> as Sink>⟧.taken self.new) (take count bytes.now)) }
+        ensures sound { IfOk result (λ count. 0 < count → ⟦<StdSink<W> as Sink>⟧.faults self.new
+            ≡ ⟦<StdSink<W> as Sink>⟧.faults self.old) }
+        ensures empty { IfOk result (λ count. length bytes.now ≡ 0 → ⟦<StdSink<W> as Sink>⟧.faults self.new
+            ≡ ⟦<StdSink<W> as Sink>⟧.faults self.old) }
+        ensures stuck { result ≡ Ok 0 → 0 < length bytes.now → ⟦<StdSink<W> as Sink>⟧.faults self.new ≡ raised
+            (⟦<StdSink<W> as Sink>⟧.faults self.old) }
+        ensures kept { OnErr result (Keeps (⟦<StdSink<W> as Sink>⟧.taken self.old)
+            (⟦<StdSink<W> as Sink>⟧.taken self.new)) }
+        ensures failed { OnErr result (⟦<StdSink<W> as Sink>⟧.faults self.new ≡ raised
+            (⟦<StdSink<W> as Sink>⟧.faults self.old)) }
+    {
         match self.writer.write(bytes) {
             Ok(count) => {
                 if count == 0 && !bytes.is_empty() {
