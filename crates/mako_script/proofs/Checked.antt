@@ -12,12 +12,13 @@ use Rattle.mako_script.specs.declared.fault.Kind.TheVariants.{Header, NotAscii, 
 use Rattle.mako_script.specs.Checks.{IsCut, IsLine, IsSettingLine, HasSetting, HaveSettings, SettingFault}
 use Rattle.mako_script.specs.Faults.{IsFirstFault, HasFault, LineFault, is_printable, rank, told_line}
 use Rattle.mako_script.specs.Lines.{line_in, words_at, word_in, ended, key_at, IsNumber}
-use Rattle.mako_script.specs.declared.settings.Key.{Key}
-use Rattle.mako_script.specs.Reading.{lines_of, words_of, line_at, word_at, keys, key_view, numbers_in}
+use Rattle.mako_text.specs.declared.keys.Key.{Key}
+use Rattle.mako_text.specs.Keys.{keys, key_view}
+use Rattle.mako_reader.specs.Reading.{lines_of, words_of, line_at, word_at, numbers_in}
 use Rattle.mako_shape.specs.Limits.{all_entries, max_entries}
-use Rattle.mako_script.proofs.Splits.{split_some}
-use Rattle.mako_script.proofs.Takes.{some_is}
-use Rattle.mako_script.proofs.Loops.{key_at as key_in}
+use Rattle.mako_reader.proofs.Splits.{split_some}
+use Rattle.mako_reader.proofs.Takes.{some_is}
+use Rattle.mako_reader.proofs.Loops.{key_at as key_in}
 use Rattle.mako_script.proofs.Spaced.{good_number, good_range, IsGood, not_in, not_between}
 
 abbrev second : List (List ℕ) → List ℕ

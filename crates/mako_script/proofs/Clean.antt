@@ -7,20 +7,20 @@ use Rattle.std.proofs.lemmas.Bool.{cases_lt}
 use Rattle.std.proofs.lemmas.List.Folds.{list_any-append}
 use Rattle.std.proofs.lemmas.Slice.Eq.{bytes_eq-Decides}
 use Rattle.mako_model.specs.declared.call.Call.{Call}
-use Rattle.mako_script.specs.declared.command.Argument.{Argument}
-use Rattle.mako_script.specs.declared.command.Argument.TheVariants as arguments
-use Rattle.mako_script.specs.declared.command.Command.{Command}
-use Rattle.mako_script.specs.declared.command.Command.TheVariants.{New, Num, Copy, Drop, Get, Put, Show, Collect}
+use Rattle.mako_reader.specs.declared.command.Argument.{Argument}
+use Rattle.mako_reader.specs.declared.command.Argument.TheVariants as arguments
+use Rattle.mako_reader.specs.declared.command.Command.{Command}
+use Rattle.mako_reader.specs.declared.command.Command.TheVariants.{New, Num, Copy, Drop, Get, Put, Show, Collect}
 use Rattle.mako_script.specs.declared.fault.Kind.{Kind}
 use Rattle.mako_script.specs.declared.fault.Kind.TheVariants as faults
 use Rattle.mako_script.specs.CommandLines.{CommandFault, IsRead, is_among}
 use Rattle.mako_script.specs.Lines.{greatest, word_in, HasArgument, IsCommand}
-use Rattle.mako_script.specs.Names.{is_name}
-use Rattle.mako_script.specs.Reading.{◌>>=◌, arguments_at, call_of, command_at, command_named, define_at, defines, kinds_of, name_at, names_after, word_at}
+use Rattle.mako_text.specs.Names.{is_name}
+use Rattle.mako_reader.specs.Reading.{◌>>=◌, arguments_at, call_of, command_at, command_named, define_at, defines, kinds_of, name_at, names_after, word_at}
 use Rattle.mako_script.proofs.Commands.{among_place, first_kind, not_placed}
-use Rattle.mako_script.proofs.NameLists.{define_full, define_known, define_new}
+use Rattle.mako_reader.proofs.NameLists.{define_full, define_known, define_new}
 use Rattle.mako_script.proofs.Spaced.{number_is}
-use Rattle.mako_script.proofs.Takes.{Takes, TakesEach, arguments_take, bind_some, name_takes, some_is, word_takes}
+use Rattle.mako_reader.proofs.Takes.{Takes, TakesEach, arguments_take, bind_some, name_takes, some_is, word_takes}
 
 -- ---- what is read
 

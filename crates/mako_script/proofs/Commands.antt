@@ -7,16 +7,16 @@ use Rattle.std.specs.Str.{bytes_eq}
 use Rattle.std.proofs.lemmas.Bool.Decides.{nat_tests}
 use Rattle.std.proofs.lemmas.List.Folds.{list_any_at}
 use Rattle.std.proofs.lemmas.Slice.Eq.{bytes_eq-Decides}
-use Rattle.mako_script.specs.declared.command.Argument.{Argument}
-use Rattle.mako_script.specs.declared.command.Argument.TheVariants as arguments
-use Rattle.mako_script.specs.declared.command.Command.{Command}
-use Rattle.mako_script.specs.declared.command.Command.TheVariants.{New, Num, Copy, Drop, Get, Put, Show, Collect}
+use Rattle.mako_reader.specs.declared.command.Argument.{Argument}
+use Rattle.mako_reader.specs.declared.command.Argument.TheVariants as arguments
+use Rattle.mako_reader.specs.declared.command.Command.{Command}
+use Rattle.mako_reader.specs.declared.command.Command.TheVariants.{New, Num, Copy, Drop, Get, Put, Show, Collect}
 use Rattle.mako_script.specs.Checks.{IsValue}
 use Rattle.mako_script.specs.CommandLines.{AreArguments, IsArgument, IsRead, is_among}
 use Rattle.mako_script.specs.Lines.{word_in}
-use Rattle.mako_script.specs.Reading.{argument_at, arguments_at, call_of, command_at, command_named, defines, each_at, kinds_of, names_after, number_at, place_at, value_at, within_at}
-use Rattle.mako_script.proofs.Digits.{ten_digits_again}
-use Rattle.mako_script.proofs.NameLists.{define_known, define_new, no_place, place_takes}
+use Rattle.mako_reader.specs.Reading.{argument_at, arguments_at, call_of, command_at, command_named, defines, each_at, kinds_of, names_after, number_at, place_at, value_at, within_at}
+use Rattle.mako_reader.proofs.Digits.{ten_digits_again}
+use Rattle.mako_reader.proofs.NameLists.{define_known, define_new, no_place, place_takes}
 
 -- ---- names
 

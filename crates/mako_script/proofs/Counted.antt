@@ -12,16 +12,17 @@ use Rattle.mako_shape.specs.Limits.{IsShape}
 use Rattle.mako_script.specs.Checks.{HasSetting, HaveSettings, IsLine}
 use Rattle.mako_script.specs.CommandLines.{IsRead}
 use Rattle.mako_script.specs.Lines.{key_at, line_in}
-use Rattle.mako_script.specs.Names.{board_name}
-use Rattle.mako_script.specs.Programs.{ProgramView}
-use Rattle.mako_script.specs.Scripts.{ScriptView}
-use Rattle.mako_script.specs.Texts.{IsScript, end_word, mutator_word}
-use Rattle.mako_script.specs.Reading.{◌>>=◌, calls_at, command_at, each_at, is_end, keys, line_at, lines_of, numbers_in, script_at, script_of, section_at, sections_at, setting_at, settings_at, step_at, within_at, words_of}
-use Rattle.mako_script.proofs.Accepted.{proper_from}
+use Rattle.mako_text.specs.Names.{board_name}
+use Rattle.mako_text.specs.Programs.{ProgramView}
+use Rattle.mako_text.specs.Scripts.{ScriptView}
+use Rattle.mako_text.specs.Texts.{IsScript, end_word, mutator_word}
+use Rattle.mako_text.specs.Keys.{keys}
+use Rattle.mako_reader.specs.Reading.{◌>>=◌, calls_at, command_at, each_at, is_end, line_at, lines_of, numbers_in, script_at, script_of, section_at, sections_at, setting_at, settings_at, step_at, within_at, words_of}
+use Rattle.mako_reader.proofs.Proper.{proper_from}
 use Rattle.mako_script.proofs.Commands.{within_is}
-use Rattle.mako_script.proofs.Loops.{each_done, each_more, with_front}
-use Rattle.mako_script.proofs.Sections.{calls_end, calls_more, sections_end, sections_more, with_calls, with_programs}
-use Rattle.mako_script.proofs.Spelled.{are_proper, are_values, is_script}
+use Rattle.mako_reader.proofs.Loops.{each_done, each_more, with_front}
+use Rattle.mako_reader.proofs.Sections.{calls_end, calls_more, sections_end, sections_more, with_calls, with_programs}
+use Rattle.mako_reader.proofs.Spelled.{are_proper, are_values, is_script}
 
 pub not_not : (b : Bool) → not b ≡ false → b ≡ true
 not_not true e = refl

@@ -5,15 +5,15 @@ use Rattle.std.specs.Prelude.{slice_index, ◌≢◌}
 use Rattle.std.specs.Fmt.{digits}
 use Rattle.mako_shape.specs.Places.{total}
 use Rattle.mako_shape.specs.Limits.{IsShape, max_words}
-use Rattle.mako_script.specs.Names.{is_name, name_of}
-use Rattle.mako_script.specs.Programs.{IsProgram}
-use Rattle.mako_script.specs.Scripts.{ScriptView, IsProper}
-use Rattle.mako_script.specs.Reading.{script_at, lines_of, words_of, each_at, setting_at, sections_at, section_at, calls_at, command_at, arguments_at, value_at, argument_at, within_at, number_at, define_at, place_at}
-use Rattle.mako_script.specs.Printed.{values_of}
-use Rattle.mako_script.proofs.Again.{script_again}
-use Rattle.mako_script.specs.Forms.{IsAccepted}
-use Rattle.mako_script.proofs.Accepted.{no_collect_in}
-use Rattle.mako_script.specs.Texts.{script_text, IsScript}
+use Rattle.mako_text.specs.Names.{is_name, name_of}
+use Rattle.mako_text.specs.Programs.{IsProgram}
+use Rattle.mako_text.specs.Scripts.{ScriptView, IsProper}
+use Rattle.mako_reader.specs.Reading.{script_at, lines_of, words_of, each_at, setting_at, sections_at, section_at, calls_at, command_at, arguments_at, value_at, argument_at, within_at, number_at, define_at, place_at}
+use Rattle.mako_text.specs.Printed.{values_of}
+use Rattle.mako_reader.proofs.Again.{script_again}
+use Rattle.mako_text.specs.Forms.{IsAccepted}
+use Rattle.mako_text.proofs.Accepted.{no_collect_in}
+use Rattle.mako_text.specs.Texts.{script_text, IsScript}
 use Rattle.mako_script.specs.Examples.{storing, storing_text, storing_names, storing_program, spaced_text}
 
 spelled : storing_text ≡ script_text storing

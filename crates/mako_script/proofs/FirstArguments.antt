@@ -2,8 +2,8 @@
 use Rattle.std.proofs.Common.{◌≡◌, ℕ, zero, suc, ◌+◌, ◌<◌, ◌≤◌, ◌⊎◌, inl, inr, Bool, true, true≢false, cond, List, [], ◌∷◌, length, take, slice_get, Option, Some, None, refl, sym, ap, subst, ◌∙◌, arith}
 use Rattle.std.specs.Prelude.{IfNone, IfSome, Ok, Err}
 use Rattle.std.proofs.lemmas.Bool.{cases_lt, lt-ltb, le-ltb}
-use Rattle.mako_script.specs.declared.command.Argument.{Argument}
-use Rattle.mako_script.specs.declared.command.Argument.TheVariants as arguments
+use Rattle.mako_reader.specs.declared.command.Argument.{Argument}
+use Rattle.mako_reader.specs.declared.command.Argument.TheVariants as arguments
 use Rattle.mako_script.specs.declared.fault.Kind.{Kind}
 use Rattle.mako_script.specs.declared.fault.Kind.TheVariants as faults
 use Rattle.mako_script.specs.Checks.{IsValue}
@@ -11,7 +11,7 @@ use Rattle.mako_script.specs.CommandLines.{AreArguments, ArgumentFault, IsArgume
 use Rattle.mako_script.specs.Faults.{rank}
 use Rattle.mako_script.specs.Lines.{word_in}
 use Rattle.mako_script.proofs.Spaced.{number_is}
-use Rattle.mako_script.proofs.Takes.{some_is}
+use Rattle.mako_reader.proofs.Takes.{some_is}
 
 -- ---- one word
 

@@ -1,18 +1,18 @@
 -- The first fault of a command line, from those of its words.
 use Rattle.std.proofs.Common.{◌≡◌, ℕ, ◌+◌, ◌<◌, ◌≤◌, ◌⊎◌, inl, inr, Bool, true, false, true≢false, List, ◌∷◌, length, slice_get, Option, Some, None, refl, sym, ap, subst, ◌∙◌, arith}
 use Rattle.std.specs.Prelude.{◌≢◌}
-use Rattle.mako_script.specs.declared.command.Argument.{Argument}
-use Rattle.mako_script.specs.declared.command.Argument.TheVariants as arguments
-use Rattle.mako_script.specs.declared.command.Command.{Command}
+use Rattle.mako_reader.specs.declared.command.Argument.{Argument}
+use Rattle.mako_reader.specs.declared.command.Argument.TheVariants as arguments
+use Rattle.mako_reader.specs.declared.command.Command.{Command}
 use Rattle.mako_script.specs.declared.fault.Kind.{Kind}
 use Rattle.mako_script.specs.declared.fault.Kind.TheVariants as faults
 use Rattle.mako_script.specs.CommandLines.{ArgumentFault, CommandFault, IsFirstOfCommand, IsLeastFault}
 use Rattle.mako_script.specs.Faults.{rank}
 use Rattle.mako_script.specs.Lines.{greatest, word_in, HasArgument, IsCommand, IsNumber}
-use Rattle.mako_script.specs.Names.{is_name}
-use Rattle.mako_script.specs.Reading.{command_named, kinds_of}
+use Rattle.mako_text.specs.Names.{is_name}
+use Rattle.mako_reader.specs.Reading.{command_named, kinds_of}
 use Rattle.mako_script.proofs.Clean.{behind_at}
-use Rattle.mako_script.proofs.Takes.{some_is}
+use Rattle.mako_reader.proofs.Takes.{some_is}
 
 from_word : (names : List (List ℕ)) (roots : ℕ) (words : List (List ℕ)) (k : Kind) → CommandFault names roots words k → 3 ≤ rank k
 from_word names roots words faults.NotAscii fault = absurd fault

@@ -3,7 +3,7 @@ use Rattle.std.proofs.Common.{◌≡◌, ◌⊎◌, inl, inr, ◌<◌, ◌≤◌
 use Rattle.mako_script.specs.declared.fault.Kind.{Kind}
 use Rattle.mako_script.specs.declared.fault.Kind.TheVariants.{Header, NotAscii, Word, Number, Range, Names, Undefined, NoMutator, Unclosed, Many, Entries, Words, Long, Form}
 use Rattle.mako_script.specs.Faults.{IsFirstFault, HasFault, rank, told_line}
-use Rattle.mako_script.specs.Reading.{lines_of}
+use Rattle.mako_reader.specs.Reading.{lines_of}
 
 -- the kinds by their ranks
 by_rank : List Kind

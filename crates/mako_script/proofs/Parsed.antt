@@ -6,12 +6,12 @@ use Rattle.mako_script.specs.declared.fault.Kind.TheVariants.{Form}
 use Rattle.mako_script.specs.declared.fault.ScriptFault.{ScriptFault}
 use Rattle.mako_script.specs.declared.fault.ScriptFault.TheVariants.{Bad, Memory}
 use Rattle.mako_script.specs.Answers.{IsRefused, IsScriptOrMemory}
-use Rattle.mako_script.specs.Forms.{IsAccepted, NeedsNoCycle}
-use Rattle.mako_script.specs.ScriptFacts.{facts_of}
-use Rattle.mako_script.specs.Reading.{Reads, lines_of}
-use Rattle.mako_script.specs.Scripts.{ScriptView}
-use Rattle.mako_script.specs.Texts.{IsScript}
-use Rattle.mako_script.proofs.Again.{one_script}
+use Rattle.mako_text.specs.Forms.{IsAccepted, NeedsNoCycle}
+use Rattle.mako_text.specs.ScriptFacts.{facts_of}
+use Rattle.mako_reader.specs.Reading.{Reads, lines_of}
+use Rattle.mako_text.specs.Scripts.{ScriptView}
+use Rattle.mako_text.specs.Texts.{IsScript}
+use Rattle.mako_reader.proofs.Again.{one_script}
 
 -- the answer is this script in the accepted form, or it has another form
 abbrev pub Accepts : ScriptView → Result ScriptView ScriptFault → Type 0

@@ -5,14 +5,14 @@ use Rattle.std.proofs.lemmas.Bool.{cases_lt}
 use Rattle.std.specs.Prelude.{slice_index}
 use Rattle.std.specs.Fmt.{decimal, digits}
 use Rattle.mako_shape.specs.Limits.{all_entries, max_entries}
-use Rattle.mako_script.specs.declared.command.Command.{Command}
+use Rattle.mako_reader.specs.declared.command.Command.{Command}
 use Rattle.mako_script.specs.declared.fault.Kind.{Kind}
 use Rattle.mako_script.specs.declared.fault.Kind.TheVariants.{Header, NotAscii, Word, Number, Range, Names, Undefined, NoMutator, Unclosed, Many, Entries, Words, Long, Form}
 use Rattle.mako_script.specs.Lines.{line_in, words_at, word_in, ended, key_at, IsNumber, AreSettings, IsIn, IsBetween, IsCommand}
 use Rattle.mako_script.specs.Faults.{IsFirstFault, HasFault, LineFault, is_printable, rank}
 use Rattle.std.specs.List.{list_all}
-use Rattle.mako_script.specs.Texts.{end_word}
-use Rattle.mako_script.specs.Reading.{lines_of, words_of, numbers_in, kinds_of}
+use Rattle.mako_text.specs.Texts.{end_word}
+use Rattle.mako_reader.specs.Reading.{lines_of, words_of, numbers_in, kinds_of}
 use Rattle.mako_script.specs.Examples.{spaced_text}
 
 -- the line is its key and this number, in its range

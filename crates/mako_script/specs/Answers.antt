@@ -4,10 +4,10 @@ use Rattle.mako_script.specs.declared.fault.Kind.{Kind}
 use Rattle.mako_script.specs.declared.fault.Kind.TheVariants.{Form, Words}
 use Rattle.mako_script.specs.declared.fault.ScriptFault.{ScriptFault}
 use Rattle.mako_script.specs.declared.fault.ScriptFault.TheVariants.{Bad, Memory}
-use Rattle.mako_script.specs.Forms.{IsAccepted}
+use Rattle.mako_text.specs.Forms.{IsAccepted}
 use Rattle.mako_script.specs.Faults.{IsFirstFault}
-use Rattle.mako_script.specs.Scripts.{ScriptView}
-use Rattle.mako_script.specs.Texts.{IsScript}
+use Rattle.mako_text.specs.Scripts.{ScriptView}
+use Rattle.mako_text.specs.Texts.{IsScript}
 
 -- the answer is this script, unless there was not memory enough
 abbrev pub IsScriptOrMemory : ScriptView → Result ScriptView ScriptFault → Type 0

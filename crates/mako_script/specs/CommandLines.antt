@@ -3,16 +3,16 @@ use Rattle.std.specs.Prelude.{◌≡◌, ℕ, ◌<◌, ◌≤◌, ◌⊎◌, Boo
 use Rattle.std.specs.List.{list_any}
 use Rattle.std.specs.Str.{bytes_eq}
 use Rattle.mako_model.specs.declared.call.Call.{Call}
-use Rattle.mako_script.specs.declared.command.Argument.{Argument}
-use Rattle.mako_script.specs.declared.command.Argument.TheVariants.{Defined, Read, Fields, Index, Number}
-use Rattle.mako_script.specs.declared.command.Command.{Command}
+use Rattle.mako_reader.specs.declared.command.Argument.{Argument}
+use Rattle.mako_reader.specs.declared.command.Argument.TheVariants.{Defined, Read, Fields, Index, Number}
+use Rattle.mako_reader.specs.declared.command.Command.{Command}
 use Rattle.mako_script.specs.declared.fault.Kind.{Kind}
 use Rattle.mako_script.specs.declared.fault.Kind.TheVariants as faults
-use Rattle.mako_script.specs.Names.{is_name}
+use Rattle.mako_text.specs.Names.{is_name}
 use Rattle.mako_script.specs.Checks.{IsValue}
 use Rattle.mako_script.specs.Faults.{rank}
 use Rattle.mako_script.specs.Lines.{greatest, word_in, HasArgument, IsCommand, IsNumber}
-use Rattle.mako_script.specs.Reading.{command_at}
+use Rattle.mako_reader.specs.Reading.{command_at}
 
 abbrev pub is_among : List (List ℕ) → List ℕ → Bool
 is_among names word = list_any (λ name. bytes_eq name word) names

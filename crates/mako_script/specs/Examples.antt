@@ -2,8 +2,8 @@
 use Rattle.std.specs.Prelude.{ℕ, List, [], ◌∷◌, ◌++◌, codes}
 use Rattle.mako_model.specs.declared.call.Call.{Call}
 use Rattle.mako_model.specs.declared.call.Call.TheVariants.{New, Num, Get, Put}
-use Rattle.mako_script.specs.Programs.{ProgramView}
-use Rattle.mako_script.specs.Scripts.{ScriptView}
+use Rattle.mako_text.specs.Programs.{ProgramView}
+use Rattle.mako_text.specs.Scripts.{ScriptView}
 
 -- the lines of the settings
 abbrev pub header : List ℕ

@@ -5,11 +5,11 @@ use Rattle.mako_shape.specs.Places.{total}
 use Rattle.mako_shape.specs.Limits.{all_entries, max_entries, max_words}
 use Rattle.mako_script.specs.declared.fault.Kind.{Kind}
 use Rattle.mako_script.specs.declared.fault.Kind.TheVariants.{Header, NotAscii, Word, Number, Range, Names, Undefined, NoMutator, Unclosed, Many, Entries, Words, Long, Form}
-use Rattle.mako_script.specs.declared.command.Argument.{Argument}
-use Rattle.mako_script.specs.declared.command.Argument.TheVariants as arguments
-use Rattle.mako_script.specs.declared.command.Command.{Command}
-use Rattle.mako_script.specs.Texts.{mutator_word, end_word}
-use Rattle.mako_script.specs.Reading.{lines_of, numbers_in}
+use Rattle.mako_reader.specs.declared.command.Argument.{Argument}
+use Rattle.mako_reader.specs.declared.command.Argument.TheVariants as arguments
+use Rattle.mako_reader.specs.declared.command.Command.{Command}
+use Rattle.mako_text.specs.Texts.{mutator_word, end_word}
+use Rattle.mako_reader.specs.Reading.{lines_of, numbers_in}
 use Rattle.mako_script.specs.Lines.{line_in, words_at, word_in, ended, key_at, IsNumber, AreSettings, IsIn, IsBetween, sections_before, commands_before, greatest, IsCommand, HasArgument, IsDefined, AreDefined}
 
 abbrev pub is_printable : ℕ → Bool

@@ -2,12 +2,13 @@
 use Rattle.std.specs.Prelude.{◌≡◌, ◌≢◌, ℕ, ◌+◌, ◌-◌, ◌<◌, ◌≤◌, ◌&&◌, ◌⊎◌, true, not, List, [], length, take, drop, slice_get, slice_index, slice_index_or, count_by, Option, Some, None}
 use Rattle.std.specs.Fmt.{decimal}
 use Rattle.std.specs.Str.{bytes_eq}
-use Rattle.mako_script.specs.declared.command.Command.{Command}
-use Rattle.mako_script.specs.declared.command.Argument.{Argument}
-use Rattle.mako_script.specs.declared.command.Argument.TheVariants.{Defined, Read, Fields, Index, Number}
-use Rattle.mako_script.specs.Names.{is_name, name_of, board_name}
-use Rattle.mako_script.specs.Texts.{mutator_word, end_word}
-use Rattle.mako_script.specs.Reading.{words_of, command_named, kinds_of, keys}
+use Rattle.mako_reader.specs.declared.command.Command.{Command}
+use Rattle.mako_reader.specs.declared.command.Argument.{Argument}
+use Rattle.mako_reader.specs.declared.command.Argument.TheVariants.{Defined, Read, Fields, Index, Number}
+use Rattle.mako_text.specs.Names.{is_name, name_of, board_name}
+use Rattle.mako_text.specs.Texts.{mutator_word, end_word}
+use Rattle.mako_text.specs.Keys.{keys}
+use Rattle.mako_reader.specs.Reading.{words_of, command_named, kinds_of}
 
 abbrev pub line_in : List (List ℕ) → ℕ → List ℕ
 line_in lines at = slice_index_or lines at []

@@ -8,22 +8,24 @@ ghost use Rattle.mako_script.specs.declared.fault.Kind.{Kind};
 ghost use Rattle.mako_script.specs.Checks.{HaveSettings, IsCut, IsLine, IsSettingLine, IsValue};
 ghost use Rattle.mako_script.specs.CommandLines.{AreArguments, ArgumentFault, CommandFault, IsArgument, IsFirstOfCommand, IsLeastFault, IsRead, is_among, told_first, with_name};
 ghost use Rattle.mako_script.specs.Faults.{IsFirstFault, is_printable};
-ghost use Rattle.mako_script.specs.Names.{board_name};
-ghost use Rattle.mako_script.specs.Programs.{ProgramView};
-ghost use Rattle.mako_script.specs.Reading.{calls_at, key_view, keys, lines_of, numbers_in, sections_at, words_behind, words_of};
-ghost use Rattle.mako_script.specs.Scripts.{ScriptView};
-ghost use Rattle.mako_script.specs.Texts.{IsScript};
+ghost use Rattle.mako_text.specs.Names.{board_name};
+ghost use Rattle.mako_text.specs.Programs.{ProgramView};
+ghost use Rattle.mako_text.specs.Keys.{key_view, keys};
+ghost use Rattle.mako_reader.specs.Reading.{calls_at, lines_of, numbers_in, sections_at, words_behind, words_of};
+ghost use Rattle.mako_text.specs.Scripts.{ScriptView};
+ghost use Rattle.mako_text.specs.Texts.{IsScript};
 ghost use Rattle.mako_shape.specs.Limits.{all_entries, max_entries};
 
-use crate::command::{Argument, Command};
 use crate::fault::Kind;
-use crate::lines::{next_line, next_word, split_word};
-use crate::names::is_spelled_as_name;
-use crate::numbers::number;
-use crate::section::{MAX_COMMANDS, MAX_SECTIONS};
-use crate::settings::{KEYS, Key, SETTINGS, numbers_of};
 use arrayvec::ArrayVec;
+use mako_reader::command::{Argument, Command};
+use mako_reader::lines::{next_line, next_word, split_word};
+use mako_reader::names::is_spelled_as_name;
+use mako_reader::numbers::number;
+use mako_reader::section::{MAX_COMMANDS, MAX_SECTIONS};
+use mako_reader::settings::numbers_of;
 use mako_shape::{Shape, ShapeFault};
+use mako_text::keys::{KEYS, Key, SETTINGS};
 
 /// A fault, and the line that is told, counted from 1.
 #[derive(Clone, Copy, Debug, PartialEq, Eq)]

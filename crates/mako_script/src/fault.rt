@@ -4,7 +4,7 @@ ghost use Rattle.std.specs.Prelude.{◌≡◌, ◌≤◌, length};
 ghost use Rattle.mako_script.specs.FaultTexts.{fault_text, kind_text};
 ghost use Rattle.mako_script.specs.Faults.{rank};
 
-use crate::line::{Line, add, add_number};
+use mako_text::line::{Line, add, add_number};
 use std::fmt;
 use thiserror::Error;
 

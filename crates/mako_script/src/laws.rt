@@ -3,9 +3,9 @@
 ghost use Rattle.std.specs.Prelude.{◌≡◌, [], ℕ, List};
 ghost use Rattle.mako_script.specs.declared.fault.Kind.{Kind};
 ghost use Rattle.mako_script.specs.declared.fault.Kind.TheVariants.{Unclosed, Word};
-ghost use Rattle.mako_script.specs.Scripts.{ScriptView};
-ghost use Rattle.mako_script.specs.Forms.{IsAccepted};
-ghost use Rattle.mako_script.specs.Texts.{IsScript};
+ghost use Rattle.mako_text.specs.Scripts.{ScriptView};
+ghost use Rattle.mako_text.specs.Forms.{IsAccepted};
+ghost use Rattle.mako_text.specs.Texts.{IsScript};
 ghost use Rattle.mako_script.specs.Faults.{IsFirstFault};
 ghost use Rattle.mako_script.specs.Examples.{storing, storing_text, spaced_text};
 

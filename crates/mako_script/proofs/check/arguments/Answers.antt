@@ -1,8 +1,8 @@
 use Rattle.std.proofs.Common.{◌≡◌, ◌<◌, false, length, arith, ◌∷◌, [], ◌++◌, List, ℕ, Bor, map, sym, ap, ◌∙◌}
 use Rattle.std.proofs.lemmas.List.{append-nil, length-append, length-map}
-use Rattle.mako_script.specs.Reading.{is_nil, words_behind}
-use Rattle.mako_script.proofs.Loops.{no_words}
-use Rattle.mako_script.proofs.Takes.{nil_is}
+use Rattle.mako_reader.specs.Reading.{is_nil, words_behind}
+use Rattle.mako_reader.proofs.Loops.{no_words}
+use Rattle.mako_reader.proofs.Takes.{nil_is}
 use Rattle.mako_script.proofs.check.arguments.Goals as goal
 
 pub returns-then-is_empty-clause-words : goal.returns-then-is_empty-clause-words

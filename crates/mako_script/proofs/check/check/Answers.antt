@@ -2,7 +2,7 @@ use Rattle.std.proofs.Common.{◌≡◌, ◌<◌, Bool, List, ℕ, Some, sym, su
 use Rattle.std.specs.Bool.{OnTrue}
 use Rattle.mako_shape.specs.Limits.{all_entries, max_entries}
 use Rattle.std.specs.Prelude.{slice_index}
-use Rattle.mako_script.specs.Reading.{lines_of, numbers_in, sections_at}
+use Rattle.mako_reader.specs.Reading.{lines_of, numbers_in, sections_at}
 use Rattle.mako_script.proofs.Checked.{entries_first}
 use Rattle.mako_script.proofs.Counted.{has_script}
 use Rattle.mako_script.proofs.check.check.Goals as goal

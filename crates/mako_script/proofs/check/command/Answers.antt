@@ -1,9 +1,9 @@
 use Rattle.std.proofs.Common.{length, ◌≡◌, ◌++◌, ◌∷◌, [], true, false, List, ℕ, Bor, map, get_or, sym, ap, subst, refl, ◌∙◌, arith}
 use Rattle.std.proofs.lemmas.List.{length-map}
 use Rattle.mako_script.specs.CommandLines.{IsLeastFault, IsRead, AreArguments, is_among}
-use Rattle.mako_script.specs.declared.command.Argument.{Argument}
+use Rattle.mako_reader.specs.declared.command.Argument.{Argument}
 use Rattle.mako_script.specs.Lines.{word_in}
-use Rattle.mako_script.specs.Reading.{defines, kinds_of, words_of}
+use Rattle.mako_reader.specs.Reading.{defines, kinds_of, words_of}
 use Rattle.mako_script.proofs.Commands.{first_of, has_command, has_room, reads_known, reads_new, reads_plain}
 use Rattle.mako_script.proofs.Clean.{line_from, no_fault}
 use Rattle.mako_script.proofs.FirstOfCommand.{first_of_words}

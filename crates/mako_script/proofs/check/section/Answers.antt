@@ -3,8 +3,8 @@ use Rattle.std.specs.Prelude.{IsSome, option_map}
 use Rattle.std.specs.Str.{bytes_eq}
 use Rattle.std.proofs.lemmas.List.{map-append, length_push}
 use Rattle.mako_script.specs.CommandLines.{IsRead, with_name}
-use Rattle.mako_script.specs.Reading.{lines_of, words_of}
-use Rattle.mako_script.specs.Texts.{end_word}
+use Rattle.mako_reader.specs.Reading.{lines_of, words_of}
+use Rattle.mako_text.specs.Texts.{end_word}
 use Rattle.mako_script.proofs.Counted.{CallsSoFar, calls_finish, calls_go}
 use Rattle.mako_script.proofs.check.section.Goals as goal
 

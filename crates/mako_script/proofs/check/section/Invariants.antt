@@ -1,5 +1,5 @@
 use Rattle.std.proofs.Common.{◌≤◌, length, map}
-use Rattle.mako_script.specs.Reading.{lines_of}
+use Rattle.mako_reader.specs.Reading.{lines_of}
 use Rattle.mako_script.proofs.Counted.{CallsSoFar}
 use Rattle.mako_script.proofs.check.section.Given as goal
 

@@ -2,8 +2,8 @@ use Rattle.std.proofs.Common.{◌≡◌, ◌∷◌, [], true, List, ℕ, Bor, Op
 use Rattle.std.specs.Prelude.{IfNone, IfSome}
 use Rattle.std.specs.Str.{bytes_eq}
 use Rattle.mako_script.specs.Checks.{IsLine}
-use Rattle.mako_script.specs.Reading.{lines_of}
-use Rattle.mako_script.specs.Texts.{mutator_word}
+use Rattle.mako_reader.specs.Reading.{lines_of}
+use Rattle.mako_text.specs.Texts.{mutator_word}
 use Rattle.mako_script.proofs.Counted.{not_not, sections_finish, sections_go}
 use Rattle.mako_script.proofs.check.sections.Goals as goal
 

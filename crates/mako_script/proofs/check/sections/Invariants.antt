@@ -1,5 +1,5 @@
 use Rattle.std.proofs.Common.{◌≤◌, length}
-use Rattle.mako_script.specs.Reading.{lines_of}
+use Rattle.mako_reader.specs.Reading.{lines_of}
 use Rattle.mako_script.proofs.Counted.{SectionsSoFar}
 use Rattle.mako_script.proofs.check.sections.Given as goal
 

@@ -1,10 +1,10 @@
 use Rattle.std.proofs.Common.{◌≡◌, ◌∷◌, [], ℕ, List, Bool, true, false, not, None, arith, inl, inr, refl, length, sym, ap, subst, ◌∙◌}
 use Rattle.std.specs.Str.{bytes_eq}
 use Rattle.std.proofs.lemmas.Slice.Eq.{bytes_eq-Decides}
-use Rattle.mako_script.specs.declared.refusal.Refusal.{Refusal}
-use Rattle.mako_script.specs.Reading.{Refuses, is_nil, word_at, words_behind, words_of}
-use Rattle.mako_script.proofs.Takes.{word_takes, nil_is}
-use Rattle.mako_script.proofs.Loops.{no_words}
+use Rattle.mako_reader.specs.declared.refusal.Refusal.{Refusal}
+use Rattle.mako_reader.specs.Reading.{Refuses, is_nil, word_at, words_behind, words_of}
+use Rattle.mako_reader.proofs.Takes.{word_takes, nil_is}
+use Rattle.mako_reader.proofs.Loops.{no_words}
 use Rattle.mako_script.proofs.Checked.{no_second}
 use Rattle.mako_script.proofs.check.setting.Goals as goal
 use Rattle.mako_script.proofs.check.setting.Goals.{then-ne-via-then-ne, then-ne-via-else-ne+then-not-is_empty}

@@ -4,7 +4,8 @@ use Rattle.std.proofs.lemmas.List.{length_push, length-map}
 use Rattle.mako_script.specs.declared.fault.Kind.{Kind}
 use Rattle.mako_script.specs.Checks.{HasSetting, HaveSettings, IsSettingLine}
 use Rattle.mako_script.specs.Faults.{IsFirstFault}
-use Rattle.mako_script.specs.Reading.{key_view, lines_of, words_of}
+use Rattle.mako_text.specs.Keys.{key_view}
+use Rattle.mako_reader.specs.Reading.{lines_of, words_of}
 use Rattle.mako_script.proofs.Checked.{cut_first, settings_before, setting_line, with_setting, wrong_first, have_more, key_is}
 use Rattle.mako_script.proofs.check.settings.Goals as goal
 

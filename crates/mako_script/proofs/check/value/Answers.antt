@@ -1,7 +1,7 @@
 use Rattle.std.proofs.Common.{◌≡◌, Some, None, inl, inr, ap, subst, ◌∙◌, arith}
-use Rattle.mako_script.specs.Reading.{number_at, Refuses}
-use Rattle.mako_script.specs.declared.refusal.Refusal.{Refusal}
-use Rattle.mako_script.proofs.Digits.{number_takes, number_few, ten_digits_again}
+use Rattle.mako_reader.specs.Reading.{number_at, Refuses}
+use Rattle.mako_reader.specs.declared.refusal.Refusal.{Refusal}
+use Rattle.mako_reader.proofs.Digits.{number_takes, number_few, ten_digits_again}
 use Rattle.mako_script.proofs.check.value.Goals as goal
 use Rattle.mako_script.proofs.check.value.Goals.{then-value-from-via-then-value-from, then-value-from-via-else-value-from+then-value-from-2}
 

@@ -1,9 +1,9 @@
 use Rattle.std.proofs.Common.{◌≤◌, List, refl, sym, subst, ◌∙◌}
-use Rattle.mako_script.specs.Forms.{NeedsNoCycle}
-use Rattle.mako_script.specs.Programs.{ProgramView}
-use Rattle.mako_script.specs.ScriptFacts.{facts_of}
-use Rattle.mako_script.specs.Scripts.{ScriptView, IsProper, command_count}
-use Rattle.mako_script.proofs.Accepted.{view}
+use Rattle.mako_text.specs.Forms.{NeedsNoCycle}
+use Rattle.mako_text.specs.Programs.{ProgramView}
+use Rattle.mako_text.specs.ScriptFacts.{facts_of}
+use Rattle.mako_text.specs.Scripts.{ScriptView, IsProper, command_count}
+use Rattle.mako_text.proofs.Accepted.{view}
 use Rattle.mako_script.proofs.reading.accepted.Goals as goal
 
 abbrev HasForm : ScriptView → Type 0

@@ -1,8 +1,8 @@
 use Rattle.std.proofs.Common.{◌≡◌, ap, subst, inl, Err}
 use Rattle.mako_script.specs.declared.fault.ScriptFault.TheVariants.{Bad}
 use Rattle.mako_script.specs.Answers.{TellsFault}
-use Rattle.mako_script.proofs.Spelled.{is_script}
-use Rattle.mako_script.proofs.Again.{no_script}
+use Rattle.mako_reader.proofs.Spelled.{is_script}
+use Rattle.mako_reader.proofs.Again.{no_script}
 use Rattle.mako_script.proofs.Parsed.{accepts, ok_is, only_is, refused_is}
 use Rattle.mako_script.proofs.reading.parse.Goals as goal
 

@@ -1,9 +1,9 @@
 use Rattle.std.proofs.Common.{◌≡◌, true, None, sym, ap, subst, ◌∙◌}
 use Rattle.std.specs.List.{list_all}
-use Rattle.mako_script.specs.declared.refusal.Refusal.{Refusal}
+use Rattle.mako_reader.specs.declared.refusal.Refusal.{Refusal}
 use Rattle.mako_script.specs.Checks.{IsCut}
 use Rattle.mako_script.specs.Faults.{is_printable}
-use Rattle.mako_script.specs.Reading.{Refuses, lines_of, line_at}
+use Rattle.mako_reader.specs.Reading.{Refuses, lines_of, line_at}
 use Rattle.mako_script.proofs.Checked.{no_lines, first_line, last_piece}
 use Rattle.mako_script.proofs.check.Lines.next.Goals as goal
 use Rattle.mako_script.proofs.check.Lines.next.Goals.{in_default-via-in-Ok+else-is_printable, in_default-via-in-Err+else-is_printable-2}

@@ -1,0 +1,9 @@
+pub mod Splits
+pub mod Digits
+pub mod NameLists
+pub mod Loops
+pub mod Takes
+pub mod Sections
+pub mod Spelled
+pub mod Proper
+pub mod Again

@@ -1,0 +1,112 @@
+//! The arguments of a command line.
+
+ghost use Rattle.std.specs.Prelude.{◌≡◌, ◌<◌, ◌≤◌, ◌^◌, length, IfOk};
+ghost use Rattle.mako_text.specs.Names.{texts};
+ghost use Rattle.mako_reader.specs.Reading.{Gives, argument_at, value_at, arguments_at, names_after, command_at, words_of, words_behind};
+
+use crate::command::{Argument, Command};
+use crate::lines::{next_word, split_word};
+use crate::names::{define, name, root_of, root_or_next};
+use crate::numbers::number_within;
+use crate::refusal::Refusal;
+use arrayvec::ArrayVec;
+use indexmap::IndexSet;
+use mako_model::Call;
+use std::alloc::Global;
+
+/// No command has more arguments.
+const MAX_ARGUMENTS: usize = 3;
+
+/// The value of an argument: the root of a name, or a number. A name that is yet to be defined has the next root.
+#[tactic(auto, unfolding(crate::specs::Reading::argument_at))]
+fn argument(names: &IndexSet<String>, kind: Argument, word: &[u8]) -> Result<u32, Refusal>
+    requires { length (texts names.now) < 2 ^ 32 }
+    ensures { Gives (λ n. n) result (argument_at (texts names.now) kind word.now) }
+{
+    match kind {
+        Argument::Defined => {
+            let name = name(word)?;
+            Ok(root_or_next(names, name) as u32)
+        }
+        Argument::Read => {
+            let name = name(word)?;
+            Ok(root_of(names, name).ok_or(Refusal::Bad)? as u32)
+        }
+        Argument::Fields => number_within(0, 14, word),
+        Argument::Index => number_within(0, 13, word),
+        Argument::Number => number_within(0, u32::MAX, word),
+    }
+}
+
+/// The value of the next argument, and what stands behind it.
+#[tactic(auto, unfolding(crate::specs::Reading::value_at))]
+fn next_value<'a>(
+    names: &IndexSet<String>,
+    kind: Argument,
+    rest: &'a [u8],
+) -> Result<(u32, &'a [u8]), Refusal>
+    requires { length (texts names.now) < 2 ^ 32 }
+    ensures { Gives (λ x. (x.0, words_behind x.1.now)) result (value_at (texts names.now) kind (words_behind rest.now)) }
+{
+    let (word, rest) = next_word(rest)?;
+    Ok((argument(names, kind, word)?, rest))
+}
+
+/// The values of as many arguments as there are kinds, with nothing behind them.
+fn arguments(
+    names: &IndexSet<String>,
+    kinds: &[Argument],
+    text: &[u8],
+) -> Result<ArrayVec<u32, MAX_ARGUMENTS>, Refusal>
+    requires few { length (texts names.now) < 2 ^ 32 }
+    requires short { length kinds.now ≤ 3 }
+    ensures { Gives (λ v. v.items) result (arguments_at (texts names.now) kinds.now (words_behind text.now)) }
+{
+    let mut values = ArrayVec::new();
+    let mut rest = text;
+    for kind in kinds {
+        let (value, after) = next_value(names, *kind, rest)?;
+        values.push(value);
+        rest = after;
+    }
+    if rest.is_empty() {
+        Ok(values)
+    } else {
+        Err(Refusal::Bad)
+    }
+}
+
+/// Adds the name of the first argument, if the command defines it.
+fn define_first(
+    alloc: Global,
+    defines: bool,
+    roots: usize,
+    names: &mut IndexSet<String>,
+    text: &[u8],
+) -> Result<(), Refusal>
+    ensures { Gives (λ _. texts names.new) result (names_after defines roots (texts names.old) (words_behind text.now)) }
+{
+    if !defines {
+        return Ok(());
+    }
+    let (word, _) = next_word(text)?;
+    define(alloc, roots, names, name(word)?)
+}
+
+/// The call of a command line. A name that it defines is added to the names.
+#[tactic(auto, using(crate::proofs::Takes::arguments_fit), unfolding(crate::specs::Reading::command_at))]
+pub fn command(
+    alloc: Global,
+    roots: usize,
+    names: &mut IndexSet<String>,
+    line: &[u8],
+) -> Result<Call, Refusal>
+    requires { length (texts names.old) < 2 ^ 8 }
+    ensures { Gives (λ call. (call, texts names.new)) result (command_at roots (texts names.old) (words_of line.now)) }
+{
+    let (word, rest) = split_word(line);
+    let command = Command::named(word)?;
+    let values = arguments(names, command.arguments(), rest)?;
+    define_first(alloc, command.defines(), roots, names, rest)?;
+    Ok(command.call(&values))
+}

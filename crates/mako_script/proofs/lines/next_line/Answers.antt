@@ -1,8 +1,0 @@
-use Rattle.std.proofs.lemmas.List.{take_rest}
-use Rattle.std.proofs.Common.{◌+◌, sym}
-use Rattle.mako_script.proofs.Splits.{line_at_place}
-use Rattle.mako_script.proofs.lines.next_line.Goals as goal
-
-pub returns-in-Some-clause-read : goal.returns-in-Some-clause-read
-returns-in-Some-clause-read c =
-    rw (take_rest c.args.text.now (c.in-Some.end + 1)) (line_at_place c.args.text.now c.in-Some.end (sym c.in-Some.ensures))

@@ -1,0 +1,10 @@
+pub mod Forms
+pub mod Keys
+pub mod Names
+pub mod Outputs
+pub mod Printed
+pub mod Programs
+pub mod ScriptFacts
+pub mod Scripts
+pub mod Texts
+pub mod Written

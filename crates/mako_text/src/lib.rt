@@ -1,0 +1,19 @@
+//! Scripts as values: their geometry and programs, their one text, and the printed output of a run.
+#![tactic(auto)]
+
+mod form;
+pub mod keys;
+pub mod line;
+mod output;
+mod printing;
+mod program;
+mod script;
+pub mod text;
+
+pub use form::is_accepted;
+pub use line::Line;
+pub use output::write_output;
+pub use printing::print;
+pub use program::Program;
+pub use script::Script;
+pub use text::write_text;
