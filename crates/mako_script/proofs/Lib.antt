@@ -4,6 +4,10 @@ pub mod Commands
 pub mod FirstArguments
 pub mod Clean
 pub mod FirstOfCommand
+pub mod Counts
+pub mod InSections
+pub mod BetweenSections
+pub mod Begins
 pub mod Counted
 pub mod Parsed
 pub mod Examples

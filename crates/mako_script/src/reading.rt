@@ -5,7 +5,7 @@ ghost use Rattle.mako_text.specs.Scripts.{IsProper, ScriptView};
 ghost use Rattle.mako_text.specs.Texts.{IsScript};
 ghost use Rattle.mako_text.specs.Forms.{IsAccepted, NeedsNoCycle};
 ghost use Rattle.mako_text.specs.ScriptFacts.{facts_of};
-ghost use Rattle.mako_script.specs.Answers.{IsRefused, IsScriptOrMemory, TellsFault};
+ghost use Rattle.mako_script.specs.Answers.{IsFaultOrMemory, IsRefused, IsScriptOrMemory, TellsFault};
 
 use crate::check::{Fault, check};
 use crate::fault::{Kind, ScriptFault};
@@ -51,6 +51,7 @@ pub fn parse(alloc: Global, bytes: &[u8]) -> Result<Script, ScriptFault>
     ensures accepted { IfOk result (λ s. NeedsNoCycle (facts_of s)) }
     ensures only { (s : ScriptView) → IsAccepted s → IsScript bytes.now s → IsScriptOrMemory s result }
     ensures refused { (kind : Kind) (line : ℕ) → result ≡ Err (ScriptFault.Bad kind line) → IsRefused bytes.now kind line }
+    ensures first { ((s : ScriptView) → ¬ IsScript bytes.now s) → IsFaultOrMemory bytes.now result }
 {
     match read_script(alloc, bytes) {
         Ok(script) => accepted(script),
