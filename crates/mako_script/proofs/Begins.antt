@@ -64,7 +64,7 @@ module _ (text v : List ℕ) (has : HaveSettings (lines_of text) v) (count : len
   setting at below = has at (omega (arith, count))
 
   -- the numbers of the lines are these
-  number_at : (at n : ℕ) → at < 11 → IsNumber (word_in (words_at lines at) 1) n → n ≡ slice_index v at
+  pub number_at : (at n : ℕ) → at < 11 → IsNumber (word_in (words_at lines at) 1) n → n ≡ slice_index v at
   number_at at n below is =
       let s = setting at below in
       number_is (word_in (words_at lines at) 1) (slice_index v at) n (ap (λ (ws : List (List ℕ)). word_in ws 1) s.words) s.few is

@@ -57,7 +57,7 @@ module _ (text : List ℕ) (roots sections commands line : ℕ) (left : List (Li
 
   -- ---- no line, or one that is cut
 
-  ends_here : left ≡ [] ∷ [] → (line_in lines line ≡ []) × (line ≡ ended lines)
+  pub ends_here : left ≡ [] ∷ [] → (line_in lines line ≡ []) × (line ≡ ended lines)
   ends_here none = (
     sym (front lines line) ∙ ap (λ (ls : List (List ℕ)). line_in ls 0) (sym st.reached.left_is ∙ none),
     (cut_is lines line Unclosed st.reached.within (subst (λ (ls : List (List ℕ)). IsCut ls Unclosed) (sym none ∙ st.reached.left_is) (refl, refl))).1,
@@ -92,10 +92,10 @@ module _ (text : List ℕ) (roots sections commands line : ℕ) (left : List (Li
   -- ---- the end of the text
 
   -- what may be wrong at the end
-  abbrev Ending : Kind → Type 0
+  abbrev pub Ending : Kind → Type 0
   Ending k = ((k ≡ NoMutator) × (sections ≡ 0)) ⊎ (k ≡ Words)
 
-  ending_fault : left ≡ [] ∷ [] → (k : Kind) → HasFault lines line k → Ending k
+  pub ending_fault : left ≡ [] ∷ [] → (k : Kind) → HasFault lines line k → Ending k
   ending_fault none k (inl bad) = absurd (true≢false (sym (ap (list_all is_printable) (ends_here none).0) ∙ bad.1))
   ending_fault none k (inr (inl fault)) = absurd (omega (arith, fault.0, (ends_here none).1))
   ending_fault none Unclosed (inr (inr (last, inl some))) = absurd (some (ends_here none).0)

@@ -9,6 +9,7 @@ pub mod InSections
 pub mod BetweenSections
 pub mod Begins
 pub mod Counted
+pub mod Faultless
 pub mod Parsed
 pub mod Examples
 pub mod Firsts

@@ -333,8 +333,8 @@ fn too_many_entries(values: &[u32]) -> bool
     }
 }
 
-/// The first fault of the text, if it is that of no script. It takes no memory.
-pub fn check(text: &[u8]) -> Result<(), Fault>
+/// Checks a text up to its first fault.
+fn check(text: &[u8]) -> Result<(), Fault>
     ensures script { OnOk result ((s : ScriptView) × IsScript text.now s) }
     ensures first { IfErr result (λ f. IsFirstFault text.now f.kind f.line) }
 {
@@ -360,4 +360,16 @@ pub fn check(text: &[u8]) -> Result<(), Fault>
         });
     }
     Ok(())
+}
+
+/// The first fault of a text that is no script, and none of one that is. It takes no memory.
+pub fn first_fault(text: &[u8]) -> Option<Fault>
+    ensures script { IfNone result ((s : ScriptView) × IsScript text.now s) }
+    ensures none { IfSome result (λ _. (s : ScriptView) → ¬ IsScript text.now s) }
+    ensures first { IfSome result (λ f. IsFirstFault text.now f.kind f.line) }
+{
+    match check(text) {
+        Ok(()) => None,
+        Err(fault) => Some(fault),
+    }
 }

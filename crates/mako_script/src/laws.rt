@@ -6,7 +6,8 @@ ghost use Rattle.mako_script.specs.declared.fault.Kind.TheVariants.{Unclosed, Wo
 ghost use Rattle.mako_text.specs.Scripts.{ScriptView};
 ghost use Rattle.mako_text.specs.Forms.{IsAccepted};
 ghost use Rattle.mako_text.specs.Texts.{IsScript};
-ghost use Rattle.mako_script.specs.Faults.{IsFirstFault};
+ghost use Rattle.mako_script.specs.Faults.{HasFault, IsFirstFault};
+ghost use Rattle.mako_reader.specs.Reading.{lines_of};
 ghost use Rattle.mako_script.specs.Examples.{storing, storing_text, spaced_text};
 
 /// The text that makes an object, stores a number in it and gets it back is that of its script, and
@@ -39,4 +40,9 @@ pub fn an_empty_text_is_unclosed()
 /// That with a second space between two words has a wrong word at line 13.
 pub fn a_second_space_is_a_wrong_word()
     ensures { IsFirstFault spaced_text Word 13 }
+{}
+
+/// The text of a script has no fault.
+pub fn a_script_has_no_fault()
+    ensures { (text : List ℕ) → (s : ScriptView) → IsScript text s → (at : ℕ) → (kind : Kind) → ¬ HasFault (lines_of text) at kind }
 {}

@@ -7,7 +7,7 @@ ghost use Rattle.mako_text.specs.Forms.{IsAccepted, NeedsNoCycle};
 ghost use Rattle.mako_text.specs.ScriptFacts.{facts_of};
 ghost use Rattle.mako_script.specs.Answers.{IsFaultOrMemory, IsRefused, IsScriptOrMemory, TellsFault};
 
-use crate::check::{Fault, check};
+use crate::check::{Fault, first_fault};
 use crate::fault::{Kind, ScriptFault};
 use mako_reader::read_script;
 use mako_reader::refusal::Refusal;
@@ -19,9 +19,9 @@ fn fault(bytes: &[u8]) -> ScriptFault
     requires { (s : ScriptView) → ¬ IsScript bytes.now s }
     ensures { TellsFault bytes.now result }
 {
-    match check(bytes) {
-        Ok(()) => unreachable!(),
-        Err(Fault { kind, line }) => ScriptFault::Bad { kind, line },
+    match first_fault(bytes) {
+        None => unreachable!(),
+        Some(Fault { kind, line }) => ScriptFault::Bad { kind, line },
     }
 }
 
