@@ -19,7 +19,7 @@ use Rattle.mako_script.specs.States.{Between, Ends}
 use Rattle.mako_script.proofs.BetweenSections.{many_words}
 use Rattle.mako_script.proofs.Checked.{passes}
 use Rattle.mako_script.proofs.Counts.{before_is}
-use Rattle.mako_script.proofs.Spaced.{number_is}
+use Rattle.mako_script.proofs.GoodSettings.{number_is}
 
 pub are_settings : (lines : List (List ℕ)) (v : List ℕ) → HaveSettings lines v → length v ≡ 11 → AreSettings lines v
 are_settings lines v has count = record {

@@ -19,7 +19,7 @@ use Rattle.mako_shape.specs.Limits.{all_entries, max_entries}
 use Rattle.mako_reader.proofs.Splits.{split_some}
 use Rattle.mako_reader.proofs.Takes.{some_is}
 use Rattle.mako_reader.proofs.Loops.{key_at as key_in}
-use Rattle.mako_script.proofs.Spaced.{good_number, good_range, IsGood, not_in, not_between}
+use Rattle.mako_script.proofs.GoodSettings.{good_number, good_range, IsGood, not_in, not_between}
 
 abbrev second : List (List ℕ) → List ℕ
 second words = word_in words 1

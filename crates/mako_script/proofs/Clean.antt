@@ -21,7 +21,7 @@ use Rattle.mako_text.specs.Names.{is_name, name_of}
 use Rattle.mako_reader.specs.Reading.{◌>>=◌, arguments_at, call_of, command_at, command_named, define_at, defines, kinds_of, name_at, names_after, word_at}
 use Rattle.mako_script.proofs.Commands.{among_any, among_place, first_kind, not_placed}
 use Rattle.mako_reader.proofs.NameLists.{define_full, define_known, define_new}
-use Rattle.mako_script.proofs.Spaced.{number_is}
+use Rattle.mako_script.proofs.GoodSettings.{number_is}
 use Rattle.mako_reader.proofs.Takes.{Takes, TakesEach, arguments_take, bind_some, name_takes, some_is, word_takes}
 
 -- ---- what is read

@@ -1,7 +1,6 @@
 -- The text of a script has no fault: a check goes through its sections to the end.
 use Rattle.std.proofs.Common.{◌≡◌, ℕ, zero, suc, ◌+◌, ◌<◌, ◌≤◌, ◌⊎◌, inl, inr, ⊎_elim, Bool, true, false, true≢false, cond, leb, List, [], ◌∷◌, length, drop, Option, Some, None, refl, sym, ap, subst, ◌∙◌, arith, eq-or-lt_of_le}
 use Rattle.std.specs.Prelude.{slice_index}
-use Rattle.std.specs.Fmt.{decimal}
 use Rattle.std.specs.List.{list_all}
 use Rattle.std.specs.Str.{bytes_eq}
 use Rattle.std.proofs.lemmas.Bool.{cases_lt}
@@ -13,16 +12,16 @@ use Rattle.mako_shape.specs.Places.{total}
 use Rattle.mako_text.specs.Names.{board_name}
 use Rattle.mako_text.specs.Printed.{values_of}
 use Rattle.mako_text.specs.Programs.{ProgramView}
-use Rattle.mako_text.specs.Scripts.{IsProper, ScriptView}
-use Rattle.mako_text.specs.Texts.{IsScript, end_word, mutator_word, script_text}
+use Rattle.mako_text.specs.Scripts.{ScriptView}
+use Rattle.mako_text.specs.Texts.{IsScript, end_word, mutator_word}
 use Rattle.mako_reader.specs.Reading.{◌>>=◌, calls_at, command_at, is_end, lines_of, numbers_in, script_at, section_at, sections_at, settings_at, with_call, words_of}
 use Rattle.mako_text.specs.Keys.{keys}
 use Rattle.mako_reader.proofs.Again.{script_again, script_lines_ended, script_printable, script_setting}
 use Rattle.mako_reader.proofs.Spelled.{nothing_left}
 use Rattle.mako_reader.proofs.Takes.{bind_some, ended_some, some_is}
 use Rattle.mako_script.specs.declared.fault.Kind.{Kind}
-use Rattle.mako_script.specs.declared.fault.Kind.TheVariants.{NoMutator, Words}
-use Rattle.mako_script.specs.Checks.{HasSetting, HaveSettings, IsLine}
+use Rattle.mako_script.specs.declared.fault.Kind.TheVariants.{Words}
+use Rattle.mako_script.specs.Checks.{HaveSettings, IsLine}
 use Rattle.mako_script.specs.Faults.{HasFault, is_printable}
 use Rattle.mako_script.specs.Lines.{line_in, words_at, sections_before}
 use Rattle.mako_script.specs.States.{Between, Inside}

@@ -28,7 +28,7 @@ use Rattle.mako_script.proofs.Checked.{IsNth, cut_is, nth_line}
 use Rattle.mako_script.proofs.Clean.{CommandLine, among_at, comes, grows, known_after, line_from, no_fault, stay_apart, stay_few}
 use Rattle.mako_script.proofs.Commands.{among_any, among_place, turned}
 use Rattle.mako_script.proofs.Counts.{clean_more, counted_no, counted_yes, first_here, of_line}
-use Rattle.mako_script.proofs.Spaced.{number_is}
+use Rattle.mako_script.proofs.GoodSettings.{number_is}
 
 -- ---- lines of no command
 

@@ -1,4 +1,4 @@
-pub mod Spaced
+pub mod GoodSettings
 pub mod Checked
 pub mod Commands
 pub mod FirstArguments
@@ -10,6 +10,7 @@ pub mod BetweenSections
 pub mod Begins
 pub mod Counted
 pub mod Faultless
+pub mod Worked
 pub mod Parsed
 pub mod Examples
 pub mod Firsts
