@@ -1,12 +1,13 @@
 -- What is spelled so is read again.
-use Rattle.std.proofs.Common.{◌≡◌, ℕ, zero, suc, ◌+◌, ◌^◌, ◌<◌, ◌≤◌, max, true, false, ltb, leb, eqb, ◌||◌, List, [], ◌∷◌, ◌++◌, length, map, take, Option, Some, None, refl, sym, ap, subst, ◌∙◌, append_assoc, arith, ⊎_elim, sum_by}
+use Rattle.std.proofs.Common.{◌≡◌, ℕ, zero, suc, ◌+◌, ◌^◌, ◌<◌, ◌≤◌, max, Bool, true, false, ltb, leb, eqb, ◌||◌, ◌&&◌, get_or, List, [], ◌∷◌, ◌++◌, length, map, take, Option, Some, None, refl, sym, ap, subst, ◌∙◌, append_assoc, arith, ⊎_elim, sum_by}
 use Rattle.std.specs.Prelude.{is_some, codes}
 use Rattle.std.specs.Fmt.{decimal}
 use Rattle.std.specs.Str.{bytes_eq, all_ascii_digits}
 use Rattle.std.specs.List.{join_with_byte, flat_map, AllByRecursion, list_all, slice_split}
 use Rattle.std.proofs.lemmas.Bool.{cases_lt}
 use Rattle.std.proofs.lemmas.Bool.Decides.{nat_tests}
-use Rattle.std.proofs.lemmas.List.{take_more, get_or-take, length-take-le, take_all, map-append}
+use Rattle.std.proofs.lemmas.List.Folds.{list_all-append}
+use Rattle.std.proofs.lemmas.List.{length-append, length-map, take_more, get_or-take, length-take-le, take_all, map-append}
 use Rattle.std.proofs.lemmas.List.Sums.{sum_by-cons}
 use Rattle.std.proofs.lemmas.List.Elements.{All-from_recursion}
 use Rattle.std.proofs.lemmas.List.Splits.{slice_split_none, slice_split_at}
@@ -35,10 +36,14 @@ use Rattle.mako_reader.proofs.Spelled.{named_text, lines_from}
 abbrev Without : ℕ → List ℕ → Type 0
 Without c = AllByRecursion (λ x. eqb x c ≡ false)
 
--- a word has neither spaces nor line feeds
+abbrev pub is_printable : ℕ → Bool
+is_printable c = leb 32 c && leb c 126
+
+-- a word has neither spaces nor line feeds, and is printable
 pub record IsWord (w : List ℕ) : Type 0 where
   pub spaces : Without 32 w
   pub feeds : Without 10 w
+  pub printable : list_all is_printable w ≡ true
 
 without-append : (c : ℕ) (xs ys : List ℕ) → Without c xs → Without c ys → Without c (xs ++ ys)
 without-append c [] ys a b = b
@@ -64,22 +69,48 @@ lines_again (l ∷ lines) h =
     ∙ slice_split_at (λ (b : ℕ). eqb b 10) (join_with_byte 32 l) 10 (flat_map line_text lines) (All-from_recursion (λ x. eqb x 10 ≡ false) (join_with_byte 32 l) (no_feeds l h.0)) refl
     ∙ ap (λ (t : List (List ℕ)). join_with_byte 32 l ∷ t) (lines_again lines h.1)
 
+printable_from : (c : ℕ) → 48 ≤ c → c ≤ 126 → is_printable c ≡ true
+printable_from c low high = grind (arith, nat_tests)
+
+-- the lines of words are printable, and so is the piece behind them
+joined_printable : (words : List (List ℕ)) → AllByRecursion IsWord words → list_all is_printable (join_with_byte 32 words) ≡ true
+joined_printable [] h = refl
+joined_printable (w ∷ []) h = h.0.printable
+joined_printable (w ∷ v ∷ ws) h =
+    list_all-append is_printable w (32 ∷ join_with_byte 32 (v ∷ ws)) ∙ (λ i. h.0.printable i && joined_printable (v ∷ ws) h.1 i)
+
+pub lines_printable : (lines : List (List (List ℕ))) → AllByRecursion (AllByRecursion IsWord) lines → (at : ℕ) → list_all is_printable (get_or (lines_from lines ++ [] ∷ []) at []) ≡ true
+lines_printable [] h zero = refl
+lines_printable [] h (suc at) = refl
+lines_printable (l ∷ lines) h zero = joined_printable l h.0
+lines_printable (l ∷ lines) h (suc at) = lines_printable lines h.1 at
+
 digits_word : (w : List ℕ) → all_ascii_digits w ≡ true → IsWord w
-digits_word [] h = record { spaces = tt; feeds = tt }
+digits_word [] h = record { spaces = tt; feeds = tt; printable = refl }
 digits_word (c ∷ cs) h =
     let rest = digits_word cs (grind (arith, nat_tests)) in
     let digit : 48 ≤ c = grind (arith, nat_tests) in
-    record { spaces = (grind (arith, nat_tests, digit), rest.spaces); feeds = (grind (arith, nat_tests, digit), rest.feeds) }
+    let small : c ≤ 57 = grind (arith, nat_tests) in
+    record {
+      spaces = (grind (arith, nat_tests, digit), rest.spaces);
+      feeds = (grind (arith, nat_tests, digit), rest.feeds);
+      printable = (λ i. printable_from c digit (omega (arith, small)) i && rest.printable i);
+    }
 
 pub decimal_word : (n : ℕ) → n < 2 ^ 32 → IsWord (decimal n)
 decimal_word n small = digits_word (decimal n) (digits_decimal own n (omega arith))
 
 letters_word : (w : List ℕ) → list_all is_letter_or_digit w ≡ true → IsWord w
-letters_word [] h = record { spaces = tt; feeds = tt }
+letters_word [] h = record { spaces = tt; feeds = tt; printable = refl }
 letters_word (c ∷ cs) h =
     let rest = letters_word cs (grind (arith, nat_tests)) in
     let letter : 48 ≤ c = grind (arith, nat_tests) in
-    record { spaces = (grind (arith, nat_tests, letter), rest.spaces); feeds = (grind (arith, nat_tests, letter), rest.feeds) }
+    let small : c ≤ 122 = grind (arith, nat_tests) in
+    record {
+      spaces = (grind (arith, nat_tests, letter), rest.spaces);
+      feeds = (grind (arith, nat_tests, letter), rest.feeds);
+      printable = (λ i. printable_from c letter (omega (arith, small)) i && rest.printable i);
+    }
 
 pub name_word : (w : List ℕ) → is_name w ≡ true → IsWord w
 unfolding is_name
@@ -346,6 +377,28 @@ setting_words_ok [] (v ∷ vs) h = absurd h
 setting_words_ok (key ∷ table) [] h = absurd h
 setting_words_ok (key ∷ table) (v ∷ vs) h = ((h.0, (decimal_word v h.3, tt)), setting_words_ok table vs h.4)
 
+abbrev no_key : List ℕ × (ℕ × ℕ)
+no_key = ([], (0, 0))
+
+-- the words of each setting's line, and its number
+settings_line : (table : List (List ℕ × (ℕ × ℕ))) (vs : List ℕ) (more : List (List (List ℕ))) → InRanges table vs → (at : ℕ) → at < length table
+    → (get_or (setting_lines table vs ++ more) at [] ≡ (get_or table at no_key).0 ∷ decimal (get_or vs at 0) ∷ [])
+    × ((get_or table at no_key).1.0 ≤ get_or vs at 0) × (get_or vs at 0 ≤ (get_or table at no_key).1.1) × (get_or vs at 0 < 2 ^ 32)
+settings_line [] [] more h at below = absurd (omega arith)
+settings_line [] (v ∷ vs) more h at below = absurd h
+settings_line (key ∷ table) [] more h at below = absurd h
+settings_line (key ∷ table) (v ∷ vs) more h zero below = (refl, h.1, h.2, h.3)
+settings_line (key ∷ table) (v ∷ vs) more h (suc at) below = settings_line table vs more h.4 at (omega arith)
+
+-- a line has its words again
+words_in : (lines : List (List (List ℕ))) → AllByRecursion (AllByRecursion IsWord) lines → (at : ℕ) (w : List ℕ) (ws : List (List ℕ)) → get_or lines at [] ≡ w ∷ ws
+    → words_of (get_or (lines_from lines ++ [] ∷ []) at []) ≡ w ∷ ws
+words_in [] h zero w ws e = absurd cc
+words_in [] h (suc at) w ws e = absurd cc
+words_in ([] ∷ lines) h zero w ws e = absurd cc
+words_in ((x ∷ xs) ∷ lines) h zero w ws e = words_again x xs h.0 ∙ e
+words_in (l ∷ lines) h (suc at) w ws e = words_in lines h.1 at w ws e
+
 -- ---- scripts
 
 -- the numbers of a script's settings
@@ -431,11 +484,44 @@ sections_words roots (p ∷ ps) h =
     ((letters_word mutator_word refl, tt), calls_words p.names h.0.names 1 p.calls (omega (arith, h.0.names.some)) h.0.calls)
     (sections_words roots ps h.1)
 
+script_words : (s : ScriptView) → IsProper s → AllByRecursion (AllByRecursion IsWord) (script_lines s)
+script_words s proper =
+    all-append (AllByRecursion IsWord) (setting_lines keys (values_of s)) (flat_map section_lines s.programs)
+    (setting_words_ok keys (values_of s) (in_ranges s proper)) (sections_words s.numbers.roots s.programs proper.programs)
+
+-- each line of a script's text is printable
+pub script_printable : (s : ScriptView) → IsProper s → (at : ℕ) → list_all is_printable (get_or (lines_of (script_text s)) at []) ≡ true
+unfolding script_text
+script_printable s proper at =
+    ap (λ (ls : List (List ℕ)). list_all is_printable (get_or ls at [])) (lines_again (script_lines s) (script_words s proper)) ∙ lines_printable (script_lines s) (script_words s proper) at
+
+-- the line of a setting has its key and its number
+pub script_setting : (s : ScriptView) → IsProper s → (at : ℕ) → at < 11
+    → (words_of (get_or (lines_of (script_text s)) at []) ≡ (get_or keys at no_key).0 ∷ decimal (get_or (values_of s) at 0) ∷ [])
+    × ((get_or keys at no_key).1.0 ≤ get_or (values_of s) at 0) × (get_or (values_of s) at 0 ≤ (get_or keys at no_key).1.1) × (get_or (values_of s) at 0 < 2 ^ 32)
+unfolding script_text
+script_setting s proper at below =
+    let line = settings_line keys (values_of s) (flat_map section_lines s.programs) (in_ranges s proper) at below in
+    let words = words_in (script_lines s) (script_words s proper) at (get_or keys at no_key).0 (decimal (get_or (values_of s) at 0) ∷ []) line.0 in
+    (ap (λ (ls : List (List ℕ)). words_of (get_or ls at [])) (lines_again (script_lines s) (script_words s proper)) ∙ words, line.1, line.2, line.3)
+
+-- more lines are ended than the settings have
+pub script_lines_ended : (s : ScriptView) → IsProper s → 11 < length (lines_of (script_text s))
+unfolding script_text
+script_lines_ended s proper =
+    omega (
+      arith,
+      ap length (lines_again (script_lines s) (script_words s proper)),
+      length-append (lines_from (script_lines s)) ([] ∷ []),
+      length-map (script_lines s) (join_with_byte 32),
+      length-append (setting_lines keys (values_of s)) (flat_map section_lines s.programs),
+    )
+
 pub script_again : (s : ScriptView) → IsProper s → script_at (lines_of (script_text s)) ≡ Some (values_of s, s.programs)
 unfolding script_at script_text
 script_again s proper =
     let ranges = in_ranges s proper in
-    let words = all-append (AllByRecursion IsWord) (setting_lines keys (values_of s)) (flat_map section_lines s.programs) (setting_words_ok keys (values_of s) ranges) (sections_words s.numbers.roots s.programs proper.programs) in
+    let words = script_words s proper in
     let lines : lines_of (flat_map line_text (script_lines s)) ≡ lines_from (setting_lines keys (values_of s)) ++ (lines_from (flat_map section_lines s.programs) ++ [] ∷ []) =
     lines_again (script_lines s) words
     ∙ ap (λ (t : List (List ℕ)). t ++ [] ∷ []) (map-append (join_with_byte 32) (setting_lines keys (values_of s)) (flat_map section_lines s.programs))

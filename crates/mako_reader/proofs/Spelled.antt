@@ -377,7 +377,7 @@ section_takes roots count lines p rest e some room =
         at zero below = refl
         at (suc root) below = absurd (omega arith)
 
-nothing_left : (lines : List (List ℕ)) → is_end lines ≡ true → lines ≡ [] ∷ []
+pub nothing_left : (lines : List (List ℕ)) → is_end lines ≡ true → lines ≡ [] ∷ []
 nothing_left [] e = absurd cc
 nothing_left ([] ∷ []) e = refl
 nothing_left ([] ∷ l ∷ ls) e = absurd cc

@@ -19,7 +19,7 @@ use Rattle.mako_shape.specs.Limits.{all_entries, max_entries}
 use Rattle.mako_reader.proofs.Splits.{split_some}
 use Rattle.mako_reader.proofs.Takes.{some_is}
 use Rattle.mako_reader.proofs.Loops.{key_at as key_in}
-use Rattle.mako_script.proofs.Spaced.{good_number, good_range, IsGood, not_in, not_between}
+use Rattle.mako_script.proofs.GoodSettings.{good_number, good_range, IsGood, not_in, not_between}
 
 abbrev second : List (List ℕ) → List ℕ
 second words = word_in words 1
@@ -67,7 +67,7 @@ have_more lines v n have has at below =
 
 -- ---- the faults of one line
 
-front : (lines : List (List ℕ)) (at : ℕ) → line_in (drop at lines) 0 ≡ line_in lines at
+pub front : (lines : List (List ℕ)) (at : ℕ) → line_in (drop at lines) 0 ≡ line_in lines at
 front lines at = let same : at + 0 ≡ at = omega arith in get_or-drop at lines 0 [] ∙ ap (line_in lines) same
 
 pub cut_is : (lines : List (List ℕ)) (at : ℕ) (kind : Kind) → at ≤ ended lines → IsCut (drop at lines) kind → SettingFault lines at kind
@@ -215,6 +215,14 @@ last_piece text none =
     let parts = split_some (λ (b : ℕ). eqb b 10) text in
     let one = last_line (lines_of text) none (omega (arith, ap length parts.2)) in
     (one, sym (one_joined (lines_of text) one) ∙ join_with_byte-slice_split 10 text)
+
+-- a text that is not empty has more than the piece behind the last line feed
+pub some_lines : (text : List ℕ) → eqb (length text) 0 ≡ false → lines_of text ≡ [] ∷ [] → ⊥
+unfolding lines_of
+some_lines text some same =
+    let none : text ≡ [] = sym (join_with_byte-slice_split 10 text) ∙ one_joined (lines_of text) (ap length same) ∙ ap (λ (ls : List (List ℕ)). line_in ls 0) same in
+    let zero : length text ≡ 0 = ap length none in
+    grind (arith, nat_tests)
 
 pub no_second : (words : List (List ℕ)) (w : List ℕ) (ws : List (List ℕ)) → words ≡ w ∷ ws → word_at ws ≡ None → (key word : List ℕ) → words ≡ key ∷ word ∷ [] → ⊥
 no_second words w [] e none key word f = let h : w ∷ [] ≡ key ∷ word ∷ [] = sym e ∙ f in absurd (omega (arith, ap length h))

@@ -4,7 +4,8 @@ use Rattle.std.specs.Prelude.{is_some}
 use Rattle.std.specs.Fmt.{decimal}
 use Rattle.std.specs.Str.{bytes_eq}
 use Rattle.std.proofs.lemmas.Bool.{cases_lt}
-use Rattle.std.proofs.lemmas.List.Folds.{list_any-append}
+use Rattle.std.proofs.lemmas.List.{get_or_append_left, get_or_push, length_push}
+use Rattle.std.proofs.lemmas.List.Folds.{list_any-append, list_any_at}
 use Rattle.std.proofs.lemmas.Slice.Eq.{bytes_eq-Decides}
 use Rattle.mako_model.specs.declared.call.Call.{Call}
 use Rattle.mako_reader.specs.declared.command.Argument.{Argument}
@@ -15,11 +16,12 @@ use Rattle.mako_script.specs.declared.fault.Kind.{Kind}
 use Rattle.mako_script.specs.declared.fault.Kind.TheVariants as faults
 use Rattle.mako_script.specs.CommandLines.{CommandFault, IsRead, is_among}
 use Rattle.mako_script.specs.Lines.{greatest, word_in, HasArgument, IsCommand}
-use Rattle.mako_text.specs.Names.{is_name}
+use Rattle.mako_script.specs.States.{AreApart}
+use Rattle.mako_text.specs.Names.{is_name, name_of}
 use Rattle.mako_reader.specs.Reading.{◌>>=◌, arguments_at, call_of, command_at, command_named, define_at, defines, kinds_of, name_at, names_after, word_at}
-use Rattle.mako_script.proofs.Commands.{among_place, first_kind, not_placed}
+use Rattle.mako_script.proofs.Commands.{among_any, among_place, first_kind, not_placed}
 use Rattle.mako_reader.proofs.NameLists.{define_full, define_known, define_new}
-use Rattle.mako_script.proofs.Spaced.{number_is}
+use Rattle.mako_script.proofs.GoodSettings.{number_is}
 use Rattle.mako_reader.proofs.Takes.{Takes, TakesEach, arguments_take, bind_some, name_takes, some_is, word_takes}
 
 -- ---- what is read
@@ -116,8 +118,23 @@ or_true : (b : Bool) → (b || (true || false)) ≡ true
 or_true true = refl
 or_true false = refl
 
+-- a name is among those of which it is one
+pub among_at : (names : List (List ℕ)) (a : ℕ) → a < length names → is_among names (name_of names a) ≡ true
+among_at names a below =
+    let here = (bytes_eq-Decides (name_of names a) (name_of names a)).1 refl in
+    among_any names (name_of names a) ∙ list_any_at (bytes_eq (name_of names a)) names a [] below here
+
+push_apart : (names : List (List ℕ)) (word : List ℕ) → AreApart names → is_among names word ≡ false → AreApart (names ++ word ∷ [])
+push_apart names word apart none a b less below same = elim (cases_lt b (length names)) [
+  | inl old ↦ apart a b less old (sym (get_or_append_left names (word ∷ []) [] a (omega arith)) ∙ same ∙ get_or_append_left names (word ∷ []) [] b old)
+  | inr new ↦ (
+      let last : length names ≡ b = omega (arith, below, length_push names word) in
+      let is = sym (get_or_append_left names (word ∷ []) [] a (omega (arith, less, last))) ∙ same ∙ get_or_push names word [] b last in
+      true≢false (sym (among_at names a (omega (arith, less, last))) ∙ ap (is_among names) is ∙ none))
+]
+
 module _ (roots : ℕ) (names words after : List (List ℕ)) (line : CommandLine roots names words after) where
-  is_command : IsCommand words line.command
+  pub is_command : IsCommand words line.command
   is_command = record {
     named = ap (λ (t : List (List ℕ)). command_named (word_in t 0)) line.words_are ∙ line.named;
     count = omega (arith, ap length line.words_are, length_taken names (kinds_of line.command) line.behind line.values line.each);
@@ -186,14 +203,14 @@ module _ (roots : ℕ) (names words after : List (List ℕ)) (line : CommandLine
   abbrev NamesAfter : Type 0
   NamesAfter =
       ((after ≡ names) × (defines line.command ≡ true → is_among names (word_in line.behind 0) ≡ true))
-      ⊎ ((defines line.command ≡ true) × (after ≡ names ++ word_in line.behind 0 ∷ []))
+      ⊎ ((defines line.command ≡ true) × (after ≡ names ++ word_in line.behind 0 ∷ []) × (is_among names (word_in line.behind 0) ≡ false) × (length names < roots))
 
   names_are : NamesAfter
   names_are = by (defines line.command) refl
     where
-      room : (w : List ℕ) → define_at roots names w ≡ Some after → is_among names w ≡ false → after ≡ names ++ w ∷ []
+      room : (w : List ℕ) → define_at roots names w ≡ Some after → is_among names w ≡ false → (after ≡ names ++ w ∷ []) × (length names < roots)
       room w made none = elim (cases_lt (length names) roots) [
-        | inl below ↦ sym (some_is (names ++ w ∷ []) after (sym (define_new roots names w (not_placed names w none) below) ∙ made))
+        | inl below ↦ (sym (some_is (names ++ w ∷ []) after (sym (define_new roots names w (not_placed names w none) below) ∙ made)), below)
         | inr full ↦ absurd (let no : None ≡ Some after = sym (define_full roots names w (not_placed names w none) full) ∙ made in cc)
       ]
 
@@ -204,7 +221,7 @@ module _ (roots : ℕ) (names words after : List (List ℕ)) (line : CommandLine
 
       defined : defines line.command ≡ true → (b : Bool) → is_among names (word_in line.behind 0) ≡ b → NamesAfter
       defined some true known = inl (same some known, λ e. known)
-      defined some false none = inr (some, room (word_in line.behind 0) (defined_so some) none)
+      defined some false none = let made = room (word_in line.behind 0) (defined_so some) none in inr (some, made.0, none, made.1)
 
       by : (b : Bool) → defines line.command ≡ b → NamesAfter
       by true some = defined some (is_among names (word_in line.behind 0)) refl
@@ -243,3 +260,16 @@ module _ (roots : ℕ) (names words after : List (List ℕ)) (line : CommandLine
       by some false true known same e =
           inr (subst (HasArgument words arguments.Defined) ((bytes_eq-Decides (word_in line.behind 0) name).0 same) (defines_it some))
       by some false false known same e = absurd cc
+
+  -- names that are apart and few stay so
+  pub stay_apart : AreApart names → AreApart after
+  stay_apart apart = elim names_are [
+    | inl same ↦ subst AreApart (sym same.0) apart
+    | inr new ↦ subst AreApart (sym new.1) (push_apart names (word_in line.behind 0) apart new.2)
+  ]
+
+  pub stay_few : length names ≤ roots → length after ≤ roots
+  stay_few few = elim names_are [
+    | inl same ↦ omega (arith, ap length same.0, few)
+    | inr new ↦ omega (arith, ap length new.1, length_push names (word_in line.behind 0), new.3)
+  ]

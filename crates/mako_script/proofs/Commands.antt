@@ -27,7 +27,7 @@ any_of_map t f (x ∷ xs) = ap (λ (b : Bool). t (f x) || b) (any_of_map t f xs)
 pub among_all : {X : Type 0} (f : X → List ℕ) (xs : List X) (word : List ℕ) → list_any (λ x. bytes_eq (f x) word) xs ≡ is_among (map f xs) word
 among_all f xs word = sym (any_of_map (λ (name : List ℕ). bytes_eq name word) f xs)
 
-turned : (word name : List ℕ) → bytes_eq name word ≡ bytes_eq word name
+pub turned : (word name : List ℕ) → bytes_eq name word ≡ bytes_eq word name
 turned word name =
     one_answer (bytes_eq name word) (bytes_eq word name) (bytes_eq-Decides name word)
     (λ e. sym ((bytes_eq-Decides word name).0 e), λ same. (bytes_eq-Decides word name).1 (sym same))

@@ -10,7 +10,7 @@ use Rattle.mako_script.specs.Checks.{IsValue}
 use Rattle.mako_script.specs.CommandLines.{AreArguments, ArgumentFault, IsArgument, IsLeastFault, is_among, told_first}
 use Rattle.mako_script.specs.Faults.{rank}
 use Rattle.mako_script.specs.Lines.{word_in}
-use Rattle.mako_script.proofs.Spaced.{number_is}
+use Rattle.mako_script.proofs.GoodSettings.{number_is}
 use Rattle.mako_reader.proofs.Takes.{some_is}
 
 -- ---- one word

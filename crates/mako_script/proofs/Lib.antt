@@ -1,10 +1,16 @@
-pub mod Spaced
+pub mod GoodSettings
 pub mod Checked
 pub mod Commands
 pub mod FirstArguments
 pub mod Clean
 pub mod FirstOfCommand
+pub mod Counts
+pub mod InSections
+pub mod BetweenSections
+pub mod Begins
 pub mod Counted
+pub mod Faultless
+pub mod Worked
 pub mod Parsed
 pub mod Examples
 pub mod Firsts

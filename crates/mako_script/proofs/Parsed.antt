@@ -5,7 +5,7 @@ use Rattle.mako_script.specs.declared.fault.Kind.{Kind}
 use Rattle.mako_script.specs.declared.fault.Kind.TheVariants.{Form}
 use Rattle.mako_script.specs.declared.fault.ScriptFault.{ScriptFault}
 use Rattle.mako_script.specs.declared.fault.ScriptFault.TheVariants.{Bad, Memory}
-use Rattle.mako_script.specs.Answers.{IsRefused, IsScriptOrMemory}
+use Rattle.mako_script.specs.Answers.{IsFaultOrMemory, IsRefused, IsScriptOrMemory, TellsFault}
 use Rattle.mako_text.specs.Forms.{IsAccepted, NeedsNoCycle}
 use Rattle.mako_text.specs.ScriptFacts.{facts_of}
 use Rattle.mako_reader.specs.Reading.{Reads, lines_of}
@@ -37,3 +37,7 @@ refused_is text s (Ok u) is a kind line e = absurd cc
 refused_is text s (Err f) is a kind line e =
     let form : f ≡ Bad Form 0 = a.0 in
     inr (cc, cc, (s, is, λ accepted. a.1 accepted.form))
+
+pub told_first : (text : List ℕ) (fault : ScriptFault) → TellsFault text fault → IsFaultOrMemory text (Err fault)
+told_first text (Bad kind line) told = told
+told_first text Memory told = tt

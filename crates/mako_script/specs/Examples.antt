@@ -1,5 +1,6 @@
--- A worked script with its text, and a text of none.
-use Rattle.std.specs.Prelude.{ℕ, List, [], ◌∷◌, ◌++◌, codes}
+-- A worked script with its text, and texts of none.
+use Rattle.std.specs.Prelude.{ℕ, List, [], ◌∷◌, ◌++◌, codes, replicate}
+use Rattle.std.specs.List.{concat}
 use Rattle.mako_model.specs.declared.call.Call.{Call}
 use Rattle.mako_model.specs.declared.call.Call.TheVariants.{New, Num, Get, Put}
 use Rattle.mako_text.specs.Programs.{ProgramView}
@@ -44,3 +45,19 @@ storing = record {
 -- the same with two spaces in a row before a number
 abbrev pub spaced_text : List ℕ
 spaced_text = header ++ codes "mutator\nnew a  1\nnum n 7\nput a 0 n\nget b a 0\nend\n"
+
+-- a text that ends with this in its section
+abbrev pub with_line : List ℕ → List ℕ
+with_line line = header ++ codes "mutator\n" ++ line
+
+-- the settings and 17 sections without commands
+abbrev pub many_sections_text : List ℕ
+many_sections_text = header ++ concat (replicate 17 (codes "mutator\nend\n"))
+
+-- settings with too many entries
+abbrev pub many_entries_text : List ℕ
+many_entries_text = codes "mako 1\nservers 8\ntablets 256\nentries 513\nwords 16\nspare 1\nring 2\nroots 4\ncycles 10\ngens 8\nboard 1\n"
+
+-- and a section behind settings with too many words
+abbrev pub many_words_text : List ℕ
+many_words_text = codes "mako 1\nservers 8\ntablets 7\nentries 9\nwords 65520\nspare 1\nring 2\nroots 11\ncycles 10\ngens 8\nboard 1\nmutator\nend\n"

@@ -1,9 +1,8 @@
 //! The first fault of a text that is no script.
 
-ghost use Rattle.std.specs.Prelude.{◌≡◌, ◌≢◌, List, Some, ◌≤◌, ◌<◌, ◌+◌, ◌∷◌, [], drop, length, map, min, option_map, IfErr, IfNone, IfOk, IfSome, IsSome, OnOk};
-ghost use Rattle.std.specs.Bool.{OnTrue};
+ghost use Rattle.std.specs.Prelude.{◌≡◌, ◌≢◌, List, Some, ◌≤◌, ◌<◌, ◌+◌, ◌∷◌, [], drop, length, map, min, option_map, IfErr, IfNone, IfOk, IfSome, IsSome, OnErr, OnOk, ℕ};
+ghost use Rattle.std.specs.Bool.{Decides};
 ghost use Rattle.std.specs.List.{list_all};
-ghost use Rattle.mako_script.specs.Answers.{IsFirstAmongSettings};
 ghost use Rattle.mako_script.specs.declared.fault.Kind.{Kind};
 ghost use Rattle.mako_script.specs.Checks.{HaveSettings, IsCut, IsLine, IsSettingLine, IsValue};
 ghost use Rattle.mako_script.specs.CommandLines.{AreArguments, ArgumentFault, CommandFault, IsArgument, IsFirstOfCommand, IsLeastFault, IsRead, is_among, told_first, with_name};
@@ -14,7 +13,8 @@ ghost use Rattle.mako_text.specs.Keys.{key_view, keys};
 ghost use Rattle.mako_reader.specs.Reading.{calls_at, lines_of, numbers_in, sections_at, words_behind, words_of};
 ghost use Rattle.mako_text.specs.Scripts.{ScriptView};
 ghost use Rattle.mako_text.specs.Texts.{IsScript};
-ghost use Rattle.mako_shape.specs.Limits.{all_entries, max_entries};
+ghost use Rattle.mako_script.specs.States.{Between, Ends, Inside};
+ghost use Rattle.mako_shape.specs.Limits.{AllInRange, all_entries, max_entries};
 
 use crate::fault::Kind;
 use arrayvec::ArrayVec;
@@ -63,6 +63,7 @@ impl<'a> Lines<'a> {
         ensures end { IfOk result (λ line. IfNone line (lines_of self.old.rest.now ≡ [] ∷ [])) }
         ensures read { IfOk result (λ line. IfSome line (λ l. IsLine (lines_of self.old.rest.now) l.now (lines_of self.new.rest.now))) }
         ensures fault { IfErr result (λ f. (f.line ≡ self.new.line) × IsCut (lines_of self.old.rest.now) f.kind) }
+        ensures some { OnErr result (lines_of self.old.rest.now ≢ [] ∷ []) }
         ensures shorter { IfOk result (λ line. IsSome line → length self.new.rest.now < length self.old.rest.now) }
     {
         self.line = self.line.saturating_add(1);
@@ -266,8 +267,10 @@ fn section(lines: &mut Lines, roots: usize, before: usize) -> Result<usize, Faul
     ensures shorter { IfOk result (λ _. length lines.new.rest.now < length lines.old.rest.now) }
     ensures read { IfOk result (λ count. (p : ProgramView) × (calls_at roots before (board_name ∷ []) (lines_of lines.old.rest.now) ≡ Some (p, lines_of lines.new.rest.now))
         × (count ≡ before + length p.calls)) }
-    ensures later { min (lines.old.line + 1) 4294967295 ≤ lines.new.line }
-    ensures fault { IfErr result (λ f. min (lines.old.line + 1) 4294967295 ≤ f.line) }
+    ensures ended { (text : List ℕ) (sections : ℕ) → Inside text roots sections before (board_name ∷ []) lines.old.line (lines_of lines.old.rest.now)
+        → IfOk result (λ count. Between text roots sections count lines.new.line (lines_of lines.new.rest.now)) }
+    ensures fault { (text : List ℕ) (sections : ℕ) → Inside text roots sections before (board_name ∷ []) lines.old.line (lines_of lines.old.rest.now)
+        → IfErr result (λ f. IsFirstFault text f.kind f.line) }
 {
     let mut names = Names::new();
     names.push(b"board".as_slice());
@@ -293,11 +296,11 @@ fn section(lines: &mut Lines, roots: usize, before: usize) -> Result<usize, Faul
 
 /// Checks all sections, and counts them.
 fn sections(lines: &mut Lines, roots: usize) -> Result<usize, Fault>
-    requires { roots ≤ 32 }
+    requires { (1 ≤ roots) × (roots ≤ 32) }
     ensures count { IfOk result (λ count. count ≤ 16) }
     ensures read { IfOk result (λ count. (ps : List ProgramView) × (sections_at 16 roots 0 (lines_of lines.old.rest.now) ≡ Some ps) × (count ≡ length ps)) }
-    ensures later { min (lines.old.line + 1) 4294967295 ≤ lines.new.line }
-    ensures fault { IfErr result (λ f. min (lines.old.line + 1) 4294967295 ≤ f.line) }
+    ensures ended { (text : List ℕ) → Between text roots 0 0 lines.old.line (lines_of lines.old.rest.now) → IfOk result (λ count. Ends text roots count lines.new.line) }
+    ensures fault { (text : List ℕ) → Between text roots 0 0 lines.old.line (lines_of lines.old.rest.now) → IfErr result (λ f. IsFirstFault text f.kind f.line) }
 {
     let mut sections = 0;
     let mut commands = 0;
@@ -318,20 +321,22 @@ fn sections(lines: &mut Lines, roots: usize) -> Result<usize, Fault>
 
 /// The fault of all settings together, in a geometry with one mutator.
 fn too_many_entries(values: &[u32]) -> bool
-    requires { length values.now ≡ 11 }
-    ensures { OnTrue result (max_entries < all_entries (numbers_in values.now 0)) }
+    requires count { length values.now ≡ 11 }
+    requires ranges { AllInRange (numbers_in values.now 1) }
+    ensures { Decides result (max_entries < all_entries (numbers_in values.now 0)) }
 {
     match Shape::new(numbers_of(values, 1)) {
+        Err(ShapeFault::OutOfRange(_)) => false,
         Err(ShapeFault::TooManyEntries) => true,
-        _ => false,
+        Err(ShapeFault::TooManyWords) => false,
+        Ok(_) => false,
     }
 }
 
-/// The first fault of the text, if it is that of no script. It takes no memory.
-pub fn check(text: &[u8]) -> Result<(), Fault>
+/// Checks a text up to its first fault.
+fn check(text: &[u8]) -> Result<(), Fault>
     ensures script { OnOk result ((s : ScriptView) × IsScript text.now s) }
-    ensures first { IfErr result (λ f. IsFirstAmongSettings text.now f.kind f.line) }
-    ensures line { IfErr result (λ f. 1 ≤ f.line) }
+    ensures first { IfErr result (λ f. IsFirstFault text.now f.kind f.line) }
 {
     let mut lines = Lines {
         rest: text,
@@ -355,4 +360,16 @@ pub fn check(text: &[u8]) -> Result<(), Fault>
         });
     }
     Ok(())
+}
+
+/// The first fault of a text that is no script, and none of one that is. It takes no memory.
+pub fn first_fault(text: &[u8]) -> Option<Fault>
+    ensures script { IfNone result ((s : ScriptView) × IsScript text.now s) }
+    ensures none { IfSome result (λ _. (s : ScriptView) → ¬ IsScript text.now s) }
+    ensures first { IfSome result (λ f. IsFirstFault text.now f.kind f.line) }
+{
+    match check(text) {
+        Ok(()) => None,
+        Err(fault) => Some(fault),
+    }
 }

@@ -6,6 +6,7 @@ mod fault;
 pub mod laws;
 mod reading;
 
+pub use check::{Fault, first_fault};
 pub use fault::{Kind, ScriptFault, fault_line};
 pub use mako_text::{Line, Program, Script, print, write_output, write_text};
 pub use reading::parse;

@@ -5,9 +5,9 @@ ghost use Rattle.mako_text.specs.Scripts.{IsProper, ScriptView};
 ghost use Rattle.mako_text.specs.Texts.{IsScript};
 ghost use Rattle.mako_text.specs.Forms.{IsAccepted, NeedsNoCycle};
 ghost use Rattle.mako_text.specs.ScriptFacts.{facts_of};
-ghost use Rattle.mako_script.specs.Answers.{IsRefused, IsScriptOrMemory, TellsFault};
+ghost use Rattle.mako_script.specs.Answers.{IsFaultOrMemory, IsRefused, IsScriptOrMemory, TellsFault};
 
-use crate::check::{Fault, check};
+use crate::check::{Fault, first_fault};
 use crate::fault::{Kind, ScriptFault};
 use mako_reader::read_script;
 use mako_reader::refusal::Refusal;
@@ -19,9 +19,9 @@ fn fault(bytes: &[u8]) -> ScriptFault
     requires { (s : ScriptView) → ¬ IsScript bytes.now s }
     ensures { TellsFault bytes.now result }
 {
-    match check(bytes) {
-        Ok(()) => unreachable!(),
-        Err(Fault { kind, line }) => ScriptFault::Bad { kind, line },
+    match first_fault(bytes) {
+        None => unreachable!(),
+        Some(Fault { kind, line }) => ScriptFault::Bad { kind, line },
     }
 }
 
@@ -51,6 +51,7 @@ pub fn parse(alloc: Global, bytes: &[u8]) -> Result<Script, ScriptFault>
     ensures accepted { IfOk result (λ s. NeedsNoCycle (facts_of s)) }
     ensures only { (s : ScriptView) → IsAccepted s → IsScript bytes.now s → IsScriptOrMemory s result }
     ensures refused { (kind : Kind) (line : ℕ) → result ≡ Err (ScriptFault.Bad kind line) → IsRefused bytes.now kind line }
+    ensures first { ((s : ScriptView) → ¬ IsScript bytes.now s) → IsFaultOrMemory bytes.now result }
 {
     match read_script(alloc, bytes) {
         Ok(script) => accepted(script),

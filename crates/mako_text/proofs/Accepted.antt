@@ -1,5 +1,5 @@
 -- The form that is accepted, by sums and tests over all programs, and what is read as a proper script.
-use Rattle.std.proofs.Common.{◌≡◌, ℕ, suc, ◌+◌, ◌≤◌, ◌<◌, ◌⊎◌, inl, inr, Bool, true, false, true≢false, cond, leb, ◌||◌, List, [], ◌∷◌, length, map, slice_get, Some, sym, ap, ◌∙◌, refl, arith, count_by, sum_by}
+use Rattle.std.proofs.Common.{◌≡◌, ℕ, suc, ◌+◌, ◌≤◌, ◌<◌, ◌⊎◌, inl, inr, Bool, true, false, true≢false, cond, leb, ◌||◌, List, [], ◌∷◌, map, slice_get, Some, sym, ap, ◌∙◌, refl, arith, count_by, sum_by}
 use Rattle.std.specs.Bool.{Decides}
 use Rattle.std.specs.List.{flat_map, list_any}
 use Rattle.std.proofs.lemmas.Bool.Decides.{nat_tests}
@@ -9,9 +9,8 @@ use Rattle.std.proofs.lemmas.Option.{slice_get_within, get_or_from_slice_get}
 use Rattle.mako_model.specs.declared.call.Call.{Call}
 use Rattle.mako_model.specs.declared.call.Call.TheVariants.{New, Num, CopyRoot, DropRoot, Get, Put, Show, Collect}
 use Rattle.mako_shape.specs.declared.numbers.Numbers.{Numbers}
-use Rattle.mako_shape.specs.Limits.{IsShape}
 use Rattle.mako_text.specs.Programs.{ProgramView}
-use Rattle.mako_text.specs.Scripts.{ScriptView, IsProper}
+use Rattle.mako_text.specs.Scripts.{ScriptView}
 use Rattle.mako_text.specs.ScriptFacts.{facts_of}
 use Rattle.mako_text.specs.Forms.{is_collect, is_new, record_words, HasAmpleRoom, NeedsNoCycle}
 

@@ -1,5 +1,7 @@
-use Rattle.std.proofs.Common.{◌≤◌, length, map}
+use Rattle.std.proofs.Common.{◌≤◌, ◌∷◌, [], List, ℕ, length, map}
+use Rattle.mako_text.specs.Names.{board_name}
 use Rattle.mako_reader.specs.Reading.{lines_of}
+use Rattle.mako_script.specs.States.{Inside}
 use Rattle.mako_script.proofs.Counted.{CallsSoFar}
 use Rattle.mako_script.proofs.check.section.Given as goal
 
@@ -7,8 +9,9 @@ abbrev pub invariant-commands : goal.invariant-commands
 invariant-commands l = record {
   few : length l.names.items ≤ 32;
   left : length l.lines.rest.now ≤ length l.initial.lines.rest.now;
-  line : l.initial.lines.line ≤ l.lines.line;
   read : CallsSoFar l.roots l.before l.commands (map (λ name. name.now) l.names.items) (lines_of l.initial.lines.rest.now) (lines_of l.lines.rest.now);
+  inside : (text : List ℕ) (sections : ℕ) → Inside text l.roots sections l.before (board_name ∷ []) l.initial.lines.line (lines_of l.initial.lines.rest.now)
+      → Inside text l.roots sections l.commands (map (λ name. name.now) l.names.items) l.lines.line (lines_of l.lines.rest.now);
 }
 
 abbrev pub decreases-commands : goal.decreases-commands

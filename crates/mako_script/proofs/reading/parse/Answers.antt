@@ -3,7 +3,7 @@ use Rattle.mako_script.specs.declared.fault.ScriptFault.TheVariants.{Bad}
 use Rattle.mako_script.specs.Answers.{TellsFault}
 use Rattle.mako_reader.proofs.Spelled.{is_script}
 use Rattle.mako_reader.proofs.Again.{no_script}
-use Rattle.mako_script.proofs.Parsed.{accepts, ok_is, only_is, refused_is}
+use Rattle.mako_script.proofs.Parsed.{accepts, ok_is, only_is, refused_is, told_first}
 use Rattle.mako_script.proofs.reading.parse.Goals as goal
 
 pub returns-in-Ok-clause-ok : goal.returns-in-Ok-clause-ok
@@ -31,4 +31,12 @@ pub returns-in-Err-Bad-clause-refused : goal.returns-in-Err-Bad-clause-refused
 returns-in-Err-Bad-clause-refused c = λ kind line e.
     let same : c.fault.result ≡ Bad kind line = cc in
     let told = subst (TellsFault c.args.bytes.now) same c.fault.ensures in
-    inl (no_script c.args.bytes.now (c.in-Err-Bad.ensures.bad (ap Err c.in-Err-Bad.field-0-is)), told.0, told.1)
+    inl (no_script c.args.bytes.now (c.in-Err-Bad.ensures.bad (ap Err c.in-Err-Bad.field-0-is)), told)
+
+pub returns-in-Ok-clause-first : goal.returns-in-Ok-clause-first
+returns-in-Ok-clause-first c = λ none.
+    let s = c.in-Ok.script in
+    absurd (none s (is_script c.args.bytes.now s c.accepted.ensures.proper c.in-Ok.ensures.read))
+
+pub returns-in-Err-Bad-clause-first : goal.returns-in-Err-Bad-clause-first
+returns-in-Err-Bad-clause-first c = λ none. told_first c.args.bytes.now c.fault.result c.fault.ensures

@@ -4,7 +4,7 @@ use Rattle.mako_reader.specs.declared.refusal.Refusal.{Refusal}
 use Rattle.mako_script.specs.Checks.{IsCut}
 use Rattle.mako_script.specs.Faults.{is_printable}
 use Rattle.mako_reader.specs.Reading.{Refuses, lines_of, line_at}
-use Rattle.mako_script.proofs.Checked.{no_lines, first_line, last_piece}
+use Rattle.mako_script.proofs.Checked.{no_lines, first_line, last_piece, some_lines}
 use Rattle.mako_script.proofs.check.Lines.next.Goals as goal
 use Rattle.mako_script.proofs.check.Lines.next.Goals.{in_default-via-in-Ok+else-is_printable, in_default-via-in-Err+else-is_printable-2}
 
@@ -30,3 +30,9 @@ returns-in_default-clause-fault c =
             ap (list_all is_printable) (last_piece rest none).1 ∙ sym w.if-is_printable-2.ensures)
       ]),
     )
+
+pub returns-in-Err-clause-some : goal.returns-in-Err-clause-some
+returns-in-Err-clause-some c = some_lines c.args.self.now.rest.now (sym c.is_empty.ensures ∙ c.if-is_empty.false)
+
+pub returns-in_default-clause-some : goal.returns-in_default-clause-some
+returns-in_default-clause-some c = some_lines c.args.self.now.rest.now (sym c.is_empty.ensures ∙ c.if-is_empty.false)
