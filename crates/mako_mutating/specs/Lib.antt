@@ -1,0 +1,4 @@
+pub mod MutatorFacets
+pub mod Mutators
+pub mod Laws
+pub mod Beside
