@@ -1,0 +1,3 @@
+pub mod Makings
+pub mod Stages
+pub mod Going
