@@ -1,0 +1,9 @@
+pub mod Choosing
+pub mod Facets
+pub mod Findings
+pub mod Keeping
+pub mod Laws
+pub mod Opening
+pub mod Roles
+pub mod Steps
+pub mod Ties
