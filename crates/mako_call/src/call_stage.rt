@@ -1,10 +1,15 @@
 //! The stages of an attempt, in groups.
 
 ghost use Rattle.std.specs.Prelude.{◌≡◌};
+ghost use Rattle.mako_words.specs.Gates.{is_shut};
+ghost use Rattle.mako_call.specs.Agreeing.{Arrives, StageOf};
+ghost use Rattle.mako_call.specs.Callers.{IsCaller};
 ghost use Rattle.mako_call.specs.Calls as calls;
+ghost use Rattle.mako_call.specs.Calls.{StageIsKnown, StageFits};
 
 use crate::allocating::AllocStage;
 use crate::asking::AskStage;
+use crate::caller::Caller;
 use crate::entering::EnterStage;
 use crate::getting::GetStage;
 use crate::leaving::LeaveStage;
@@ -12,7 +17,8 @@ use crate::moving::MoveStage;
 use crate::object::{Errand, Get, Located, Put};
 use crate::putting::PutStage;
 use crate::rooting::RootStage;
-use mako_model::{Attempt, Reply};
+use mako_model::{Attempt, Call, Reply};
+use mako_words::GateWord;
 
 /// Where an attempt of a call stands.
 #[derive(Clone, Copy)]
@@ -58,5 +64,65 @@ impl CallStage {
             | CallStage::Ended(Attempt::Answer(reply)) => Some(reply),
             _ => None,
         }
+    }
+
+    /// Goes where the step leads that found this word, and writes only what changes.
+    pub(crate) fn feed(&mut self, caller: &Caller, call: Call, last: bool, slot: u32, before: u64)
+        requires caller { IsCaller caller.now }
+        requires known { StageIsKnown caller.now self.old }
+        requires agrees { StageOf caller.now.shape call self.old }
+        requires fits { StageFits caller.now.shape self.old before }
+        ensures { self.new ≡ calls.stage_fed caller.now call last slot self.old before }
+    {
+        match self {
+            CallStage::Arriving => *self = arrived(call, before),
+            CallStage::Rooting(stage) => *self = stage.fed(caller, before),
+            CallStage::Entering(_, _) => self.feed_entering(caller, before),
+            CallStage::Moving(_, _) => self.feed_moving(caller, before),
+            CallStage::Getting(_, _, _) => self.feed_getting(caller, before),
+            CallStage::Putting(_, _, _) => self.feed_putting(caller, slot, before),
+            CallStage::Allocating(_) => self.feed_allocating(caller, before),
+            CallStage::Asking(stage) => *self = stage.fed(&caller.shape, before),
+            CallStage::Leaving(_) => self.feed_leaving(last),
+            CallStage::Ended(_) => {}
+        }
+    }
+}
+
+/// It is admitted at the own gate, or turned away there.
+fn arrived(call: Call, before: u64) -> CallStage
+    requires { Arrives call }
+    ensures { result ≡ calls.arrived call before (is_shut before) }
+{
+    if before >= GateWord::SHUT {
+        CallStage::Leaving(LeaveStage::Refused(before))
+    } else {
+        admitted(call)
+    }
+}
+
+/// What a call does once it is admitted at the own gate.
+fn admitted(call: Call) -> CallStage
+    requires { Arrives call }
+    ensures { result ≡ calls.admitted call }
+{
+    match call {
+        Call::New { root, fields } => {
+            CallStage::Allocating(AllocStage::LoadingPhase { root, fields })
+        }
+        Call::Num { root, value } => {
+            let number = value;
+            CallStage::Rooting(RootStage::StoringNumber { root, number })
+        }
+        Call::CopyRoot { to, from } => { CallStage::Rooting(RootStage::LoadingCopied { to, from }) }
+        Call::DropRoot { root } => CallStage::Rooting(RootStage::StoringNull { root }),
+        Call::Get { to, from, field } => {
+            CallStage::Rooting(RootStage::LoadingSource { to, from, field })
+        }
+        Call::Put { to, field, from } => {
+            CallStage::Rooting(RootStage::LoadingTarget { to, field, from })
+        }
+        Call::Show { root } => CallStage::Rooting(RootStage::LoadingShown { root }),
+        Call::Collect => unreachable!(),
     }
 }

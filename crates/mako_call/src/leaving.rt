@@ -39,21 +39,31 @@ impl LeaveStage {
             }
         }
     }
+}
 
-    /// Where it stands after the step, for a last attempt or another.
-    pub(crate) fn fed(self, last: bool) -> CallStage
-        ensures { result ≡ leave_fed last self }
+impl CallStage {
+    ghost use Rattle.mako_call.specs.declared.call_stage.CallStage.TheVariants as stages;
+    ghost use Rattle.mako_call.specs.declared.leaving.LeaveStage.{LeaveStage};
+
+    /// Goes on where it leaves the gates, for a last attempt or another.
+    pub(crate) fn feed_leaving(&mut self, last: bool)
+        ensures { (stage : LeaveStage) → self.old ≡ stages.Leaving stage → self.new ≡ leave_fed last stage }
     {
-        match self {
-            LeaveStage::Refused(word) => CallStage::Ended(Attempt::Pause(Pause::Stopped(word))),
+        let CallStage::Leaving(stage) = self else {
+            return;
+        };
+        match *stage {
+            LeaveStage::Refused(word) => {
+                *self = CallStage::Ended(Attempt::Pause(Pause::Stopped(word)));
+            }
             LeaveStage::TurnedAway { tablet, word } => {
-                leaving(Attempt::Pause(Pause::Shut { tablet, word }))
+                *stage = LeaveStage::FromOwn(Attempt::Pause(Pause::Shut { tablet, word }));
             }
-            LeaveStage::FromTablet { outcome, .. } => leaving(outcome),
+            LeaveStage::FromTablet { outcome, .. } => *stage = LeaveStage::FromOwn(outcome),
             LeaveStage::FromOwn(Attempt::Full) if last => {
-                CallStage::Ended(Attempt::Answer(Reply::Full))
+                *self = CallStage::Ended(Attempt::Answer(Reply::Full));
             }
-            LeaveStage::FromOwn(outcome) => CallStage::Ended(outcome),
+            LeaveStage::FromOwn(outcome) => *self = CallStage::Ended(outcome),
         }
     }
 }

@@ -70,6 +70,10 @@ pub struct Progress {
 }
 
 impl Progress {
+    ghost use Rattle.mako_call.specs.Calls as calling;
+    ghost use Rattle.mako_call.specs.Calls.{Calling};
+    ghost use Rattle.mako_mutator.specs.declared.progress.Task.TheVariants as tasks;
+
     /// Before the first call.
     pub(crate) fn begun(caller: &Caller, calls: &[Call]) -> Progress
         requires caller { IsCaller caller.now }
@@ -114,23 +118,56 @@ impl Progress {
             Task::Attempting(attempt) => {
                 let event = attempt.feed(before);
                 if attempt.has_ended() {
-                    let attempt = *attempt;
-                    *self = self.after_attempt(caller, calls, attempt);
+                    self.end_attempt(caller, calls);
                 } else {
                     self.within = true;
                 }
                 event
             }
-            Task::Awaiting(wait) => {
-                let _told = wait.feed(before);
-                let wait = *wait;
-                *self = self.after_wait(caller, calls, wait);
+            Task::Awaiting(_) => {
+                self.advance_wait(caller, calls, before);
                 Event::Nothing
             }
             Task::Finishing | Task::Ended => {
                 self.task = Task::Ended;
                 Event::Nothing
             }
+        }
+    }
+
+    /// It goes on after its attempt. Most steps end none, and are faster where this stands apart.
+    #[inline(never)]
+    #[tactic(auto, using(crate::proofs::Tasks::one_attempt))]
+    fn end_attempt(&mut self, caller: &Caller, calls: &[Call])
+        requires caller { IsCaller caller.now }
+        requires calls { AreFitting caller.now.shape calls.now }
+        requires same { drivers.IsOf caller.now self.old.task }
+        requires call { drivers.MakesFitting caller.now.shape self.old.task }
+        requires done { self.old.done + 1 < 2 ^ 32 }
+        ensures { (attempt : Calling) → self.old.task ≡ tasks.Attempting attempt →
+            self.new ≡ drivers.after_attempt caller.now calls.now self.old attempt }
+    {
+        if let Task::Attempting(attempt) = &self.task {
+            let attempt = *attempt;
+            *self = self.after_attempt(caller, calls, attempt);
+        }
+    }
+
+    /// Makes the step of a wait that found this word.
+    #[inline(never)]
+    fn advance_wait(&mut self, caller: &Caller, calls: &[Call], before: u64)
+        requires caller { IsCaller caller.now }
+        requires calls { AreFitting caller.now.shape calls.now }
+        requires same { drivers.IsOf caller.now self.old.task }
+        requires acts { IsAct (drivers.task_next caller.now self.old.task) }
+        requires fits { drivers.TaskFits self.old.task before }
+        ensures { (wait : Calling) → self.old.task ≡ tasks.Awaiting wait →
+            self.new ≡ drivers.after_wait caller.now calls.now self.old (calling.fed wait before) }
+    {
+        if let Task::Awaiting(wait) = &mut self.task {
+            let _told = wait.feed(before);
+            let wait = *wait;
+            *self = self.after_wait(caller, calls, wait);
         }
     }
 
@@ -200,17 +237,6 @@ impl Progress {
         Progress {
             done: self.done,
             within: true,
-            task,
-        }
-    }
-
-    /// The same, at this task.
-    fn at(&self, task: Task) -> Progress
-        ensures { result ≡ record self.now { task = task } }
-    {
-        Progress {
-            done: self.done,
-            within: self.within,
             task,
         }
     }
