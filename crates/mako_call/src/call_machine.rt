@@ -9,7 +9,6 @@ ghost use Rattle.mako_call.specs.Keeping.{KeepFits};
 ghost use Rattle.mako_call.specs.Callers.{CallFits};
 ghost use Rattle.mako_call.specs.Calls as calls;
 
-use crate::asking::AskStage;
 use crate::call_stage::CallStage;
 use crate::caller::Caller;
 use crate::fitting::is_gate;
@@ -63,18 +62,26 @@ impl CallMachine {
         ensures { result ≡ calls.opening (record { shape = shape; mutator = mutator }) call last keep.asked keep.barrier_at }
     {
         let _numbers = shape.numbers();
-        let stage = match (call, keep.asked) {
-            (Call::Collect, None) => CallStage::Asking(AskStage::LoadingPhase),
-            (Call::Collect, Some(cycle)) => CallStage::Asking(AskStage::Awaiting { cycle }),
-            _ => CallStage::Arriving,
-        };
         CallMachine {
             caller: Caller { shape, mutator },
             call,
             last,
             slot: keep.barrier_at as u32,
-            stage,
+            stage: CallStage::first(call, keep.asked),
         }
+    }
+
+    /// The same mutator's attempt of this call, in the place of the one that has ended.
+    pub fn begin(&mut self, call: Call, last: bool, keep: Keep)
+        requires call { CallFits self.old.caller.shape call }
+        requires asked { AskedFits self.old.caller.shape keep.asked }
+        requires barrier { keep.barrier_at < self.old.caller.shape.ring }
+        ensures { self.new ≡ calls.opening self.old.caller call last keep.asked keep.barrier_at }
+    {
+        self.call = call;
+        self.last = last;
+        self.slot = keep.barrier_at as u32;
+        self.stage = CallStage::first(call, keep.asked);
     }
 
     /// Whether it can go on with this word. A word that is not read may be any.
@@ -208,6 +215,7 @@ impl Machine for CallMachine {
         false
     }
 
+    #[inline(always)]
     fn feed(&mut self, before: u64) -> Event {
         let earlier = self.stage.decided();
         let slot = self.slot_after();

@@ -1,7 +1,6 @@
 //! The stages of an attempt, in groups.
 
 ghost use Rattle.std.specs.Prelude.{◌≡◌};
-ghost use Rattle.mako_words.specs.Gates.{is_shut};
 ghost use Rattle.mako_call.specs.Agreeing.{Arrives, StageOf};
 ghost use Rattle.mako_call.specs.Callers.{IsCaller};
 ghost use Rattle.mako_call.specs.Calls as calls;
@@ -45,6 +44,18 @@ pub enum CallStage {
 }
 
 impl CallStage {
+    /// The first stage: a `collect` goes on where it has asked for a cycle, and every other call arrives
+    /// at the own gate.
+    pub(crate) fn first(call: Call, asked: Option<u32>) -> CallStage
+        ensures { result ≡ calls.first_stage call asked }
+    {
+        match (call, asked) {
+            (Call::Collect, None) => CallStage::Asking(AskStage::LoadingPhase),
+            (Call::Collect, Some(cycle)) => CallStage::Asking(AskStage::Awaiting { cycle }),
+            _ => CallStage::Arriving,
+        }
+    }
+
     /// The reply, once the call is decided.
     pub(crate) fn decided(&self) -> Option<Reply>
         ensures { result ≡ calls.decided self.now }
@@ -75,54 +86,47 @@ impl CallStage {
         ensures { self.new ≡ calls.stage_fed caller.now call last slot self.old before }
     {
         match self {
-            CallStage::Arriving => *self = arrived(call, before),
-            CallStage::Rooting(stage) => *self = stage.fed(caller, before),
+            CallStage::Arriving if before >= GateWord::SHUT => {
+                *self = CallStage::Leaving(LeaveStage::Refused(before));
+            }
+            CallStage::Arriving => self.admit(call),
+            CallStage::Rooting(_) => self.feed_rooting(caller, before),
             CallStage::Entering(_, _) => self.feed_entering(caller, before),
             CallStage::Moving(_, _) => self.feed_moving(caller, before),
             CallStage::Getting(_, _, _) => self.feed_getting(caller, before),
             CallStage::Putting(_, _, _) => self.feed_putting(caller, slot, before),
             CallStage::Allocating(_) => self.feed_allocating(caller, before),
-            CallStage::Asking(stage) => *self = stage.fed(&caller.shape, before),
+            CallStage::Asking(_) => self.feed_asking(&caller.shape, before),
             CallStage::Leaving(_) => self.feed_leaving(last),
             CallStage::Ended(_) => {}
         }
     }
-}
 
-/// It is admitted at the own gate, or turned away there.
-fn arrived(call: Call, before: u64) -> CallStage
-    requires { Arrives call }
-    ensures { result ≡ calls.arrived call before (is_shut before) }
-{
-    if before >= GateWord::SHUT {
-        CallStage::Leaving(LeaveStage::Refused(before))
-    } else {
-        admitted(call)
-    }
-}
-
-/// What a call does once it is admitted at the own gate.
-fn admitted(call: Call) -> CallStage
-    requires { Arrives call }
-    ensures { result ≡ calls.admitted call }
-{
-    match call {
-        Call::New { root, fields } => {
-            CallStage::Allocating(AllocStage::LoadingPhase { root, fields })
+    /// It does what the call does once it is admitted at the own gate.
+    fn admit(&mut self, call: Call)
+        requires { Arrives call }
+        ensures { self.new ≡ calls.admitted call }
+    {
+        match call {
+            Call::New { root, fields } => {
+                *self = CallStage::Allocating(AllocStage::LoadingPhase { root, fields });
+            }
+            Call::Num { root, value } => {
+                let number = value;
+                *self = CallStage::Rooting(RootStage::StoringNumber { root, number });
+            }
+            Call::CopyRoot { to, from } => {
+                *self = CallStage::Rooting(RootStage::LoadingCopied { to, from });
+            }
+            Call::DropRoot { root } => *self = CallStage::Rooting(RootStage::StoringNull { root }),
+            Call::Get { to, from, field } => {
+                *self = CallStage::Rooting(RootStage::LoadingSource { to, from, field });
+            }
+            Call::Put { to, field, from } => {
+                *self = CallStage::Rooting(RootStage::LoadingTarget { to, field, from });
+            }
+            Call::Show { root } => *self = CallStage::Rooting(RootStage::LoadingShown { root }),
+            Call::Collect => unreachable!(),
         }
-        Call::Num { root, value } => {
-            let number = value;
-            CallStage::Rooting(RootStage::StoringNumber { root, number })
-        }
-        Call::CopyRoot { to, from } => { CallStage::Rooting(RootStage::LoadingCopied { to, from }) }
-        Call::DropRoot { root } => CallStage::Rooting(RootStage::StoringNull { root }),
-        Call::Get { to, from, field } => {
-            CallStage::Rooting(RootStage::LoadingSource { to, from, field })
-        }
-        Call::Put { to, field, from } => {
-            CallStage::Rooting(RootStage::LoadingTarget { to, field, from })
-        }
-        Call::Show { root } => CallStage::Rooting(RootStage::LoadingShown { root }),
-        Call::Collect => unreachable!(),
     }
 }

@@ -71,11 +71,11 @@ impl CallStage {
             EnterStage::LoadingHome(entry) => {
                 let home = before as u32;
                 let errand = *errand;
-                *self = if is_in_region(&caller.shape, home, entry.address) {
-                    errand.at(entry.address)
+                if is_in_region(&caller.shape, home, entry.address) {
+                    self.reach(errand, entry.address);
                 } else {
-                    CallStage::Moving(errand, MoveStage::TakingTurn { home })
-                };
+                    *self = CallStage::Moving(errand, MoveStage::TakingTurn { home });
+                }
             }
         }
     }

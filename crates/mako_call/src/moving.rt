@@ -97,7 +97,10 @@ impl CallStage {
                     *stage = MoveStage::GivingTurn { address };
                 }
             }
-            MoveStage::GivingTurn { address } => *self = errand.at(*address),
+            MoveStage::GivingTurn { address } => {
+                let address = *address;
+                self.reach(errand, address);
+            }
         }
     }
 }

@@ -38,32 +38,30 @@ pub struct Errand {
     pub access: Access,
 }
 
-impl Errand {
-    /// It goes to the object.
-    pub(crate) fn begun(object: Name, access: Access) -> CallStage
-        ensures { result ≡ begun_at object access }
-    {
-        CallStage::Entering(Errand { object, access }, EnterStage::Arriving)
-    }
-
-    /// It is at the object's record, which has this address.
-    pub(crate) fn at(self, address: u32) -> CallStage
-        ensures { result ≡ at_object self address }
-    {
-        let located = Located {
-            object: self.object,
-            address,
-        };
-        match self.access {
-            Access::Get(get) => CallStage::Getting(located, get, GetStage::LoadingHeader),
-            Access::Put(put) => CallStage::Putting(located, put, PutStage::LoadingHeader),
-        }
-    }
-}
-
 /// An object, and the address of its record, an index among all words.
 #[derive(Clone, Copy)]
 pub struct Located {
     pub object: Name,
     pub address: u32,
+}
+
+impl CallStage {
+    /// It goes to the object.
+    pub(crate) fn go_to(&mut self, object: Name, access: Access)
+        ensures { self.new ≡ begun_at object access }
+    {
+        *self = CallStage::Entering(Errand { object, access }, EnterStage::Arriving);
+    }
+
+    /// It is at the object's record, which has this address.
+    pub(crate) fn reach(&mut self, errand: Errand, address: u32)
+        ensures { self.new ≡ at_object errand address }
+    {
+        let object = errand.object;
+        let located = Located { object, address };
+        match errand.access {
+            Access::Get(get) => *self = CallStage::Getting(located, get, GetStage::LoadingHeader),
+            Access::Put(put) => *self = CallStage::Putting(located, put, PutStage::LoadingHeader),
+        }
+    }
 }

@@ -4,12 +4,13 @@ ghost use Rattle.std.specs.Prelude.{◌≡◌};
 ghost use Rattle.mako_shape.specs.Places.{total};
 ghost use Rattle.mako_step.specs.Acts.{IsWithin};
 ghost use Rattle.mako_call.specs.Callers.{IsCaller};
-ghost use Rattle.mako_call.specs.Rooting.{root_next, root_fed, RootFits, RootIsKnown};
+ghost use Rattle.mako_call.specs.Rooting.{root_next, root_fed, RootIsKnown};
+ghost use Rattle.mako_call.specs.Calls.{StageFits};
 
 use crate::call_stage::CallStage;
 use crate::caller::Caller;
 use crate::leaving::answered;
-use crate::object::{Access, Errand, Get, Put};
+use crate::object::{Access, Get, Put};
 use crate::words::{phase_of, value_of};
 use mako_model::Reply;
 use mako_step::Step;
@@ -84,38 +85,50 @@ impl RootStage {
             RootStage::LoadingPhase { .. } => Step::load(caller.shape.phase()),
         }
     }
+}
 
-    pub(crate) fn fed(self, caller: &Caller, before: u64) -> CallStage
-        requires { RootFits caller.now.shape self before }
-        ensures { result ≡ root_fed self before }
+impl CallStage {
+    ghost use Rattle.mako_call.specs.declared.call_stage.CallStage.TheVariants as stages;
+    ghost use Rattle.mako_call.specs.declared.rooting.RootStage.{RootStage};
+
+    /// Goes on with this word, where it works on the mutator's own roots.
+    pub(crate) fn feed_rooting(&mut self, caller: &Caller, before: u64)
+        requires fits { StageFits caller.now.shape self.old before }
+        ensures { (stage : RootStage) → self.old ≡ stages.Rooting stage → self.new ≡ root_fed stage before }
     {
-        match self {
-            RootStage::StoringNumber { number, .. } => answered(Reply::Value(Value::Num(number))),
-            RootStage::StoringNull { .. } => answered(Reply::Done),
-            RootStage::LoadingCopied { to, .. } => CallStage::Rooting(RootStage::StoringCopied {
-                to,
-                value: value_of(before),
-            }),
-            RootStage::StoringCopied { value, .. } => answered(Reply::Value(value)),
-            RootStage::LoadingShown { .. } => answered(Reply::Value(value_of(before))),
+        let CallStage::Rooting(stage) = self else {
+            return;
+        };
+        match *stage {
+            RootStage::StoringNumber { number, .. } => {
+                *self = answered(Reply::Value(Value::Num(number)));
+            }
+            RootStage::StoringNull { .. } => *self = answered(Reply::Done),
+            RootStage::StoringCopied { value, .. } => *self = answered(Reply::Value(value)),
+            RootStage::LoadingShown { .. } => *self = answered(Reply::Value(value_of(before))),
+            RootStage::LoadingCopied { to, .. } => {
+                let value = value_of(before);
+                *stage = RootStage::StoringCopied { to, value };
+            }
             RootStage::LoadingSource { to, field, .. } => match value_of(before) {
-                Value::Ref(object) => Errand::begun(object, Access::Get(Get { to, field })),
-                _ => answered(Reply::NoRef),
+                Value::Ref(object) => self.go_to(object, Access::Get(Get { to, field })),
+                _ => *self = answered(Reply::NoRef),
             },
             RootStage::LoadingTarget { field, from, .. } => match value_of(before) {
-                Value::Ref(object) => CallStage::Rooting(RootStage::LoadingValue {
+                Value::Ref(object) => *stage = RootStage::LoadingValue {
                     object,
                     field,
                     from,
-                }),
-                _ => answered(Reply::NoRef),
+                },
+                _ => *self = answered(Reply::NoRef),
             },
             RootStage::LoadingValue { object, field, .. } => {
-                CallStage::Rooting(RootStage::LoadingPhase {
+                let value = value_of(before);
+                *stage = RootStage::LoadingPhase {
                     object,
                     field,
-                    value: value_of(before),
-                })
+                    value,
+                };
             }
             RootStage::LoadingPhase {
                 object,
@@ -123,12 +136,14 @@ impl RootStage {
                 value,
             } => {
                 let phase = phase_of(before);
-                let put = Put {
-                    field,
-                    value,
-                    phase,
-                };
-                Errand::begun(object, Access::Put(put))
+                self.go_to(
+                    object,
+                    Access::Put(Put {
+                        field,
+                        value,
+                        phase,
+                    }),
+                );
             }
         }
     }

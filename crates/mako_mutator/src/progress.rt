@@ -135,7 +135,8 @@ impl Progress {
         }
     }
 
-    /// It goes on after its attempt. Most steps end none, and are faster where this stands apart.
+    /// After an attempt that has ended: the next call, the wait for a cycle, or the attempt again. Most
+    /// steps end none, and are faster where this stands apart.
     #[inline(never)]
     #[tactic(auto, using(crate::proofs::Tasks::one_attempt))]
     fn end_attempt(&mut self, caller: &Caller, calls: &[Call])
@@ -147,9 +148,31 @@ impl Progress {
         ensures { (attempt : Calling) → self.old.task ≡ tasks.Attempting attempt →
             self.new ≡ drivers.after_attempt caller.now calls.now self.old attempt }
     {
-        if let Task::Attempting(attempt) = &self.task {
-            let attempt = *attempt;
-            *self = self.after_attempt(caller, calls, attempt);
+        let Task::Attempting(attempt) = &mut self.task else {
+            return;
+        };
+        let Some((outcome, keep)) = attempt.outcome() else {
+            self.within = true;
+            return;
+        };
+        match outcome {
+            Attempt::Answer(_) => {
+                self.done += 1;
+                self.within = false;
+                match call_at(calls, self.done) {
+                    Some(call) => attempt.begin(call, false, keep),
+                    None => self.task = Task::Finishing,
+                }
+            }
+            Attempt::Full => {
+                self.within = true;
+                self.task = Task::awaiting(caller, keep);
+            }
+            Attempt::Pause(_) => {
+                let (call, last) = attempt.of();
+                self.within = true;
+                attempt.begin(call, last, keep);
+            }
         }
     }
 
@@ -168,46 +191,6 @@ impl Progress {
             let _told = wait.feed(before);
             let wait = *wait;
             *self = self.after_wait(caller, calls, wait);
-        }
-    }
-
-    /// It goes on with the attempt, or with what follows it: the next call, the wait for a cycle, or
-    /// the attempt again.
-    fn after_attempt(&self, caller: &Caller, calls: &[Call], attempt: CallMachine) -> Progress
-        requires caller { IsCaller caller.now }
-        requires calls { AreFitting caller.now.shape calls.now }
-        requires same { attempt.caller ≡ caller.now }
-        requires call { CallFits caller.now.shape attempt.call }
-        requires done { self.now.done + 1 < 2 ^ 32 }
-        ensures { result ≡ drivers.after_attempt caller.now calls.now self.now attempt }
-    {
-        let Some((outcome, keep)) = attempt.outcome() else {
-            return self.within(Task::Attempting(attempt));
-        };
-        match outcome {
-            Attempt::Answer(_) => self.moved_on(caller, calls, keep),
-            Attempt::Full => self.within(Task::awaiting(caller, keep)),
-            Attempt::Pause(_) => {
-                let (call, last) = attempt.of();
-                self.within(Task::attempt(caller, Some(call), last, keep))
-            }
-        }
-    }
-
-    /// Before the call behind the next one.
-    fn moved_on(&self, caller: &Caller, calls: &[Call], keep: Keep) -> Progress
-        requires caller { IsCaller caller.now }
-        requires calls { AreFitting caller.now.shape calls.now }
-        requires keep { KeepFits caller.now.shape keep }
-        requires done { self.now.done + 1 < 2 ^ 32 }
-        ensures { result ≡ drivers.moved_on caller.now calls.now self.now keep }
-    {
-        let done = self.done + 1;
-        let call = call_at(calls, done);
-        Progress {
-            done,
-            within: false,
-            task: Task::attempt(caller, call, false, keep),
         }
     }
 
