@@ -6,7 +6,7 @@ ghost use Rattle.mako_step.specs.Acts.{IsWithin};
 ghost use Rattle.mako_words.specs.Phases as phases;
 ghost use Rattle.mako_call.specs.Asking as asking;
 ghost use Rattle.mako_call.specs.Asking.{ask_next, ask_fed};
-ghost use Rattle.mako_call.specs.Calls.{StageFits};
+ghost use Rattle.mako_call.specs.Calls.{StageFits, tells};
 
 use crate::call_stage::CallStage;
 use crate::words::phase_of;
@@ -43,33 +43,34 @@ impl CallStage {
 
     /// Goes on with this word, where it asks for a cycle.
     #[inline(never)]
-    pub(crate) fn feed_asking(&mut self, shape: &Shape, before: u64)
+    pub(crate) fn feed_asking(&mut self, shape: &Shape, before: u64) -> bool
         requires fits { StageFits shape.now self.old before }
-        ensures { (stage : AskStage) → self.old ≡ stages.Asking stage → self.new ≡ ask_fed shape.now stage before }
+        ensures { (stage : AskStage) → self.old ≡ stages.Asking stage →
+            (self.new ≡ ask_fed shape.now stage before) × (result ≡ tells self.old self.new) }
     {
         let CallStage::Asking(stage) = self else {
-            return;
+            return false;
         };
         match *stage {
             AskStage::LoadingPhase => {
                 let cycle = cycle_of(phase_of(before));
                 if cycle == shape.numbers().cycles {
                     *self = CallStage::Ended(Attempt::Answer(Reply::Spent));
-                } else {
-                    *stage = AskStage::RaisingDemand { cycle: cycle + 1 };
+                    return true;
                 }
+                *stage = AskStage::RaisingDemand { cycle: cycle + 1 };
             }
             AskStage::RaisingDemand { cycle } => *stage = AskStage::Awaiting { cycle },
             AskStage::Awaiting { cycle } => {
+                if finished_cycles(phase_of(before)) >= cycle {
+                    *self = CallStage::Ended(Attempt::Answer(Reply::Cycle(cycle)));
+                    return true;
+                }
                 let (wanted, word) = (cycle, before);
-                let outcome = if finished_cycles(phase_of(before)) >= cycle {
-                    Attempt::Answer(Reply::Cycle(cycle))
-                } else {
-                    Attempt::Pause(Pause::Cycle { wanted, word })
-                };
-                *self = CallStage::Ended(outcome);
+                *self = CallStage::Ended(Attempt::Pause(Pause::Cycle { wanted, word }));
             }
         }
+        false
     }
 }
 

@@ -217,18 +217,21 @@ impl Machine for CallMachine {
 
     #[inline(always)]
     fn feed(&mut self, before: u64) -> Event {
-        let earlier = self.stage.decided();
         let slot = self.slot_after();
-        self.stage
+        let tells = self
+            .stage
             .feed(&self.caller, self.call, self.last, self.slot, before);
         self.slot = slot;
-        match (earlier, self.stage.decided()) {
-            (None, Some(reply)) => Event::Answered(Point::Did {
+        if !tells {
+            return Event::Nothing;
+        }
+        match self.stage.decided() {
+            Some(reply) => Event::Answered(Point::Did {
                 mutator: self.caller.mutator as u8,
                 call: self.call,
                 reply,
             }),
-            _ => Event::Nothing,
+            None => Event::Nothing,
         }
     }
 }

@@ -1,6 +1,6 @@
 //! The stages of an attempt, in groups.
 
-ghost use Rattle.std.specs.Prelude.{◌≡◌};
+ghost use Rattle.std.specs.Prelude.{◌≡◌, None};
 ghost use Rattle.mako_call.specs.Agreeing.{Arrives, StageOf};
 ghost use Rattle.mako_call.specs.Callers.{IsCaller};
 ghost use Rattle.mako_call.specs.Calls as calls;
@@ -77,17 +77,28 @@ impl CallStage {
         }
     }
 
-    /// Goes where the step leads that found this word, and writes only what changes.
-    pub(crate) fn feed(&mut self, caller: &Caller, call: Call, last: bool, slot: u32, before: u64)
+    /// Goes where the step leads that found this word, and writes only what changes. Whether the call is
+    /// decided with it.
+    #[tactic(auto, using(crate::proofs::Telling::same_tells_nothing))]
+    pub(crate) fn feed(
+        &mut self,
+        caller: &Caller,
+        call: Call,
+        last: bool,
+        slot: u32,
+        before: u64,
+    ) -> bool
         requires caller { IsCaller caller.now }
         requires known { StageIsKnown caller.now self.old }
         requires agrees { StageOf caller.now.shape call self.old }
         requires fits { StageFits caller.now.shape self.old before }
-        ensures { self.new ≡ calls.stage_fed caller.now call last slot self.old before }
+        ensures fed { self.new ≡ calls.stage_fed caller.now call last slot self.old before }
+        ensures told { result ≡ calls.tells self.old self.new }
     {
         match self {
             CallStage::Arriving if before >= GateWord::SHUT => {
                 *self = CallStage::Leaving(LeaveStage::Refused(before));
+                false
             }
             CallStage::Arriving => self.admit(call),
             CallStage::Rooting(_) => self.feed_rooting(caller, before),
@@ -98,14 +109,15 @@ impl CallStage {
             CallStage::Allocating(_) => self.feed_allocating(caller, before),
             CallStage::Asking(_) => self.feed_asking(&caller.shape, before),
             CallStage::Leaving(_) => self.feed_leaving(last),
-            CallStage::Ended(_) => {}
+            CallStage::Ended(_) => false,
         }
     }
 
     /// It does what the call does once it is admitted at the own gate.
-    fn admit(&mut self, call: Call)
+    fn admit(&mut self, call: Call) -> bool
         requires { Arrives call }
-        ensures { self.new ≡ calls.admitted call }
+        ensures fed { self.new ≡ calls.admitted call }
+        ensures told { result ≡ calls.newly None (calls.decided self.new) }
     {
         match call {
             Call::New { root, fields } => {
@@ -128,5 +140,6 @@ impl CallStage {
             Call::Show { root } => *self = CallStage::Rooting(RootStage::LoadingShown { root }),
             Call::Collect => unreachable!(),
         }
+        false
     }
 }

@@ -6,7 +6,7 @@ ghost use Rattle.mako_step.specs.Acts.{IsWithin};
 ghost use Rattle.mako_call.specs.Callers.{IsCaller};
 ghost use Rattle.mako_call.specs.Objects.{ErrandIsKnown};
 ghost use Rattle.mako_call.specs.Entering.{enter_next, enter_fed};
-ghost use Rattle.mako_call.specs.Calls.{StageIsKnown, StageFits};
+ghost use Rattle.mako_call.specs.Calls.{StageIsKnown, StageFits, tells};
 
 use crate::call_stage::CallStage;
 use crate::caller::Caller;
@@ -50,15 +50,15 @@ impl CallStage {
     ghost use Rattle.mako_call.specs.declared.object.Errand.{Errand};
 
     /// Goes on with this word, where it enters the tablet of its object.
-    pub(crate) fn feed_entering(&mut self, caller: &Caller, before: u64)
+    pub(crate) fn feed_entering(&mut self, caller: &Caller, before: u64) -> bool
         requires caller { IsCaller caller.now }
         requires known { StageIsKnown caller.now self.old }
         requires fits { StageFits caller.now.shape self.old before }
         ensures { (errand : Errand) (stage : EnterStage) → self.old ≡ stages.Entering errand stage →
-            self.new ≡ enter_fed caller.now.shape errand stage before }
+            (self.new ≡ enter_fed caller.now.shape errand stage before) × (result ≡ tells self.old self.new) }
     {
         let CallStage::Entering(errand, stage) = self else {
-            return;
+            return false;
         };
         match *stage {
             EnterStage::Arriving if before >= GateWord::SHUT => {
@@ -78,5 +78,6 @@ impl CallStage {
                 }
             }
         }
+        false
     }
 }

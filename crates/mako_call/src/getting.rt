@@ -6,7 +6,7 @@ ghost use Rattle.mako_step.specs.Acts.{IsWithin};
 ghost use Rattle.mako_call.specs.Callers.{IsCaller};
 ghost use Rattle.mako_call.specs.Objects.{LocatedIsKnown};
 ghost use Rattle.mako_call.specs.Getting.{get_next, get_fed, GetIsKnown};
-ghost use Rattle.mako_call.specs.Calls.{StageIsKnown, StageFits};
+ghost use Rattle.mako_call.specs.Calls.{StageIsKnown, StageFits, tells};
 
 use crate::call_stage::CallStage;
 use crate::caller::Caller;
@@ -49,28 +49,34 @@ impl CallStage {
     ghost use Rattle.mako_call.specs.declared.object.Located.{Located};
 
     /// Goes on with this word, where it reads a field.
-    pub(crate) fn feed_getting(&mut self, caller: &Caller, before: u64)
+    pub(crate) fn feed_getting(&mut self, caller: &Caller, before: u64) -> bool
         requires caller { IsCaller caller.now }
         requires known { StageIsKnown caller.now self.old }
         requires fits { StageFits caller.now.shape self.old before }
         ensures { (located : Located) (get : Get) (stage : GetStage) → self.old ≡ stages.Getting located get stage →
-            self.new ≡ get_fed caller.now.shape located get stage before }
+            (self.new ≡ get_fed caller.now.shape located get stage before) × (result ≡ tells self.old self.new) }
     {
         let CallStage::Getting(located, get, stage) = self else {
-            return;
+            return false;
         };
         match *stage {
             GetStage::LoadingHeader if u64::from(get.field) < before => {
                 *stage = GetStage::LoadingField;
+                false
             }
             GetStage::LoadingHeader => {
                 let tablet = caller.tablet_of(located.object.entry);
                 *self = answered_at(tablet, Reply::NoField);
+                true
             }
-            GetStage::LoadingField => *stage = GetStage::StoringRoot(value_of(before)),
+            GetStage::LoadingField => {
+                *stage = GetStage::StoringRoot(value_of(before));
+                true
+            }
             GetStage::StoringRoot(value) => {
                 let tablet = caller.tablet_of(located.object.entry);
                 *self = answered_at(tablet, Reply::Value(value));
+                false
             }
         }
     }

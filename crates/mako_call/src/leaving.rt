@@ -5,6 +5,7 @@ ghost use Rattle.mako_shape.specs.Places.{total};
 ghost use Rattle.mako_step.specs.Acts.{IsWithin};
 ghost use Rattle.mako_call.specs.Callers.{IsCaller};
 ghost use Rattle.mako_call.specs.Leaving as leaving;
+ghost use Rattle.mako_call.specs.Calls.{tells};
 ghost use Rattle.mako_call.specs.Leaving.{leave_next, leave_fed, LeaveIsKnown};
 
 use crate::call_stage::CallStage;
@@ -46,11 +47,13 @@ impl CallStage {
     ghost use Rattle.mako_call.specs.declared.leaving.LeaveStage.{LeaveStage};
 
     /// Goes on where it leaves the gates, for a last attempt or another.
-    pub(crate) fn feed_leaving(&mut self, last: bool)
-        ensures { (stage : LeaveStage) → self.old ≡ stages.Leaving stage → self.new ≡ leave_fed last stage }
+    #[tactic(auto, using(crate::proofs::Telling::same_tells_nothing))]
+    pub(crate) fn feed_leaving(&mut self, last: bool) -> bool
+        ensures { (stage : LeaveStage) → self.old ≡ stages.Leaving stage →
+            (self.new ≡ leave_fed last stage) × (result ≡ tells self.old self.new) }
     {
         let CallStage::Leaving(stage) = self else {
-            return;
+            return false;
         };
         match *stage {
             LeaveStage::Refused(word) => {
@@ -62,9 +65,11 @@ impl CallStage {
             LeaveStage::FromTablet { outcome, .. } => *stage = LeaveStage::FromOwn(outcome),
             LeaveStage::FromOwn(Attempt::Full) if last => {
                 *self = CallStage::Ended(Attempt::Answer(Reply::Full));
+                return true;
             }
             LeaveStage::FromOwn(outcome) => *self = CallStage::Ended(outcome),
         }
+        false
     }
 }
 

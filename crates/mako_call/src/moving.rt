@@ -6,7 +6,7 @@ ghost use Rattle.mako_step.specs.Acts.{IsWithin};
 ghost use Rattle.mako_call.specs.Callers.{IsCaller};
 ghost use Rattle.mako_call.specs.Objects.{ErrandIsKnown};
 ghost use Rattle.mako_call.specs.Moving.{move_next, move_fed, MoveIsKnown};
-ghost use Rattle.mako_call.specs.Calls.{StageIsKnown, StageFits};
+ghost use Rattle.mako_call.specs.Calls.{StageIsKnown, StageFits, tells};
 
 use crate::call_stage::CallStage;
 use crate::caller::Caller;
@@ -61,15 +61,15 @@ impl CallStage {
     /// Goes on with this word, where it moves its object's record. Few attempts do so, and the others
     /// are faster where this stands apart.
     #[inline(never)]
-    pub(crate) fn feed_moving(&mut self, caller: &Caller, before: u64)
+    pub(crate) fn feed_moving(&mut self, caller: &Caller, before: u64) -> bool
         requires caller { IsCaller caller.now }
         requires known { StageIsKnown caller.now self.old }
         requires fits { StageFits caller.now.shape self.old before }
         ensures { (errand : Errand) (stage : MoveStage) → self.old ≡ stages.Moving errand stage →
-            self.new ≡ move_fed caller.now.shape errand stage before }
+            (self.new ≡ move_fed caller.now.shape errand stage before) × (result ≡ tells self.old self.new) }
     {
         let CallStage::Moving(errand, stage) = self else {
-            return;
+            return false;
         };
         let errand = *errand;
         match stage {
@@ -102,5 +102,6 @@ impl CallStage {
                 self.reach(errand, address);
             }
         }
+        false
     }
 }

@@ -1,6 +1,7 @@
 //! What a call is to do at an object.
 
-ghost use Rattle.std.specs.Prelude.{◌≡◌};
+ghost use Rattle.std.specs.Prelude.{◌≡◌, None};
+ghost use Rattle.mako_call.specs.Calls.{decided, newly};
 ghost use Rattle.mako_call.specs.Objects.{at_object, begun_at};
 
 use crate::call_stage::CallStage;
@@ -47,15 +48,18 @@ pub struct Located {
 
 impl CallStage {
     /// It goes to the object.
-    pub(crate) fn go_to(&mut self, object: Name, access: Access)
-        ensures { self.new ≡ begun_at object access }
+    pub(crate) fn go_to(&mut self, object: Name, access: Access) -> bool
+        ensures fed { self.new ≡ begun_at object access }
+        ensures told { result ≡ newly None (decided self.new) }
     {
         *self = CallStage::Entering(Errand { object, access }, EnterStage::Arriving);
+        false
     }
 
     /// It is at the object's record, which has this address.
     pub(crate) fn reach(&mut self, errand: Errand, address: u32)
-        ensures { self.new ≡ at_object errand address }
+        ensures fed { self.new ≡ at_object errand address }
+        ensures open { decided self.new ≡ None }
     {
         let object = errand.object;
         let located = Located { object, address };

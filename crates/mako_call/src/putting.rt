@@ -7,7 +7,7 @@ ghost use Rattle.mako_step.specs.Acts.{IsWithin};
 ghost use Rattle.mako_call.specs.Callers.{IsCaller};
 ghost use Rattle.mako_call.specs.Objects.{LocatedIsKnown};
 ghost use Rattle.mako_call.specs.Putting.{put_next, put_fed, PutIsKnown};
-ghost use Rattle.mako_call.specs.Calls.{StageIsKnown, StageFits};
+ghost use Rattle.mako_call.specs.Calls.{StageIsKnown, StageFits, tells};
 
 use crate::call_stage::CallStage;
 use crate::caller::Caller;
@@ -64,20 +64,21 @@ impl CallStage {
     ghost use Rattle.mako_call.specs.declared.putting.PutStage.{PutStage};
 
     /// Goes on with this word, where it stores a field.
-    pub(crate) fn feed_putting(&mut self, caller: &Caller, slot: u32, before: u64)
+    pub(crate) fn feed_putting(&mut self, caller: &Caller, slot: u32, before: u64) -> bool
         requires caller { IsCaller caller.now }
         requires known { StageIsKnown caller.now self.old }
         requires fits { StageFits caller.now.shape self.old before }
         ensures { (located : Located) (put : Put) (stage : PutStage) → self.old ≡ stages.Putting located put stage →
-            self.new ≡ put_fed caller.now.shape slot located put stage before }
+            (self.new ≡ put_fed caller.now.shape slot located put stage before) × (result ≡ tells self.old self.new) }
     {
         let CallStage::Putting(located, put, stage) = self else {
-            return;
+            return false;
         };
         let entry = located.object.entry;
         match *stage {
             PutStage::LoadingHeader if u64::from(put.field) >= before => {
                 *self = answered_at(caller.tablet_of(entry), Reply::NoField);
+                return true;
             }
             PutStage::LoadingHeader => match put.phase {
                 PhaseWord::Trace(_) => *stage = PutStage::LoadingOld,
@@ -97,7 +98,9 @@ impl CallStage {
             PutStage::StoringBarrier(_) => *stage = PutStage::StoringField,
             PutStage::StoringField => {
                 *self = answered_at(caller.tablet_of(entry), Reply::Done);
+                return true;
             }
         }
+        false
     }
 }

@@ -1,11 +1,12 @@
 //! The stages of an attempt at the mutator's own roots.
 
-ghost use Rattle.std.specs.Prelude.{◌≡◌};
+ghost use Rattle.std.specs.Prelude.{◌≡◌, None};
 ghost use Rattle.mako_shape.specs.Places.{total};
 ghost use Rattle.mako_step.specs.Acts.{IsWithin};
 ghost use Rattle.mako_call.specs.Callers.{IsCaller};
 ghost use Rattle.mako_call.specs.Rooting.{root_next, root_fed, RootIsKnown};
-ghost use Rattle.mako_call.specs.Calls.{StageFits};
+ghost use Rattle.mako_call.specs.Calls.{StageFits, decided, newly, tells};
+ghost use Rattle.mako_call.specs.Leaving.{answered};
 
 use crate::call_stage::CallStage;
 use crate::caller::Caller;
@@ -92,35 +93,40 @@ impl CallStage {
     ghost use Rattle.mako_call.specs.declared.rooting.RootStage.{RootStage};
 
     /// Goes on with this word, where it works on the mutator's own roots.
-    pub(crate) fn feed_rooting(&mut self, caller: &Caller, before: u64)
+    pub(crate) fn feed_rooting(&mut self, caller: &Caller, before: u64) -> bool
         requires fits { StageFits caller.now.shape self.old before }
-        ensures { (stage : RootStage) → self.old ≡ stages.Rooting stage → self.new ≡ root_fed stage before }
+        ensures { (stage : RootStage) → self.old ≡ stages.Rooting stage →
+            (self.new ≡ root_fed stage before) × (result ≡ tells self.old self.new) }
     {
         let CallStage::Rooting(stage) = self else {
-            return;
+            return false;
         };
         match *stage {
-            RootStage::StoringNumber { number, .. } => {
-                *self = answered(Reply::Value(Value::Num(number)));
-            }
-            RootStage::StoringNull { .. } => *self = answered(Reply::Done),
-            RootStage::StoringCopied { value, .. } => *self = answered(Reply::Value(value)),
-            RootStage::LoadingShown { .. } => *self = answered(Reply::Value(value_of(before))),
+            RootStage::StoringNumber { number, .. } => self.answer(Reply::Value(Value::Num(
+                number,
+            ))),
+            RootStage::StoringNull { .. } => self.answer(Reply::Done),
+            RootStage::StoringCopied { value, .. } => self.answer(Reply::Value(value)),
+            RootStage::LoadingShown { .. } => self.answer(Reply::Value(value_of(before))),
             RootStage::LoadingCopied { to, .. } => {
                 let value = value_of(before);
                 *stage = RootStage::StoringCopied { to, value };
+                false
             }
             RootStage::LoadingSource { to, field, .. } => match value_of(before) {
                 Value::Ref(object) => self.go_to(object, Access::Get(Get { to, field })),
-                _ => *self = answered(Reply::NoRef),
+                _ => self.answer(Reply::NoRef),
             },
             RootStage::LoadingTarget { field, from, .. } => match value_of(before) {
-                Value::Ref(object) => *stage = RootStage::LoadingValue {
-                    object,
-                    field,
-                    from,
-                },
-                _ => *self = answered(Reply::NoRef),
+                Value::Ref(object) => {
+                    *stage = RootStage::LoadingValue {
+                        object,
+                        field,
+                        from,
+                    };
+                    false
+                }
+                _ => self.answer(Reply::NoRef),
             },
             RootStage::LoadingValue { object, field, .. } => {
                 let value = value_of(before);
@@ -129,6 +135,7 @@ impl CallStage {
                     field,
                     value,
                 };
+                false
             }
             RootStage::LoadingPhase {
                 object,
@@ -143,8 +150,17 @@ impl CallStage {
                         value,
                         phase,
                     }),
-                );
+                )
             }
         }
+    }
+
+    /// It is answered at its own gate alone, and leaves.
+    fn answer(&mut self, reply: Reply) -> bool
+        ensures fed { self.new ≡ answered reply }
+        ensures told { result ≡ newly None (decided self.new) }
+    {
+        *self = answered(reply);
+        true
     }
 }
