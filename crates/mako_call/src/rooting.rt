@@ -4,7 +4,7 @@ ghost use Rattle.std.specs.Prelude.{◌≡◌, None};
 ghost use Rattle.mako_shape.specs.Places.{total};
 ghost use Rattle.mako_step.specs.Acts.{IsWithin};
 ghost use Rattle.mako_call.specs.Callers.{IsCaller};
-ghost use Rattle.mako_call.specs.Rooting.{root_next, root_fed, RootIsKnown};
+ghost use Rattle.mako_call.specs.Rooting.{root_next, root_fed, source_fed, target_fed, RootIsKnown};
 ghost use Rattle.mako_call.specs.Calls.{StageFits, decided, newly, tells};
 ghost use Rattle.mako_call.specs.Leaving.{answered};
 
@@ -113,27 +113,15 @@ impl CallStage {
                 *stage = RootStage::StoringCopied { to, value };
                 false
             }
-            RootStage::LoadingSource { to, field, .. } => match value_of(before) {
-                Value::Ref(object) => self.go_to(object, Access::Get(Get { to, field })),
-                _ => self.answer(Reply::NoRef),
-            },
-            RootStage::LoadingTarget { field, from, .. } => match value_of(before) {
-                Value::Ref(object) => {
-                    *stage = RootStage::LoadingValue {
-                        object,
-                        field,
-                        from,
-                    };
-                    false
-                }
-                _ => self.answer(Reply::NoRef),
-            },
+            RootStage::LoadingSource { to, field, .. } => self.source(to, field, value_of(before)),
+            RootStage::LoadingTarget { field, from, .. } => {
+                self.target(field, from, value_of(before))
+            }
             RootStage::LoadingValue { object, field, .. } => {
-                let value = value_of(before);
                 *stage = RootStage::LoadingPhase {
                     object,
                     field,
-                    value,
+                    value: value_of(before),
                 };
                 false
             }
@@ -142,16 +130,42 @@ impl CallStage {
                 field,
                 value,
             } => {
-                let phase = phase_of(before);
-                self.go_to(
-                    object,
-                    Access::Put(Put {
-                        field,
-                        value,
-                        phase,
-                    }),
-                )
+                let put = Put {
+                    field,
+                    value,
+                    phase: phase_of(before),
+                };
+                self.go_to(object, Access::Put(put))
             }
+        }
+    }
+
+    /// A `get` goes to its object, if its root names one.
+    fn source(&mut self, to: u8, field: u8, held: Value) -> bool
+        ensures fed { self.new ≡ source_fed to field held }
+        ensures told { result ≡ newly None (decided self.new) }
+    {
+        match held {
+            Value::Ref(object) => self.go_to(object, Access::Get(Get { to, field })),
+            _ => self.answer(Reply::NoRef),
+        }
+    }
+
+    /// A `put` loads its value, if its root names an object.
+    fn target(&mut self, field: u8, from: u8, held: Value) -> bool
+        ensures fed { self.new ≡ target_fed field from held }
+        ensures told { result ≡ newly None (decided self.new) }
+    {
+        match held {
+            Value::Ref(object) => {
+                *self = CallStage::Rooting(RootStage::LoadingValue {
+                    object,
+                    field,
+                    from,
+                });
+                false
+            }
+            _ => self.answer(Reply::NoRef),
         }
     }
 
