@@ -1,5 +1,5 @@
 -- Each step of an attempt keeps its numbers in range and its stage one of the call, and lowers its rank.
-use Rattle.std.proofs.Common.{◌≡◌, ℕ, Bool, true, false, ◌+◌, ◌<◌, if◌then◌else◌, ap, ◌∙◌, refl, arith}
+use Rattle.std.proofs.Common.{◌≡◌, ℕ, Bool, true, false, ◌+◌, ◌<◌, if◌then◌else◌, ap, subst, ◌∙◌, refl, arith}
 use Rattle.mako_words.specs.Gates.{is_shut}
 use Rattle.mako_step.specs.Machines.{IsAct}
 use Rattle.mako_step.proofs.Cases.{by_eq}
@@ -95,9 +95,11 @@ call_known v w known fits acts = let on = call_goes v w known fits acts in recor
 }
 
 -- what the code puts together is the attempt after the step
-pub put_together : (o v : Calling) (w slot : ℕ) (stage : CallStage) → o ≡ v → slot ≡ slot_after v.caller.shape v.slot v.stage → stage ≡ stage_fed v.caller v.call v.last v.slot v.stage w →
+pub put_together : (o v : Calling) (w slot : ℕ) (stage : CallStage) → o ≡ v → slot ≡ slot_after v.caller.shape v.slot v.stage → stage ≡ stage_fed o.caller o.call o.last o.slot o.stage w →
     record { caller = o.caller; call = o.call; last = o.last; slot = slot; stage = stage } ≡ fed v w
-put_together o v w slot stage same slot_is stage_is =
+put_together o v w slot stage same slot_is stage_at =
+    let Stands : Calling → Type 0 = λ q. stage ≡ stage_fed q.caller q.call q.last q.slot q.stage w in
+    let stage_is : stage ≡ stage_fed v.caller v.call v.last v.slot v.stage w = subst Stands same stage_at in
     let of_old : Calling → Calling = λ q. record { caller = q.caller; call = q.call; last = q.last; slot = slot; stage = stage } in
     let of_slot : ℕ → Calling = λ q. record { caller = v.caller; call = v.call; last = v.last; slot = q; stage = stage } in
     let of_stage : CallStage → Calling = λ q. record { caller = v.caller; call = v.call; last = v.last; slot = slot_after v.caller.shape v.slot v.stage; stage = q } in

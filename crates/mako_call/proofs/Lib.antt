@@ -2,6 +2,7 @@ pub mod Going
 pub mod GroupGoing
 pub mod CallGoing
 pub mod FirstStages
+pub mod Telling
 pub mod Deciding
 pub mod AnswerLaws
 pub mod Decided

@@ -175,6 +175,16 @@ outcome_in (Ended outcome) = Some outcome
 abbrev pub kept : Calling → Attempt → Keep
 kept v outcome = record { asked = asked_of v.call outcome; barrier_at = v.slot }
 
+-- whether a reply comes to stand
+abbrev pub newly : Option Reply → Option Reply → Bool
+newly None None = false
+newly None (Some reply) = true
+newly (Some earlier) later = false
+
+-- whether a step from the one stage to the other decides the call
+abbrev pub tells : CallStage → CallStage → Bool
+tells before after = newly (decided before) (decided after)
+
 -- the deciding step is the one with which a reply comes to stand: its point enters the history
 abbrev pub event_by : ℕ → Call → Option Reply → Option Reply → Event
 event_by m call None None = Nothing

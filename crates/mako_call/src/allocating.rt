@@ -1,10 +1,11 @@
 //! The stages of a `new`.
 
-ghost use Rattle.std.specs.Prelude.{◌≡◌, ◌<◌, ◌≤◌};
+ghost use Rattle.std.specs.Prelude.{◌≡◌, None};
 ghost use Rattle.mako_shape.specs.Places.{total};
 ghost use Rattle.mako_step.specs.Acts.{IsWithin};
 ghost use Rattle.mako_call.specs.Callers.{IsCaller};
-ghost use Rattle.mako_call.specs.Allocating.{new_next, new_fed, found_fed, NewFits, NewIsKnown};
+ghost use Rattle.mako_call.specs.Allocating.{new_next, new_fed, found_fed, NewIsKnown};
+ghost use Rattle.mako_call.specs.Calls.{StageIsKnown, StageFits, decided, newly, tells};
 
 use crate::asking::cycle_of;
 use crate::call_stage::CallStage;
@@ -45,45 +46,68 @@ impl AllocStage {
             AllocStage::GivingTurn { tablet, .. } => Step::store(caller.shape.turn(tablet), 0),
         }
     }
+}
 
-    pub(crate) fn fed(self, caller: &Caller, before: u64) -> CallStage
+impl CallStage {
+    ghost use Rattle.mako_call.specs.declared.allocating.AllocStage.{AllocStage};
+    ghost use Rattle.mako_call.specs.declared.call_stage.CallStage.TheVariants as stages;
+
+    /// Goes on with this word, where it makes an object.
+    #[inline(never)]
+    pub(crate) fn feed_allocating(&mut self, caller: &Caller, before: u64) -> bool
         requires caller { IsCaller caller.now }
-        requires known { NewIsKnown caller.now self }
-        requires fits { NewFits caller.now.shape self before }
-        ensures { result ≡ new_fed caller.now self before }
+        requires known { StageIsKnown caller.now self.old }
+        requires fits { StageFits caller.now.shape self.old before }
+        ensures { (stage : AllocStage) → self.old ≡ stages.Allocating stage →
+            (self.new ≡ new_fed caller.now stage before) × (result ≡ tells self.old self.new) }
     {
-        match self {
+        let CallStage::Allocating(stage) = self else {
+            return false;
+        };
+        match stage {
             AllocStage::LoadingPhase { root, fields } => {
+                let root = *root;
                 let cycle = cycle_of(phase_of(before));
-                let search = NewMachine::new(caller.shape, caller.mutator, fields, cycle);
-                CallStage::Allocating(AllocStage::Searching { root, search })
+                let search = NewMachine::new(caller.shape, caller.mutator, *fields, cycle);
+                *stage = AllocStage::Searching { root, search };
             }
-            AllocStage::Searching { root, mut search } => {
+            AllocStage::Searching { root, search } => {
                 search.feed(before);
-                match search.next() {
-                    Step::Do(_) => CallStage::Allocating(AllocStage::Searching { root, search }),
-                    Step::Ended => found(root, search.result()),
+                if let Step::Ended = search.next() {
+                    let root = *root;
+                    let found = search.result();
+                    return self.end_search(root, found);
                 }
             }
             AllocStage::StoringRoot { name, tablet, .. } => {
-                CallStage::Allocating(AllocStage::GivingTurn { name, tablet })
+                let (name, tablet) = (*name, *tablet);
+                *stage = AllocStage::GivingTurn { name, tablet };
             }
-            AllocStage::GivingTurn { name, tablet } => answered_at(tablet, Reply::Made(name)),
+            AllocStage::GivingTurn { name, tablet } => {
+                *self = answered_at(*tablet, Reply::Made(*name));
+            }
         }
+        false
     }
-}
 
-/// Where it stands once it has gone over the tablets.
-fn found(root: u8, found: Found) -> CallStage
-    ensures { result ≡ found_fed root found }
-{
-    match found {
-        Found::Made { name, tablet } => CallStage::Allocating(AllocStage::StoringRoot {
-            root,
-            name,
-            tablet,
-        }),
-        Found::Full => leaving(Attempt::Full),
-        Found::Pause(pause) => leaving(Attempt::Pause(pause)),
+    /// It has gone over the tablets. Whether it made the object.
+    fn end_search(&mut self, root: u8, found: Found) -> bool
+        ensures fed { self.new ≡ found_fed root found }
+        ensures told { result ≡ newly None (decided self.new) }
+    {
+        match found {
+            Found::Made { name, tablet } => {
+                *self = CallStage::Allocating(AllocStage::StoringRoot { root, name, tablet });
+                true
+            }
+            Found::Full => {
+                *self = leaving(Attempt::Full);
+                false
+            }
+            Found::Pause(pause) => {
+                *self = leaving(Attempt::Pause(pause));
+                false
+            }
+        }
     }
 }

@@ -5,7 +5,8 @@ ghost use Rattle.mako_shape.specs.Places.{total};
 ghost use Rattle.mako_step.specs.Acts.{IsWithin};
 ghost use Rattle.mako_words.specs.Phases as phases;
 ghost use Rattle.mako_call.specs.Asking as asking;
-ghost use Rattle.mako_call.specs.Asking.{ask_next, ask_fed, AskFits};
+ghost use Rattle.mako_call.specs.Asking.{ask_next, ask_fed};
+ghost use Rattle.mako_call.specs.Calls.{StageFits, tells};
 
 use crate::call_stage::CallStage;
 use crate::words::phase_of;
@@ -34,32 +35,42 @@ impl AskStage {
             AskStage::RaisingDemand { cycle } => Step::max(shape.demand(), u64::from(cycle)),
         }
     }
+}
 
-    pub(crate) fn fed(self, shape: &Shape, before: u64) -> CallStage
-        requires { AskFits shape.now self before }
-        ensures { result ≡ ask_fed shape.now self before }
+impl CallStage {
+    ghost use Rattle.mako_call.specs.declared.asking.AskStage.{AskStage};
+    ghost use Rattle.mako_call.specs.declared.call_stage.CallStage.TheVariants as stages;
+
+    /// Goes on with this word, where it asks for a cycle.
+    #[inline(never)]
+    pub(crate) fn feed_asking(&mut self, shape: &Shape, before: u64) -> bool
+        requires fits { StageFits shape.now self.old before }
+        ensures { (stage : AskStage) → self.old ≡ stages.Asking stage →
+            (self.new ≡ ask_fed shape.now stage before) × (result ≡ tells self.old self.new) }
     {
-        match self {
+        let CallStage::Asking(stage) = self else {
+            return false;
+        };
+        match *stage {
             AskStage::LoadingPhase => {
                 let cycle = cycle_of(phase_of(before));
                 if cycle == shape.numbers().cycles {
-                    CallStage::Ended(Attempt::Answer(Reply::Spent))
-                } else {
-                    CallStage::Asking(AskStage::RaisingDemand { cycle: cycle + 1 })
+                    *self = CallStage::Ended(Attempt::Answer(Reply::Spent));
+                    return true;
                 }
+                *stage = AskStage::RaisingDemand { cycle: cycle + 1 };
             }
-            AskStage::RaisingDemand { cycle } => CallStage::Asking(AskStage::Awaiting { cycle }),
+            AskStage::RaisingDemand { cycle } => *stage = AskStage::Awaiting { cycle },
             AskStage::Awaiting { cycle } => {
                 if finished_cycles(phase_of(before)) >= cycle {
-                    CallStage::Ended(Attempt::Answer(Reply::Cycle(cycle)))
-                } else {
-                    CallStage::Ended(Attempt::Pause(Pause::Cycle {
-                        wanted: cycle,
-                        word: before,
-                    }))
+                    *self = CallStage::Ended(Attempt::Answer(Reply::Cycle(cycle)));
+                    return true;
                 }
+                let (wanted, word) = (cycle, before);
+                *self = CallStage::Ended(Attempt::Pause(Pause::Cycle { wanted, word }));
             }
         }
+        false
     }
 }
 

@@ -4,23 +4,18 @@ ghost use Rattle.std.specs.Prelude.{◌≡◌, ◌<◌, ◌≤◌, false, IfSome
 ghost use Rattle.mako_shape.specs.Places.{total};
 ghost use Rattle.mako_step.specs.Acts.{IsWithin};
 ghost use Rattle.mako_step.specs.declared.step.Step.TheVariants as steps;
-ghost use Rattle.mako_call.specs.Agreeing.{Arrives, AskedFits};
+ghost use Rattle.mako_call.specs.Agreeing.{AskedFits};
 ghost use Rattle.mako_call.specs.Keeping.{KeepFits};
 ghost use Rattle.mako_call.specs.Callers.{CallFits};
 ghost use Rattle.mako_call.specs.Calls as calls;
 
-use crate::allocating::AllocStage;
-use crate::asking::AskStage;
 use crate::call_stage::CallStage;
 use crate::caller::Caller;
 use crate::fitting::is_gate;
-use crate::leaving::LeaveStage;
 use crate::putting::PutStage;
-use crate::rooting::RootStage;
 use mako_model::{Attempt, Call, Event, Pause, Point};
 use mako_shape::Shape;
 use mako_step::{Machine, Step};
-use mako_words::GateWord;
 use std::marker::Model;
 
 /// What a mutator keeps from one attempt to the next.
@@ -67,18 +62,26 @@ impl CallMachine {
         ensures { result ≡ calls.opening (record { shape = shape; mutator = mutator }) call last keep.asked keep.barrier_at }
     {
         let _numbers = shape.numbers();
-        let stage = match (call, keep.asked) {
-            (Call::Collect, None) => CallStage::Asking(AskStage::LoadingPhase),
-            (Call::Collect, Some(cycle)) => CallStage::Asking(AskStage::Awaiting { cycle }),
-            _ => CallStage::Arriving,
-        };
         CallMachine {
             caller: Caller { shape, mutator },
             call,
             last,
             slot: keep.barrier_at as u32,
-            stage,
+            stage: CallStage::first(call, keep.asked),
         }
+    }
+
+    /// The same mutator's attempt of this call, in the place of the one that has ended.
+    pub fn begin(&mut self, call: Call, last: bool, keep: Keep)
+        requires call { CallFits self.old.caller.shape call }
+        requires asked { AskedFits self.old.caller.shape keep.asked }
+        requires barrier { keep.barrier_at < self.old.caller.shape.ring }
+        ensures { self.new ≡ calls.opening self.old.caller call last keep.asked keep.barrier_at }
+    {
+        self.call = call;
+        self.last = last;
+        self.slot = keep.barrier_at as u32;
+        self.stage = CallStage::first(call, keep.asked);
     }
 
     /// Whether it can go on with this word. A word that is not read may be any.
@@ -152,31 +155,6 @@ impl CallMachine {
         }
     }
 
-    /// Where it stands after the word that its act found.
-    fn stage_after(&self, before: u64) -> CallStage
-        requires { calls.Fits self.now before }
-        ensures { result ≡ (calls.fed self.now before).stage }
-    {
-        let caller = &self.caller;
-        match self.stage {
-            CallStage::Arriving if before >= GateWord::SHUT => {
-                CallStage::Leaving(LeaveStage::Refused(before))
-            }
-            CallStage::Arriving => admitted(self.call),
-            CallStage::Rooting(stage) => stage.fed(caller, before),
-            CallStage::Entering(errand, stage) => stage.fed(caller, errand, before),
-            CallStage::Moving(errand, stage) => stage.fed(caller, errand, before),
-            CallStage::Getting(located, get, stage) => stage.fed(caller, located, get, before),
-            CallStage::Putting(located, put, stage) => {
-                stage.fed(caller, self.slot, located, put, before)
-            }
-            CallStage::Allocating(stage) => stage.fed(caller, before),
-            CallStage::Asking(stage) => stage.fed(&caller.shape, before),
-            CallStage::Leaving(stage) => stage.fed(self.last),
-            CallStage::Ended(outcome) => CallStage::Ended(outcome),
-        }
-    }
-
     /// The slot for the next name, which rises where a name is stored.
     fn slot_after(&self) -> u32
         ensures { result ≡ (calls.slot_after self.now.caller.shape self.now.slot self.now.stage) }
@@ -192,32 +170,6 @@ impl CallMachine {
             }
             _ => self.slot,
         }
-    }
-}
-
-/// What a call does once it is admitted at the own gate.
-fn admitted(call: Call) -> CallStage
-    requires { Arrives call }
-    ensures { result ≡ calls.admitted call }
-{
-    match call {
-        Call::New { root, fields } => {
-            CallStage::Allocating(AllocStage::LoadingPhase { root, fields })
-        }
-        Call::Num { root, value } => {
-            let number = value;
-            CallStage::Rooting(RootStage::StoringNumber { root, number })
-        }
-        Call::CopyRoot { to, from } => { CallStage::Rooting(RootStage::LoadingCopied { to, from }) }
-        Call::DropRoot { root } => CallStage::Rooting(RootStage::StoringNull { root }),
-        Call::Get { to, from, field } => {
-            CallStage::Rooting(RootStage::LoadingSource { to, from, field })
-        }
-        Call::Put { to, field, from } => {
-            CallStage::Rooting(RootStage::LoadingTarget { to, field, from })
-        }
-        Call::Show { root } => CallStage::Rooting(RootStage::LoadingShown { root }),
-        Call::Collect => unreachable!(),
     }
 }
 
@@ -263,18 +215,23 @@ impl Machine for CallMachine {
         false
     }
 
+    #[inline(always)]
     fn feed(&mut self, before: u64) -> Event {
-        let earlier = self.stage.decided();
         let slot = self.slot_after();
-        self.stage = self.stage_after(before);
+        let tells = self
+            .stage
+            .feed(&self.caller, self.call, self.last, self.slot, before);
         self.slot = slot;
-        match (earlier, self.stage.decided()) {
-            (None, Some(reply)) => Event::Answered(Point::Did {
+        if !tells {
+            return Event::Nothing;
+        }
+        match self.stage.decided() {
+            Some(reply) => Event::Answered(Point::Did {
                 mutator: self.caller.mutator as u8,
                 call: self.call,
                 reply,
             }),
-            _ => Event::Nothing,
+            None => Event::Nothing,
         }
     }
 }

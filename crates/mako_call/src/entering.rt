@@ -5,7 +5,8 @@ ghost use Rattle.mako_shape.specs.Places.{total};
 ghost use Rattle.mako_step.specs.Acts.{IsWithin};
 ghost use Rattle.mako_call.specs.Callers.{IsCaller};
 ghost use Rattle.mako_call.specs.Objects.{ErrandIsKnown};
-ghost use Rattle.mako_call.specs.Entering.{enter_next, enter_fed, EnterFits, EnterIsKnown};
+ghost use Rattle.mako_call.specs.Entering.{enter_next, enter_fed};
+ghost use Rattle.mako_call.specs.Calls.{StageIsKnown, StageFits, tells};
 
 use crate::call_stage::CallStage;
 use crate::caller::Caller;
@@ -41,32 +42,42 @@ impl EnterStage {
             EnterStage::LoadingHome(_) => Step::load(caller.shape.home(caller.tablet_of(entry))),
         }
     }
+}
 
-    pub(crate) fn fed(self, caller: &Caller, errand: Errand, before: u64) -> CallStage
+impl CallStage {
+    ghost use Rattle.mako_call.specs.declared.call_stage.CallStage.TheVariants as stages;
+    ghost use Rattle.mako_call.specs.declared.entering.EnterStage.{EnterStage};
+    ghost use Rattle.mako_call.specs.declared.object.Errand.{Errand};
+
+    /// Goes on with this word, where it enters the tablet of its object.
+    pub(crate) fn feed_entering(&mut self, caller: &Caller, before: u64) -> bool
         requires caller { IsCaller caller.now }
-        requires errand { ErrandIsKnown caller.now.shape errand }
-        requires fits { EnterFits caller.now.shape self before }
-        ensures { result ≡ enter_fed caller.now.shape errand self before }
+        requires known { StageIsKnown caller.now self.old }
+        requires fits { StageFits caller.now.shape self.old before }
+        ensures { (errand : Errand) (stage : EnterStage) → self.old ≡ stages.Entering errand stage →
+            (self.new ≡ enter_fed caller.now.shape errand stage before) × (result ≡ tells self.old self.new) }
     {
-        match self {
+        let CallStage::Entering(errand, stage) = self else {
+            return false;
+        };
+        match *stage {
             EnterStage::Arriving if before >= GateWord::SHUT => {
-                CallStage::Leaving(LeaveStage::TurnedAway {
-                    tablet: caller.tablet_of(errand.object.entry),
-                    word: before,
-                })
+                let tablet = caller.tablet_of(errand.object.entry);
+                let word = before;
+                *self = CallStage::Leaving(LeaveStage::TurnedAway { tablet, word });
             }
-            EnterStage::Arriving => CallStage::Entering(errand, EnterStage::LoadingEntry),
-            EnterStage::LoadingEntry => {
-                CallStage::Entering(errand, EnterStage::LoadingHome(entry_of(before)))
-            }
+            EnterStage::Arriving => *stage = EnterStage::LoadingEntry,
+            EnterStage::LoadingEntry => *stage = EnterStage::LoadingHome(entry_of(before)),
             EnterStage::LoadingHome(entry) => {
                 let home = before as u32;
+                let errand = *errand;
                 if is_in_region(&caller.shape, home, entry.address) {
-                    errand.at(entry.address)
+                    self.reach(errand, entry.address);
                 } else {
-                    CallStage::Moving(errand, MoveStage::TakingTurn { home })
+                    *self = CallStage::Moving(errand, MoveStage::TakingTurn { home });
                 }
             }
         }
+        false
     }
 }

@@ -5,7 +5,8 @@ ghost use Rattle.mako_shape.specs.Places.{total};
 ghost use Rattle.mako_step.specs.Acts.{IsWithin};
 ghost use Rattle.mako_call.specs.Callers.{IsCaller};
 ghost use Rattle.mako_call.specs.Objects.{LocatedIsKnown};
-ghost use Rattle.mako_call.specs.Getting.{get_next, get_fed, GetFits, GetIsKnown};
+ghost use Rattle.mako_call.specs.Getting.{get_next, get_fed, GetIsKnown};
+ghost use Rattle.mako_call.specs.Calls.{StageIsKnown, StageFits, tells};
 
 use crate::call_stage::CallStage;
 use crate::caller::Caller;
@@ -39,23 +40,44 @@ impl GetStage {
             GetStage::StoringRoot(value) => Step::store(caller.root(get.to), value.pack()),
         }
     }
+}
 
-    pub(crate) fn fed(self, caller: &Caller, located: Located, get: Get, before: u64) -> CallStage
+impl CallStage {
+    ghost use Rattle.mako_call.specs.declared.call_stage.CallStage.TheVariants as stages;
+    ghost use Rattle.mako_call.specs.declared.getting.GetStage.{GetStage};
+    ghost use Rattle.mako_call.specs.declared.object.Get.{Get};
+    ghost use Rattle.mako_call.specs.declared.object.Located.{Located};
+
+    /// Goes on with this word, where it reads a field.
+    pub(crate) fn feed_getting(&mut self, caller: &Caller, before: u64) -> bool
         requires caller { IsCaller caller.now }
-        requires located { LocatedIsKnown caller.now.shape located }
-        requires fits { GetFits caller.now.shape located self before }
-        ensures { result ≡ get_fed caller.now.shape located get self before }
+        requires known { StageIsKnown caller.now self.old }
+        requires fits { StageFits caller.now.shape self.old before }
+        ensures { (located : Located) (get : Get) (stage : GetStage) → self.old ≡ stages.Getting located get stage →
+            (self.new ≡ get_fed caller.now.shape located get stage before) × (result ≡ tells self.old self.new) }
     {
-        let tablet = caller.tablet_of(located.object.entry);
-        match self {
+        let CallStage::Getting(located, get, stage) = self else {
+            return false;
+        };
+        match *stage {
             GetStage::LoadingHeader if u64::from(get.field) < before => {
-                CallStage::Getting(located, get, GetStage::LoadingField)
+                *stage = GetStage::LoadingField;
+                false
             }
-            GetStage::LoadingHeader => answered_at(tablet, Reply::NoField),
+            GetStage::LoadingHeader => {
+                let tablet = caller.tablet_of(located.object.entry);
+                *self = answered_at(tablet, Reply::NoField);
+                true
+            }
             GetStage::LoadingField => {
-                CallStage::Getting(located, get, GetStage::StoringRoot(value_of(before)))
+                *stage = GetStage::StoringRoot(value_of(before));
+                true
             }
-            GetStage::StoringRoot(value) => answered_at(tablet, Reply::Value(value)),
+            GetStage::StoringRoot(value) => {
+                let tablet = caller.tablet_of(located.object.entry);
+                *self = answered_at(tablet, Reply::Value(value));
+                false
+            }
         }
     }
 }

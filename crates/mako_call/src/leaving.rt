@@ -5,6 +5,7 @@ ghost use Rattle.mako_shape.specs.Places.{total};
 ghost use Rattle.mako_step.specs.Acts.{IsWithin};
 ghost use Rattle.mako_call.specs.Callers.{IsCaller};
 ghost use Rattle.mako_call.specs.Leaving as leaving;
+ghost use Rattle.mako_call.specs.Calls.{tells};
 ghost use Rattle.mako_call.specs.Leaving.{leave_next, leave_fed, LeaveIsKnown};
 
 use crate::call_stage::CallStage;
@@ -39,22 +40,36 @@ impl LeaveStage {
             }
         }
     }
+}
 
-    /// Where it stands after the step, for a last attempt or another.
-    pub(crate) fn fed(self, last: bool) -> CallStage
-        ensures { result ≡ leave_fed last self }
+impl CallStage {
+    ghost use Rattle.mako_call.specs.declared.call_stage.CallStage.TheVariants as stages;
+    ghost use Rattle.mako_call.specs.declared.leaving.LeaveStage.{LeaveStage};
+
+    /// Goes on where it leaves the gates, for a last attempt or another.
+    #[tactic(auto, using(crate::proofs::Telling::same_tells_nothing))]
+    pub(crate) fn feed_leaving(&mut self, last: bool) -> bool
+        ensures { (stage : LeaveStage) → self.old ≡ stages.Leaving stage →
+            (self.new ≡ leave_fed last stage) × (result ≡ tells self.old self.new) }
     {
-        match self {
-            LeaveStage::Refused(word) => CallStage::Ended(Attempt::Pause(Pause::Stopped(word))),
+        let CallStage::Leaving(stage) = self else {
+            return false;
+        };
+        match *stage {
+            LeaveStage::Refused(word) => {
+                *self = CallStage::Ended(Attempt::Pause(Pause::Stopped(word)));
+            }
             LeaveStage::TurnedAway { tablet, word } => {
-                leaving(Attempt::Pause(Pause::Shut { tablet, word }))
+                *stage = LeaveStage::FromOwn(Attempt::Pause(Pause::Shut { tablet, word }));
             }
-            LeaveStage::FromTablet { outcome, .. } => leaving(outcome),
+            LeaveStage::FromTablet { outcome, .. } => *stage = LeaveStage::FromOwn(outcome),
             LeaveStage::FromOwn(Attempt::Full) if last => {
-                CallStage::Ended(Attempt::Answer(Reply::Full))
+                *self = CallStage::Ended(Attempt::Answer(Reply::Full));
+                return true;
             }
-            LeaveStage::FromOwn(outcome) => CallStage::Ended(outcome),
+            LeaveStage::FromOwn(outcome) => *self = CallStage::Ended(outcome),
         }
+        false
     }
 }
 

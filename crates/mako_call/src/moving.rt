@@ -5,7 +5,8 @@ ghost use Rattle.mako_shape.specs.Places.{total};
 ghost use Rattle.mako_step.specs.Acts.{IsWithin};
 ghost use Rattle.mako_call.specs.Callers.{IsCaller};
 ghost use Rattle.mako_call.specs.Objects.{ErrandIsKnown};
-ghost use Rattle.mako_call.specs.Moving.{move_next, move_fed, giving_turn, MoveFits, MoveIsKnown};
+ghost use Rattle.mako_call.specs.Moving.{move_next, move_fed, MoveIsKnown};
+ghost use Rattle.mako_call.specs.Calls.{StageIsKnown, StageFits, tells};
 
 use crate::call_stage::CallStage;
 use crate::caller::Caller;
@@ -50,50 +51,57 @@ impl MoveStage {
             }
         }
     }
+}
 
-    pub(crate) fn fed(self, caller: &Caller, errand: Errand, before: u64) -> CallStage
+impl CallStage {
+    ghost use Rattle.mako_call.specs.declared.call_stage.CallStage.TheVariants as stages;
+    ghost use Rattle.mako_call.specs.declared.moving.MoveStage.{MoveStage};
+    ghost use Rattle.mako_call.specs.declared.object.Errand.{Errand};
+
+    /// Goes on with this word, where it moves its object's record. Few attempts do so, and the others
+    /// are faster where this stands apart.
+    #[inline(never)]
+    pub(crate) fn feed_moving(&mut self, caller: &Caller, before: u64) -> bool
         requires caller { IsCaller caller.now }
-        requires errand { ErrandIsKnown caller.now.shape errand }
-        requires known { MoveIsKnown caller.now.shape self }
-        requires fits { MoveFits caller.now.shape self before }
-        ensures { result ≡ move_fed caller.now.shape errand self before }
+        requires known { StageIsKnown caller.now self.old }
+        requires fits { StageFits caller.now.shape self.old before }
+        ensures { (errand : Errand) (stage : MoveStage) → self.old ≡ stages.Moving errand stage →
+            (self.new ≡ move_fed caller.now.shape errand stage before) × (result ≡ tells self.old self.new) }
     {
-        match self {
+        let CallStage::Moving(errand, stage) = self else {
+            return false;
+        };
+        let errand = *errand;
+        match stage {
             MoveStage::TakingTurn { home } if before == 0 => {
-                CallStage::Moving(errand, MoveStage::LoadingEntry { home })
+                *stage = MoveStage::LoadingEntry { home: *home };
             }
             MoveStage::TakingTurn { .. } => {
                 let tablet = caller.tablet_of(errand.object.entry);
-                let busy = Pause::Busy {
-                    tablet,
-                    word: before,
-                };
-                leaving_tablet(tablet, Attempt::Pause(busy))
+                let word = before;
+                *self = leaving_tablet(tablet, Attempt::Pause(Pause::Busy { tablet, word }));
             }
             MoveStage::LoadingEntry { home } => {
                 let entry = entry_of(before);
-                if is_in_region(&caller.shape, home, entry.address) {
-                    giving_turn(errand, entry.address)
+                *stage = if is_in_region(&caller.shape, *home, entry.address) {
+                    let address = entry.address;
+                    MoveStage::GivingTurn { address }
                 } else {
-                    let copier = Copier::new(caller.shape, errand.object.entry, entry, home);
-                    CallStage::Moving(errand, MoveStage::Copying(copier))
-                }
+                    MoveStage::Copying(Copier::new(caller.shape, errand.object.entry, entry, *home))
+                };
             }
-            MoveStage::Copying(mut copier) => {
+            MoveStage::Copying(copier) => {
                 copier.feed(before);
-                match copier.next() {
-                    Step::Do(_) => CallStage::Moving(errand, MoveStage::Copying(copier)),
-                    Step::Ended => giving_turn(errand, copier.result()),
+                if let Step::Ended = copier.next() {
+                    let address = copier.result();
+                    *stage = MoveStage::GivingTurn { address };
                 }
             }
-            MoveStage::GivingTurn { address } => errand.at(address),
+            MoveStage::GivingTurn { address } => {
+                let address = *address;
+                self.reach(errand, address);
+            }
         }
+        false
     }
-}
-
-/// It gives the turn back, and goes on at the record with this address.
-fn giving_turn(errand: Errand, address: u32) -> CallStage
-    ensures { result ≡ giving_turn errand address }
-{
-    CallStage::Moving(errand, MoveStage::GivingTurn { address })
 }

@@ -1,6 +1,7 @@
 //! What a call is to do at an object.
 
-ghost use Rattle.std.specs.Prelude.{◌≡◌};
+ghost use Rattle.std.specs.Prelude.{◌≡◌, None};
+ghost use Rattle.mako_call.specs.Calls.{decided, newly};
 ghost use Rattle.mako_call.specs.Objects.{at_object, begun_at};
 
 use crate::call_stage::CallStage;
@@ -38,32 +39,33 @@ pub struct Errand {
     pub access: Access,
 }
 
-impl Errand {
-    /// It goes to the object.
-    pub(crate) fn begun(object: Name, access: Access) -> CallStage
-        ensures { result ≡ begun_at object access }
-    {
-        CallStage::Entering(Errand { object, access }, EnterStage::Arriving)
-    }
-
-    /// It is at the object's record, which has this address.
-    pub(crate) fn at(self, address: u32) -> CallStage
-        ensures { result ≡ at_object self address }
-    {
-        let located = Located {
-            object: self.object,
-            address,
-        };
-        match self.access {
-            Access::Get(get) => CallStage::Getting(located, get, GetStage::LoadingHeader),
-            Access::Put(put) => CallStage::Putting(located, put, PutStage::LoadingHeader),
-        }
-    }
-}
-
 /// An object, and the address of its record, an index among all words.
 #[derive(Clone, Copy)]
 pub struct Located {
     pub object: Name,
     pub address: u32,
+}
+
+impl CallStage {
+    /// It goes to the object.
+    pub(crate) fn go_to(&mut self, object: Name, access: Access) -> bool
+        ensures fed { self.new ≡ begun_at object access }
+        ensures told { result ≡ newly None (decided self.new) }
+    {
+        *self = CallStage::Entering(Errand { object, access }, EnterStage::Arriving);
+        false
+    }
+
+    /// It is at the object's record, which has this address.
+    pub(crate) fn reach(&mut self, errand: Errand, address: u32)
+        ensures fed { self.new ≡ at_object errand address }
+        ensures open { decided self.new ≡ None }
+    {
+        let object = errand.object;
+        let located = Located { object, address };
+        match errand.access {
+            Access::Get(get) => *self = CallStage::Getting(located, get, GetStage::LoadingHeader),
+            Access::Put(put) => *self = CallStage::Putting(located, put, PutStage::LoadingHeader),
+        }
+    }
 }

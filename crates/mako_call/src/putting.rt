@@ -6,7 +6,8 @@ ghost use Rattle.mako_shape.specs.Places.{total};
 ghost use Rattle.mako_step.specs.Acts.{IsWithin};
 ghost use Rattle.mako_call.specs.Callers.{IsCaller};
 ghost use Rattle.mako_call.specs.Objects.{LocatedIsKnown};
-ghost use Rattle.mako_call.specs.Putting.{put_next, put_fed, PutFits, PutIsKnown};
+ghost use Rattle.mako_call.specs.Putting.{put_next, put_fed, PutIsKnown};
+ghost use Rattle.mako_call.specs.Calls.{StageIsKnown, StageFits, tells};
 
 use crate::call_stage::CallStage;
 use crate::caller::Caller;
@@ -54,46 +55,52 @@ impl PutStage {
             PutStage::StoringField => Step::store(field, put.value.pack()),
         }
     }
+}
 
-    pub(crate) fn fed(
-        self,
-        caller: &Caller,
-        slot: u32,
-        located: Located,
-        put: Put,
-        before: u64,
-    ) -> CallStage
+impl CallStage {
+    ghost use Rattle.mako_call.specs.declared.call_stage.CallStage.TheVariants as stages;
+    ghost use Rattle.mako_call.specs.declared.object.Located.{Located};
+    ghost use Rattle.mako_call.specs.declared.object.Put.{Put};
+    ghost use Rattle.mako_call.specs.declared.putting.PutStage.{PutStage};
+
+    /// Goes on with this word, where it stores a field.
+    pub(crate) fn feed_putting(&mut self, caller: &Caller, slot: u32, before: u64) -> bool
         requires caller { IsCaller caller.now }
-        requires located { LocatedIsKnown caller.now.shape located }
-        requires fits { PutFits caller.now.shape located self before }
-        ensures { result ≡ put_fed caller.now.shape slot located put self before }
+        requires known { StageIsKnown caller.now self.old }
+        requires fits { StageFits caller.now.shape self.old before }
+        ensures { (located : Located) (put : Put) (stage : PutStage) → self.old ≡ stages.Putting located put stage →
+            (self.new ≡ put_fed caller.now.shape slot located put stage before) × (result ≡ tells self.old self.new) }
     {
-        let tablet = caller.tablet_of(located.object.entry);
-        match self {
+        let CallStage::Putting(located, put, stage) = self else {
+            return false;
+        };
+        let entry = located.object.entry;
+        match *stage {
             PutStage::LoadingHeader if u64::from(put.field) >= before => {
-                answered_at(tablet, Reply::NoField)
+                *self = answered_at(caller.tablet_of(entry), Reply::NoField);
+                return true;
             }
             PutStage::LoadingHeader => match put.phase {
-                PhaseWord::Trace(_) => CallStage::Putting(located, put, PutStage::LoadingOld),
-                _ => CallStage::Putting(located, put, PutStage::StoringField),
+                PhaseWord::Trace(_) => *stage = PutStage::LoadingOld,
+                _ => *stage = PutStage::StoringField,
             },
             PutStage::LoadingOld => match value_of(before) {
-                Value::Ref(old) => {
-                    CallStage::Putting(located, put, PutStage::LookingAtBarrier(old))
-                }
-                _ => CallStage::Putting(located, put, PutStage::StoringField),
+                Value::Ref(old) => *stage = PutStage::LookingAtBarrier(old),
+                _ => *stage = PutStage::StoringField,
             },
             PutStage::LookingAtBarrier(old) if before == 0 => {
-                CallStage::Putting(located, put, PutStage::StoringBarrier(old))
+                *stage = PutStage::StoringBarrier(old);
             }
             PutStage::LookingAtBarrier(_) => {
                 let barrier = Pause::Barrier { slot, word: before };
-                leaving_tablet(tablet, Attempt::Pause(barrier))
+                *self = leaving_tablet(caller.tablet_of(entry), Attempt::Pause(barrier));
             }
-            PutStage::StoringBarrier(_) => {
-                CallStage::Putting(located, put, PutStage::StoringField)
+            PutStage::StoringBarrier(_) => *stage = PutStage::StoringField,
+            PutStage::StoringField => {
+                *self = answered_at(caller.tablet_of(entry), Reply::Done);
+                return true;
             }
-            PutStage::StoringField => answered_at(tablet, Reply::Done),
         }
+        false
     }
 }

@@ -1,15 +1,17 @@
 //! The stages of an attempt at the mutator's own roots.
 
-ghost use Rattle.std.specs.Prelude.{◌≡◌};
+ghost use Rattle.std.specs.Prelude.{◌≡◌, None};
 ghost use Rattle.mako_shape.specs.Places.{total};
 ghost use Rattle.mako_step.specs.Acts.{IsWithin};
 ghost use Rattle.mako_call.specs.Callers.{IsCaller};
-ghost use Rattle.mako_call.specs.Rooting.{root_next, root_fed, RootFits, RootIsKnown};
+ghost use Rattle.mako_call.specs.Rooting.{root_next, root_fed, source_fed, target_fed, RootIsKnown};
+ghost use Rattle.mako_call.specs.Calls.{StageFits, decided, newly, tells};
+ghost use Rattle.mako_call.specs.Leaving.{answered};
 
 use crate::call_stage::CallStage;
 use crate::caller::Caller;
 use crate::leaving::answered;
-use crate::object::{Access, Errand, Get, Put};
+use crate::object::{Access, Get, Put};
 use crate::words::{phase_of, value_of};
 use mako_model::Reply;
 use mako_step::Step;
@@ -84,52 +86,95 @@ impl RootStage {
             RootStage::LoadingPhase { .. } => Step::load(caller.shape.phase()),
         }
     }
+}
 
-    pub(crate) fn fed(self, caller: &Caller, before: u64) -> CallStage
-        requires { RootFits caller.now.shape self before }
-        ensures { result ≡ root_fed self before }
+impl CallStage {
+    ghost use Rattle.mako_call.specs.declared.call_stage.CallStage.TheVariants as stages;
+    ghost use Rattle.mako_call.specs.declared.rooting.RootStage.{RootStage};
+
+    /// Goes on with this word, where it works on the mutator's own roots.
+    pub(crate) fn feed_rooting(&mut self, caller: &Caller, before: u64) -> bool
+        requires fits { StageFits caller.now.shape self.old before }
+        ensures { (stage : RootStage) → self.old ≡ stages.Rooting stage →
+            (self.new ≡ root_fed stage before) × (result ≡ tells self.old self.new) }
     {
-        match self {
-            RootStage::StoringNumber { number, .. } => answered(Reply::Value(Value::Num(number))),
-            RootStage::StoringNull { .. } => answered(Reply::Done),
-            RootStage::LoadingCopied { to, .. } => CallStage::Rooting(RootStage::StoringCopied {
-                to,
-                value: value_of(before),
-            }),
-            RootStage::StoringCopied { value, .. } => answered(Reply::Value(value)),
-            RootStage::LoadingShown { .. } => answered(Reply::Value(value_of(before))),
-            RootStage::LoadingSource { to, field, .. } => match value_of(before) {
-                Value::Ref(object) => Errand::begun(object, Access::Get(Get { to, field })),
-                _ => answered(Reply::NoRef),
-            },
-            RootStage::LoadingTarget { field, from, .. } => match value_of(before) {
-                Value::Ref(object) => CallStage::Rooting(RootStage::LoadingValue {
-                    object,
-                    field,
-                    from,
-                }),
-                _ => answered(Reply::NoRef),
-            },
+        let CallStage::Rooting(stage) = self else {
+            return false;
+        };
+        match *stage {
+            RootStage::StoringNumber { number, .. } => self.answer(Reply::Value(Value::Num(
+                number,
+            ))),
+            RootStage::StoringNull { .. } => self.answer(Reply::Done),
+            RootStage::StoringCopied { value, .. } => self.answer(Reply::Value(value)),
+            RootStage::LoadingShown { .. } => self.answer(Reply::Value(value_of(before))),
+            RootStage::LoadingCopied { to, .. } => {
+                let value = value_of(before);
+                *stage = RootStage::StoringCopied { to, value };
+                false
+            }
+            RootStage::LoadingSource { to, field, .. } => self.source(to, field, value_of(before)),
+            RootStage::LoadingTarget { field, from, .. } => {
+                self.target(field, from, value_of(before))
+            }
             RootStage::LoadingValue { object, field, .. } => {
-                CallStage::Rooting(RootStage::LoadingPhase {
+                *stage = RootStage::LoadingPhase {
                     object,
                     field,
                     value: value_of(before),
-                })
+                };
+                false
             }
             RootStage::LoadingPhase {
                 object,
                 field,
                 value,
             } => {
-                let phase = phase_of(before);
                 let put = Put {
                     field,
                     value,
-                    phase,
+                    phase: phase_of(before),
                 };
-                Errand::begun(object, Access::Put(put))
+                self.go_to(object, Access::Put(put))
             }
         }
+    }
+
+    /// A `get` goes to its object, if its root names one.
+    fn source(&mut self, to: u8, field: u8, held: Value) -> bool
+        ensures fed { self.new ≡ source_fed to field held }
+        ensures told { result ≡ newly None (decided self.new) }
+    {
+        match held {
+            Value::Ref(object) => self.go_to(object, Access::Get(Get { to, field })),
+            _ => self.answer(Reply::NoRef),
+        }
+    }
+
+    /// A `put` loads its value, if its root names an object.
+    fn target(&mut self, field: u8, from: u8, held: Value) -> bool
+        ensures fed { self.new ≡ target_fed field from held }
+        ensures told { result ≡ newly None (decided self.new) }
+    {
+        match held {
+            Value::Ref(object) => {
+                *self = CallStage::Rooting(RootStage::LoadingValue {
+                    object,
+                    field,
+                    from,
+                });
+                false
+            }
+            _ => self.answer(Reply::NoRef),
+        }
+    }
+
+    /// It is answered at its own gate alone, and leaves.
+    fn answer(&mut self, reply: Reply) -> bool
+        ensures fed { self.new ≡ answered reply }
+        ensures told { result ≡ newly None (decided self.new) }
+    {
+        *self = answered(reply);
+        true
     }
 }

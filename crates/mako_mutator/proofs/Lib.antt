@@ -1,3 +1,4 @@
+pub mod Tasks
 pub mod ProgramCalls
 pub mod DriverTelling
 pub mod DriverGoing

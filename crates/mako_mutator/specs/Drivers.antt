@@ -179,6 +179,13 @@ IsOf k (Awaiting m) = m.caller ≡ k
 IsOf k Finishing = Unit {0}
 IsOf k Ended = Unit {0}
 
+-- the attempt is of a call that can be made
+abbrev pub MakesFitting : Numbers → Task → Type 0
+MakesFitting n (Attempting m) = CallFits n m.call
+MakesFitting n (Awaiting m) = Unit {0}
+MakesFitting n Finishing = Unit {0}
+MakesFitting n Ended = Unit {0}
+
 -- the calls that are decided beyond those that are through
 abbrev pub ahead : Option Reply → ℕ
 ahead None = 0

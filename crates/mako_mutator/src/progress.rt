@@ -70,6 +70,10 @@ pub struct Progress {
 }
 
 impl Progress {
+    ghost use Rattle.mako_call.specs.Calls as calling;
+    ghost use Rattle.mako_call.specs.Calls.{Calling};
+    ghost use Rattle.mako_mutator.specs.declared.progress.Task.TheVariants as tasks;
+
     /// Before the first call.
     pub(crate) fn begun(caller: &Caller, calls: &[Call]) -> Progress
         requires caller { IsCaller caller.now }
@@ -114,17 +118,14 @@ impl Progress {
             Task::Attempting(attempt) => {
                 let event = attempt.feed(before);
                 if attempt.has_ended() {
-                    let attempt = *attempt;
-                    *self = self.after_attempt(caller, calls, attempt);
+                    self.end_attempt(caller, calls);
                 } else {
                     self.within = true;
                 }
                 event
             }
-            Task::Awaiting(wait) => {
-                let _told = wait.feed(before);
-                let wait = *wait;
-                *self = self.after_wait(caller, calls, wait);
+            Task::Awaiting(_) => {
+                self.advance_wait(caller, calls, before);
                 Event::Nothing
             }
             Task::Finishing | Task::Ended => {
@@ -134,43 +135,62 @@ impl Progress {
         }
     }
 
-    /// It goes on with the attempt, or with what follows it: the next call, the wait for a cycle, or
-    /// the attempt again.
-    fn after_attempt(&self, caller: &Caller, calls: &[Call], attempt: CallMachine) -> Progress
+    /// After an attempt that has ended: the next call, the wait for a cycle, or the attempt again. Most
+    /// steps end none, and are faster where this stands apart.
+    #[inline(never)]
+    #[tactic(auto, using(crate::proofs::Tasks::one_attempt))]
+    fn end_attempt(&mut self, caller: &Caller, calls: &[Call])
         requires caller { IsCaller caller.now }
         requires calls { AreFitting caller.now.shape calls.now }
-        requires same { attempt.caller ≡ caller.now }
-        requires call { CallFits caller.now.shape attempt.call }
-        requires done { self.now.done + 1 < 2 ^ 32 }
-        ensures { result ≡ drivers.after_attempt caller.now calls.now self.now attempt }
+        requires same { drivers.IsOf caller.now self.old.task }
+        requires call { drivers.MakesFitting caller.now.shape self.old.task }
+        requires done { self.old.done + 1 < 2 ^ 32 }
+        ensures { (attempt : Calling) → self.old.task ≡ tasks.Attempting attempt →
+            self.new ≡ drivers.after_attempt caller.now calls.now self.old attempt }
     {
+        let Task::Attempting(attempt) = &mut self.task else {
+            return;
+        };
         let Some((outcome, keep)) = attempt.outcome() else {
-            return self.within(Task::Attempting(attempt));
+            self.within = true;
+            return;
         };
         match outcome {
-            Attempt::Answer(_) => self.moved_on(caller, calls, keep),
-            Attempt::Full => self.within(Task::awaiting(caller, keep)),
+            Attempt::Answer(_) => {
+                self.done += 1;
+                self.within = false;
+                match call_at(calls, self.done) {
+                    Some(call) => attempt.begin(call, false, keep),
+                    None => self.task = Task::Finishing,
+                }
+            }
+            Attempt::Full => {
+                self.within = true;
+                self.task = Task::awaiting(caller, keep);
+            }
             Attempt::Pause(_) => {
                 let (call, last) = attempt.of();
-                self.within(Task::attempt(caller, Some(call), last, keep))
+                self.within = true;
+                attempt.begin(call, last, keep);
             }
         }
     }
 
-    /// Before the call behind the next one.
-    fn moved_on(&self, caller: &Caller, calls: &[Call], keep: Keep) -> Progress
+    /// Makes the step of a wait that found this word.
+    #[inline(never)]
+    fn advance_wait(&mut self, caller: &Caller, calls: &[Call], before: u64)
         requires caller { IsCaller caller.now }
         requires calls { AreFitting caller.now.shape calls.now }
-        requires keep { KeepFits caller.now.shape keep }
-        requires done { self.now.done + 1 < 2 ^ 32 }
-        ensures { result ≡ drivers.moved_on caller.now calls.now self.now keep }
+        requires same { drivers.IsOf caller.now self.old.task }
+        requires acts { IsAct (drivers.task_next caller.now self.old.task) }
+        requires fits { drivers.TaskFits self.old.task before }
+        ensures { (wait : Calling) → self.old.task ≡ tasks.Awaiting wait →
+            self.new ≡ drivers.after_wait caller.now calls.now self.old (calling.fed wait before) }
     {
-        let done = self.done + 1;
-        let call = call_at(calls, done);
-        Progress {
-            done,
-            within: false,
-            task: Task::attempt(caller, call, false, keep),
+        if let Task::Awaiting(wait) = &mut self.task {
+            let _told = wait.feed(before);
+            let wait = *wait;
+            *self = self.after_wait(caller, calls, wait);
         }
     }
 
@@ -200,17 +220,6 @@ impl Progress {
         Progress {
             done: self.done,
             within: true,
-            task,
-        }
-    }
-
-    /// The same, at this task.
-    fn at(&self, task: Task) -> Progress
-        ensures { result ≡ record self.now { task = task } }
-    {
-        Progress {
-            done: self.done,
-            within: self.within,
             task,
         }
     }
