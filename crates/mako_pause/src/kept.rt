@@ -15,7 +15,6 @@ ghost use Rattle.mako_pause.specs.Keeping.{Runs, IsKeptKnown, EmptyIsKnown};
 ghost use Rattle.mako_pause.specs.Opening.{new_holdings};
 
 mod choices;
-#[cfg(test)]
 mod fitting;
 mod rings;
 

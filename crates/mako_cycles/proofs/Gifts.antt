@@ -28,7 +28,7 @@ use Rattle.mako_poll.specs.declared.poller.Polled.TheVariants.{Told, NotYet}
 use Rattle.mako_choice.specs.Choices.{choice}
 use Rattle.mako_pause.specs.Collecting.{Holdings, Collecting as Machine, window_of, set_window, forward_from, empty_from, barriers_from, told, polled_at, paused, gifts_from, gift_of, chosen_tablet, server_chosen, after_tablet, noticed, idle_fed, pause_fed, forward_fed, barrier_fed, empty_fed, choice_fed, notice_fed, stage_fed}
 use Rattle.mako_pause.specs.Regions.{is_spare}
-use Rattle.mako_pause.specs.Housing.{Housed, homes_after, given_after, choice_homes, choice_given, notice_given, FindsHome, ChoiceFinds, housed_next, HousedFits, housed_fed, housed_opening, AreHomes, IsFreeFor, ChoiceGives, StageGives, CollectorsGive}
+use Rattle.mako_cycles.specs.Housing.{Housed, homes_after, given_after, choice_homes, choice_given, notice_given, FindsHome, ChoiceFinds, housed_next, HousedFits, housed_fed, housed_opening, AreHomes, IsFreeFor, ChoiceGives, StageGives, CollectorsGive}
 use Rattle.mako_pause.specs.declared.regions.Role.{Role}
 use Rattle.mako_pause.specs.declared.regions.Role.TheVariants.{Home}
 use Rattle.mako_pause.specs.declared.stage.Gift.{Gift}
@@ -50,7 +50,7 @@ use Rattle.mako_pause.specs.declared.stage.CollectStage.{CollectStage}
 use Rattle.mako_pause.specs.declared.stage.CollectStage.TheVariants.{Idle, Pausing, Forwarding, Barriers, Emptying, Polling, Choosing, Noticing, Ended}
 use Rattle.mako_choice.proofs.Places.{choice_below, choice_few}
 use Rattle.mako_pause.proofs.Places.{tablets_below}
-use Rattle.mako_pause.proofs.Roles.{one, role_at, of_server, RolesStand, HomesStand, SpareFound, roles_given, homes_given, roles_next, roles_open, homes_open, spare_left, found_free, spare_is_no_home}
+use Rattle.mako_cycles.proofs.Roles.{one, role_at, of_server, RolesStand, HomesStand, SpareFound, roles_given, homes_given, roles_next, roles_open, homes_open, spare_left, found_free, spare_is_no_home}
 
 -- ---- what stands at each stage
 record BaseStands (n shape : Numbers) (roles : List Role) (cycle : ℕ) (homes : ℕ → ℕ) (given : List ℕ) : Type 0 where

@@ -31,12 +31,12 @@ use Rattle.mako_poll.specs.declared.poller.PollStage.TheVariants.{Asking, Readin
 use Rattle.mako_poll.specs.declared.poller.Polled.TheVariants.{Told as CompletionTold, NotYet}
 use Rattle.mako_pause.specs.Collecting.{Holdings, at, running, window_of, set_window, head_slot, forward_from, empty_from, barriers_from, told, polled_at, paused, gifts_from, spare_for, gift_of, names_of, chosen_tablet, server_chosen, after_tablet, noticed, idle_next, pause_next, forward_next, barrier_next, choice_next, notice_next, stage_next, next_of, idle_fed, pause_fed, forward_fed, barrier_fed, empty_fed, poll_fed, choice_fed, notice_fed, stage_fed, fed, Fits, StageFits}
 use Rattle.mako_pause.specs.Opening.{opening}
-use Rattle.mako_pause.specs.Phasing.{left_in, phase_left, phase_paused}
-use Rattle.mako_pause.specs.Gating.{IsDrained, IsOpen, EachBelow, shuts, opens, at_gate}
-use Rattle.mako_pause.specs.Telling.{ToldTwice}
-use Rattle.mako_pause.specs.Hearing.{Hears, joined, at_notice}
-use Rattle.mako_pause.specs.Hearing.Hears.{begins, waits, frees, ends}
-use Rattle.mako_pause.specs.Moments.{Rests, PauseBegan, Round, PollShown, Found, Moment, CollectorsGo}
+use Rattle.mako_cycles.specs.Phasing.{left_in, phase_left, phase_paused}
+use Rattle.mako_cycles.specs.Gating.{IsDrained, IsOpen, EachBelow, shuts, opens, at_gate}
+use Rattle.mako_cycles.specs.Telling.{ToldTwice}
+use Rattle.mako_cycles.specs.Hearing.{Hears, joined, at_notice}
+use Rattle.mako_cycles.specs.Hearing.Hears.{begins, waits, frees, ends}
+use Rattle.mako_cycles.specs.Moments.{Rests, PauseBegan, Round, PollShown, Found, Moment, CollectorsGo}
 use Rattle.mako_pause.specs.declared.stage.Pause.{Pause}
 use Rattle.mako_pause.specs.declared.stage.Pause.TheVariants.{Snapshot, Choice}
 use Rattle.mako_pause.specs.declared.stage.IdleStage.{IdleStage}
@@ -53,7 +53,7 @@ use Rattle.mako_pause.specs.declared.stage.NoticeStage.{NoticeStage}
 use Rattle.mako_pause.specs.declared.stage.NoticeStage.TheVariants.{Looking as NoticeLook, Clearing as NoticeClear, StoringIdle}
 use Rattle.mako_pause.specs.declared.stage.CollectStage.{CollectStage}
 use Rattle.mako_pause.specs.declared.stage.CollectStage.TheVariants.{Idle, Pausing, Forwarding, Barriers, Emptying, Polling, Choosing, Noticing, Ended}
-use Rattle.mako_pause.proofs.Standing.{sees, left_other, left_stored, elsewhere, IsPlain, plain_load, plain_store, plain_poll, shut_on, drained_on, open_on, shut_more, drained_more, open_more, told_on}
+use Rattle.mako_cycles.proofs.Standing.{sees, left_other, left_stored, elsewhere, IsPlain, plain_load, plain_store, plain_poll, shut_on, drained_on, open_on, shut_more, drained_more, open_more, told_on}
 use Rattle.mako_poll.proofs.Answering.{polls_answer}
 
 -- the trail with what the step finds

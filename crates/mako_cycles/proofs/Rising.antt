@@ -10,7 +10,7 @@ use Rattle.mako_words.specs.declared.name.Name.{Name}
 use Rattle.mako_shape.specs.Belongings.{server_of_entry}
 use Rattle.mako_shape.specs.Limits.{IsShape}
 use Rattle.mako_shape.specs.declared.numbers.Numbers.{Numbers}
-use Rattle.mako_pause.specs.Hearing.{joined, RiseAt, ListsRise}
+use Rattle.mako_cycles.specs.Hearing.{joined, RiseAt, ListsRise}
 
 pairs_append : {X : Type 0} (R : X → X → Type 0) (xs ys : List X) → AllPairs R xs → AllPairs R ys →
     ((i j : ℕ) (d : X) → i < length xs → j < length ys → R (get_or xs i d) (get_or ys j d)) → AllPairs R (xs ++ ys)

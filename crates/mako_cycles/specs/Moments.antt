@@ -13,10 +13,10 @@ use Rattle.mako_poll.specs.declared.poller.PollStage.TheVariants.{Asking}
 use Rattle.mako_script.specs.Scripts.{ScriptView}
 use Rattle.mako_pause.specs.Collecting.{Holdings, Collecting, running, next_of, Fits, fed}
 use Rattle.mako_pause.specs.Opening.{opening}
-use Rattle.mako_pause.specs.Phasing.{phase_left, phase_of}
-use Rattle.mako_pause.specs.Gating.{IsShut, IsDrained, IsOpen, EachBelow}
-use Rattle.mako_pause.specs.Telling.{ToldOpen, ToldTwice}
-use Rattle.mako_pause.specs.Hearing.{Hears, joined, at_notice}
+use Rattle.mako_cycles.specs.Phasing.{phase_left, phase_of}
+use Rattle.mako_cycles.specs.Gating.{IsShut, IsDrained, IsOpen, EachBelow}
+use Rattle.mako_cycles.specs.Telling.{ToldOpen, ToldTwice}
+use Rattle.mako_cycles.specs.Hearing.{Hears, joined, at_notice}
 use Rattle.mako_pause.specs.declared.stage.Pause.{Pause}
 use Rattle.mako_pause.specs.declared.stage.Pause.TheVariants.{Snapshot, Choice}
 use Rattle.mako_pause.specs.declared.stage.PauseStage.{PauseStage}

@@ -5,8 +5,8 @@ use Rattle.mako_words.specs.declared.phase_word.PhaseWord.TheVariants.{Trace}
 use Rattle.mako_shape.specs.declared.numbers.Numbers.{Numbers}
 use Rattle.mako_step.specs.Trails.{Observation}
 use Rattle.mako_poll.specs.Polls.{FoundZero}
-use Rattle.mako_pause.specs.Phasing.{phase_left}
-use Rattle.mako_pause.specs.Gating.{IsDrained, IsOpen, EachBelow}
+use Rattle.mako_cycles.specs.Phasing.{phase_left}
+use Rattle.mako_cycles.specs.Gating.{IsDrained, IsOpen, EachBelow}
 
 -- in the phase Trace of this cycle, after what had to be before it and with the gates as they had to be, a poll of all
 -- servers told completion

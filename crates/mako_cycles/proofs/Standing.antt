@@ -17,9 +17,9 @@ use Rattle.mako_ring.specs.FlagBits.{changed_bit}
 use Rattle.mako_poll.specs.Polls as polls
 use Rattle.mako_poll.specs.declared.poller.PollStage.{PollStage}
 use Rattle.mako_poll.specs.declared.poller.PollStage.TheVariants.{Asking, Reading, Ended as Polled}
-use Rattle.mako_pause.specs.Phasing.{left_in}
-use Rattle.mako_pause.specs.Gating.{Stands, shuts, opens, at_gate, IsShut, IsDrained, IsOpen, EachBelow}
-use Rattle.mako_pause.specs.Telling.{Told}
+use Rattle.mako_cycles.specs.Phasing.{left_in}
+use Rattle.mako_cycles.specs.Gating.{Stands, shuts, opens, at_gate, IsShut, IsDrained, IsOpen, EachBelow}
+use Rattle.mako_cycles.specs.Telling.{Told}
 
 -- an act with the word that it found
 abbrev pub sees : Act → ℕ → Observation

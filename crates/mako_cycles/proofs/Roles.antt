@@ -11,7 +11,7 @@ use Rattle.mako_shape.specs.Belongings.{server_of_tablet, server_of_region, open
 use Rattle.mako_shape.specs.Limits.{IsShape}
 use Rattle.mako_shape.specs.declared.numbers.Numbers.{Numbers}
 use Rattle.mako_shape.proofs.BelongingLaws.{home_in_range, home_server, one_home}
-use Rattle.mako_pause.specs.Housing.{AreHomes, IsFreeFor, moved}
+use Rattle.mako_cycles.specs.Housing.{AreHomes, IsFreeFor, moved}
 use Rattle.mako_pause.specs.Opening.{opening_role, opening_roles}
 use Rattle.mako_pause.specs.Regions.{is_spare, behind, spare_between}
 use Rattle.mako_pause.specs.declared.regions.Role.{Role}

@@ -1,8 +1,8 @@
 //! What is true of the collector's trails. Each law is a contract, and its function has nothing to do.
 
-ghost use Rattle.mako_pause.specs.Hearing.{ListsRise};
-ghost use Rattle.mako_pause.specs.Housing.{CollectorsGive};
-ghost use Rattle.mako_pause.specs.Moments.{CollectorsGo};
+ghost use Rattle.mako_cycles.specs.Hearing.{ListsRise};
+ghost use Rattle.mako_cycles.specs.Housing.{CollectorsGive};
+ghost use Rattle.mako_cycles.specs.Moments.{CollectorsGo};
 
 /// At every moment the phase word that the trail stored last is that of the stage. Trace and Evac are stored only after
 /// each mutator's gate was shut and then found counting nobody, and opened again after the store alone. In each cycle
