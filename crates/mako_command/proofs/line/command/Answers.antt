@@ -3,8 +3,8 @@ use Rattle.std.proofs.lemmas.List.{take_more, map-append}
 use Rattle.clap.specs.Words.{App, Rule, Text, rule_of, with_rule}
 use Rattle.clap.specs.Walk.{texts}
 use Rattle.clap.specs.declared.builder.arg.Arg.{Arg}
-use Rattle.mako_cli.specs.Tables.{argument, command}
-use Rattle.mako_cli.proofs.command_line.command.Goals as goal
+use Rattle.mako_command.specs.Tables.{argument, command}
+use Rattle.mako_command.proofs.line.command.Goals as goal
 
 abbrev made : Text → List Rule → App
 made name rules = record { top = record (command name []) { rules = rules }; subs = [] }

@@ -1,10 +1,10 @@
 use Rattle.std.proofs.Common.{◌≡◌, ◌∙◌, true, false, map, rules, string_bytes, sym}
 use Rattle.std.proofs.lemmas.List.Folds.{list_all-map}
 use Rattle.clap.specs.Words.{app_of}
-use Rattle.mako_cli.specs.Tables.{is_word}
-use Rattle.mako_cli.proofs.Words.{other_words}
-use Rattle.mako_cli.proofs.Named.{taken_matches, refused_matches}
-use Rattle.mako_cli.proofs.command_line.matches.Goals as goal
+use Rattle.mako_command.specs.Tables.{is_word}
+use Rattle.mako_command.proofs.Words.{other_words}
+use Rattle.mako_command.proofs.Named.{taken_matches, refused_matches}
+use Rattle.mako_command.proofs.line.matches.Goals as goal
 
 pub returns-then-not-are_words : goal.returns-then-not-are_words
 returns-then-not-are_words c =

@@ -5,9 +5,9 @@ ghost use Rattle.std.specs.List.{list_all};
 ghost use Rattle.clap.specs.Words.{app_of, found_of, rows_of, shape_of};
 ghost use Rattle.clap.specs.declared.builder.command.Command.TheViews.{out-Command};
 ghost use Rattle.clap.specs.Walk.{texts};
-ghost use Rattle.mako_cli.specs.CommandLines.{Finds, IsCount, IsGen, IsNumber, IsOrder, IsReplay, Says};
-ghost use Rattle.mako_cli.specs.Tables as tables;
-ghost use Rattle.mako_cli.specs.Tables.{IsMatched, IsTaken};
+ghost use Rattle.mako_command.specs.CommandLines.{Finds, IsCount, IsGen, IsNumber, IsOrder, IsReplay, Says};
+ghost use Rattle.mako_command.specs.Tables as tables;
+ghost use Rattle.mako_command.specs.Tables.{IsMatched, IsTaken};
 
 use clap::error::ErrorKind;
 use clap::{Arg, ArgMatches, Command};

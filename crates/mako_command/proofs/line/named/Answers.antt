@@ -1,7 +1,7 @@
 use Rattle.std.proofs.Common.{◌∙◌, List, ℕ, Option, Bor, codes, sym, ap, option_map}
 use Rattle.clap.specs.Words.{found_of}
-use Rattle.mako_cli.proofs.Named.{equal, unequal, replay_given, gen_given, count_given, replay_says, gen_says, count_says, not_missing}
-use Rattle.mako_cli.proofs.command_line.named.Goals as goal
+use Rattle.mako_command.proofs.Named.{equal, unequal, replay_given, gen_given, count_given, replay_says, gen_says, count_says, not_missing}
+use Rattle.mako_command.proofs.line.named.Goals as goal
 
 abbrev shown : Option (Bor (List ℕ)) → Option (List ℕ)
 shown = option_map (λ s. s.now)

@@ -15,11 +15,11 @@ use Rattle.clap.specs.declared.parser.matches.ArgMatches.TheViews.{out-ArgMatche
 use Rattle.clap.specs.declared.parser.matches.Found.{Found}
 use Rattle.clap.specs.declared.parser.matches.SubCommand.{SubCommand}
 use Rattle.clap.proofs.WalkLemmas.{first_value-rows}
-use Rattle.mako_cli.specs.CommandLines.{Finds, IsReplay, IsGen, IsCount, Says, SayNothing}
-use Rattle.mako_cli.specs.Tables.{IsPair, IsSingle, IsTaken, given, is_word, table}
-use Rattle.mako_cli.specs.declared.command_line.CommandLine.{CommandLine}
-use Rattle.mako_cli.proofs.Rows.{is_simple-table, is_simple_and_free-table, taken}
-use Rattle.mako_cli.proofs.Words.{faulty_words, plain_words}
+use Rattle.mako_command.specs.CommandLines.{Finds, IsReplay, IsGen, IsCount, Says, SayNothing}
+use Rattle.mako_command.specs.Tables.{IsPair, IsSingle, IsTaken, given, is_word, table}
+use Rattle.mako_command.specs.declared.line.CommandLine.{CommandLine}
+use Rattle.mako_command.proofs.Rows.{is_simple-table, is_simple_and_free-table, taken}
+use Rattle.mako_command.proofs.Words.{faulty_words, plain_words}
 
 -- ---- the parse
 

@@ -3,7 +3,7 @@ use Rattle.std.specs.Fmt.{decimal}
 use Rattle.std.specs.Str.{bytes_eq}
 use Rattle.std.proofs.lemmas.Fmt.{parse-decimal}
 use Rattle.std.proofs.lemmas.Slice.Eq.{bytes_eq-Decides}
-use Rattle.mako_cli.proofs.command_line.number.Goals as goal
+use Rattle.mako_command.proofs.line.number.Goals as goal
 
 pub returns-in_default : goal.returns-in_default
 returns-in_default c = λ x h.

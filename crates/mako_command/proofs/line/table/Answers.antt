@@ -2,8 +2,8 @@ use Rattle.std.proofs.Common.{◌≡◌, ◌∙◌, ap, ap₂, codes, true, [], 
 use Rattle.std.proofs.lemmas.Result.{IfOk-weaker}
 use Rattle.clap.specs.Words.{App, app_of, new_app, with_subcommand}
 use Rattle.clap.specs.Simple.{app_of_fields, on_top}
-use Rattle.mako_cli.specs.Tables.{command}
-use Rattle.mako_cli.proofs.command_line.table.Goals as goal
+use Rattle.mako_command.specs.Tables.{command}
+use Rattle.mako_command.proofs.line.table.Goals as goal
 
 abbrev bare : App
 bare = new_app (codes "mako")

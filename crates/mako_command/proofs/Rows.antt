@@ -12,7 +12,7 @@ use Rattle.clap.specs.Walk.{Names, Rule, Text, Walk, idle, walked, nothing_held}
 use Rattle.clap.specs.declared.error.kind.ErrorKind.{ErrorKind}
 use Rattle.clap.specs.declared.error.kind.ErrorKind.TheVariants as kind
 use Rattle.clap.proofs.OnLiterals.{clap_on_literals}
-use Rattle.mako_cli.specs.Tables.{table, given, IsPair, IsSingle, IsTaken}
+use Rattle.mako_command.specs.Tables.{table, given, IsPair, IsSingle, IsTaken}
 
 pub is_simple_and_free-table : is_simple_and_free table ≡ true
 is_simple_and_free-table = refl

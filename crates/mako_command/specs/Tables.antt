@@ -7,7 +7,7 @@ use Rattle.clap.specs.Simple.{new_shape}
 use Rattle.clap.specs.declared.builder.value_parser.Reading.TheVariants.{AsWritten}
 use Rattle.clap.specs.declared.parser.matches.ArgMatches.{ArgMatches}
 use Rattle.clap.specs.declared.parser.matches.ValueSource.TheVariants as source
-use Rattle.mako_cli.specs.CommandLines.{SayNothing}
+use Rattle.mako_command.specs.CommandLines.{SayNothing}
 
 -- a to z, or 0 to 9
 abbrev pub is_plain : ℕ → Bool

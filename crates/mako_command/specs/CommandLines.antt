@@ -3,8 +3,8 @@ use Rattle.std.specs.Prelude.{◌≡◌, ℕ, ◌≤◌, List, [], ◌∷◌, �
 use Rattle.std.specs.Fmt.{decimal}
 use Rattle.mako_replay.specs.declared.order.Order.{Order}
 use Rattle.mako_replay.specs.declared.order.Order.TheVariants.{Turns, Seed}
-use Rattle.mako_cli.specs.declared.command_line.CommandLine.{CommandLine}
-use Rattle.mako_cli.specs.declared.command_line.CommandLine.TheVariants.{Replay, Gen, Count}
+use Rattle.mako_command.specs.declared.line.CommandLine.{CommandLine}
+use Rattle.mako_command.specs.declared.line.CommandLine.TheVariants.{Replay, Gen, Count}
 
 -- what was looked for was found, or there is none
 abbrev pub Finds : {A : Type 0} → (A → Type 0) → Option A → Type 0

@@ -11,13 +11,13 @@ use Rattle.std.proofs.lemmas.Str.Parse.{IsNumeralModel, numerals_by_fold}
 use Rattle.std.proofs.lemmas.List.Sums.{AllPass-from_list_all}
 use Rattle.clap.specs.Faults.{fault_of}
 use Rattle.clap.specs.Walk.{Text}
-use Rattle.mako_cli.specs.CommandLines.{Says, SayNothing, IsReplay, IsGen, IsCount, IsOrder, IsNumber, max_seed}
-use Rattle.mako_cli.specs.Tables.{is_plain, is_word, table}
+use Rattle.mako_command.specs.CommandLines.{Says, SayNothing, IsReplay, IsGen, IsCount, IsOrder, IsNumber, max_seed}
+use Rattle.mako_command.specs.Tables.{is_plain, is_word, table}
 use Rattle.mako_replay.specs.declared.order.Order.{Order}
 use Rattle.mako_replay.specs.declared.order.Order.TheVariants.{Turns, Seed}
-use Rattle.mako_cli.specs.declared.command_line.CommandLine.{CommandLine}
-use Rattle.mako_cli.specs.declared.command_line.CommandLine.TheVariants.{Replay, Gen, Count}
-use Rattle.mako_cli.proofs.Rows.{IsPlain, replay_taken, gen_taken, count_taken}
+use Rattle.mako_command.specs.declared.line.CommandLine.{CommandLine}
+use Rattle.mako_command.specs.declared.line.CommandLine.TheVariants.{Replay, Gen, Count}
+use Rattle.mako_command.proofs.Rows.{IsPlain, replay_taken, gen_taken, count_taken}
 
 -- a byte of a word is no hyphen
 not_hyphen : (b : ℕ) → is_plain b ≡ true → (b == 45) ≡ false
