@@ -11,8 +11,3 @@ pub use count::count_top;
 pub use ended::Ended;
 pub use mako_command::CommandLine;
 pub use settled::Settled;
-
-#[cfg(test)]
-mod count_tests;
-#[cfg(test)]
-mod tests;

@@ -1,4 +1,6 @@
-use super::*;
+//! The commands, over streams in memory.
+
+use mako_cli::{gen_top, replay_top, top};
 use mako_io::{MemSink, MemSource, SoundSink, SoundSource};
 use mako_replay::Order;
 use std::alloc::{AllocError, Global};
@@ -9,10 +11,10 @@ const HEADER: &[u8] =
 
 const READS_BACK: &[u8] = b"mutator\nnew a 1\nnum n 7\nput a 0 n\nget b a 0\nend\n";
 
-/// A script with the usual header.
-fn script(alloc: Global, section: &[u8]) -> Result<Vec<u8>, AllocError> {
-    let mut text = Vec::from_slice(alloc, HEADER)?;
-    text.extend_from_slice(section)?;
+/// One text behind the other.
+fn joined(alloc: Global, first: &[u8], second: &[u8]) -> Result<Vec<u8>, AllocError> {
+    let mut text = Vec::from_slice(alloc, first)?;
+    text.extend_from_slice(second)?;
     Ok(text)
 }
 
@@ -65,7 +67,7 @@ fn replays_scripts(rt: HostRuntime) -> Result<(), Fail> {
     ];
     for (steps, section, status, output) in &cases {
         let command = words(alloc, &["replay", "turns", *steps])?;
-        let mut source = SoundSource::new(script(alloc, section)?);
+        let mut source = SoundSource::new(joined(alloc, HEADER, section)?);
         let mut sink = SoundSink::new(alloc, 100)?;
         let ended = top(&rt, alloc, &command, &mut source, &mut sink);
         assert_eq!(rt; ended.status, *status);
@@ -78,7 +80,7 @@ fn replays_scripts(rt: HostRuntime) -> Result<(), Fail> {
 fn reports_a_read_fault(rt: HostRuntime) -> Result<(), Fail> {
     let alloc = rt.alloc();
     let fails = Vec::from_slice(alloc, &[2])?;
-    let mut source = MemSource::new(script(alloc, READS_BACK)?, fails);
+    let mut source = MemSource::new(joined(alloc, HEADER, READS_BACK)?, fails);
     let mut sink = SoundSink::new(alloc, 100)?;
     let ended = replay_top(alloc, Order::Turns, 1000, &mut source, &mut sink);
     assert_eq!(rt; ended.status, 3);
@@ -90,7 +92,7 @@ fn reports_a_read_fault(rt: HostRuntime) -> Result<(), Fail> {
 fn reports_a_write_fault(rt: HostRuntime) -> Result<(), Fail> {
     let alloc = rt.alloc();
     let fails = Vec::from_slice(alloc, &[3])?;
-    let mut source = SoundSource::new(script(alloc, READS_BACK)?);
+    let mut source = SoundSource::new(joined(alloc, HEADER, READS_BACK)?);
     let mut sink = MemSink::new(alloc, 100, fails)?;
     let ended = replay_top(alloc, Order::Seed(7), 1000, &mut source, &mut sink);
     assert_eq!(rt; ended.status, 4);
