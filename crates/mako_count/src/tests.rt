@@ -8,8 +8,9 @@ fn tells_a_small_count(rt: HostRuntime) -> Result<(), Fail> {
         mut workers,
         mut poller,
     } = Count::start(rt.alloc(), &[1, 0], 1)?;
-    let mut second = workers.pop().ok_or("second")?;
-    let mut first = workers.pop().ok_or("first")?;
+    let (Some(mut second), Some(mut first)) = (workers.pop(), workers.pop()) else {
+        return Err(Fail::from("no workers"));
+    };
     assert_eq!(rt; second.take(&count), Taken::Empty);
     assert_eq!(rt; first.take(&count), Taken::Got);
     let sums = Counting::NotYet {
@@ -42,7 +43,9 @@ fn meets_a_worker(rt: HostRuntime) -> Result<(), Fail> {
         mut workers,
         mut poller,
     } = Count::start(rt.alloc(), &[0], 0)?;
-    let worker = workers.pop().ok_or("worker")?;
+    let Some(worker) = workers.pop() else {
+        return Err(Fail::from("no worker"));
+    };
     poller.meet(&count, worker);
     assert_eq!(rt; poller.poll(&count), Counting::Told { pieces: 0 });
     Ok(())
@@ -53,13 +56,5 @@ fn tells_each_of_a_hundred_runs(rt: HostRuntime) -> Result<(), Fail> {
     for _ in 0..100 {
         assert_eq!(rt; count_pieces(&rt, rt.alloc(), 8)?, 128);
     }
-    Ok(())
-}
-
-#[test]
-fn tells_the_smallest_and_the_largest_ring(rt: HostRuntime) -> Result<(), Fail> {
-    assert_eq!(rt; count_pieces(&rt, rt.alloc(), 1)?, 16);
-    assert_eq!(rt; count_pieces(&rt, rt.alloc(), 3)?, 48);
-    assert_eq!(rt; count_pieces(&rt, rt.alloc(), 64)?, 1024);
     Ok(())
 }
