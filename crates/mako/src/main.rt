@@ -1,11 +1,6 @@
 //! The program: the top call over the words of the command line, standard input and standard output.
 #![tactic(auto)]
 
-#[cfg(test)]
-mod count_tests;
-#[cfg(test)]
-mod tests;
-
 use mako_cli::top;
 use mako_io::{StdSink, StdSource};
 use std::env::Env;

@@ -1,4 +1,6 @@
-use super::*;
+//! A small count, turn by turn, and whole counts on threads.
+
+use mako_count::{Count, Counted, Counting, Sent, Taken, count_pieces};
 use std::test::Fail;
 
 #[test]

@@ -1,6 +1,6 @@
 //! Tables of fronts with their verdicts.
 
-use crate::{Clause, Fault, Setup, Verdict, judge};
+use mako_judge::{Clause, Fault, Setup, Verdict, judge};
 use mako_model::{Call, Cycles, Journal, Point, Reply};
 use mako_words::{Name, Value};
 use std::alloc::Global;
