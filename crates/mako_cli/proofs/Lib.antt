@@ -1,4 +1,1 @@
-pub mod Rows
-pub mod Words
-pub mod Named
 mod Replays

@@ -1,4 +1,2 @@
-pub mod CommandLines
-pub mod Tables
 pub mod Settling
 pub mod Counts

@@ -20,10 +20,10 @@ use Rattle.mako_script.specs.ScriptFacts.{facts_of}
 use Rattle.mako_gen.specs.Workloads.{IsWorkload}
 use Rattle.mako_replay.specs.Runs.{Going, after}
 use Rattle.mako_replay.specs.declared.order.Order.{Order}
-use Rattle.mako_cli.specs.CommandLines.{Says, SayNothing}
+use Rattle.mako_command.specs.CommandLines.{Says, SayNothing}
 use Rattle.mako_cli.specs.Counts.{handled_text}
-use Rattle.mako_cli.specs.declared.command_line.CommandLine.{CommandLine}
-use Rattle.mako_cli.specs.declared.command_line.CommandLine.TheVariants.{Replay, Gen, Count}
+use Rattle.mako_command.specs.declared.line.CommandLine.{CommandLine}
+use Rattle.mako_command.specs.declared.line.CommandLine.TheVariants.{Replay, Gen, Count}
 use Rattle.mako_cli.specs.declared.ended.Ended.{Ended}
 use Rattle.mako_cli.specs.declared.settled.Settled.{Settled}
 use Rattle.mako_cli.specs.declared.settled.Settled.TheVariants.{Replayed, Generated, Counted, Usage, NoScript, ReadFault, Memory}

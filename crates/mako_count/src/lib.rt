@@ -17,6 +17,3 @@ pub use count::{Count, Counted};
 pub use poller::{CountPoller, Counting};
 pub use run::count_pieces;
 pub use worker::{Sent, Taken, Worker};
-
-#[cfg(test)]
-mod tests;

@@ -17,6 +17,3 @@ mod verdict;
 pub use judging::judge;
 pub use setup::Setup;
 pub use verdict::{Clause, Fault, Verdict};
-
-#[cfg(test)]
-mod tests;

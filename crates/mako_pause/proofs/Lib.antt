@@ -1,10 +1,5 @@
-pub mod Gifts
 pub mod Going
 pub mod Lowering
-pub mod Moments
 pub mod NameWords
 pub mod Openings
 pub mod Places
-pub mod Rising
-pub mod Roles
-pub mod Standing

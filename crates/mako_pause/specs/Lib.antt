@@ -3,9 +3,3 @@ pub mod Keeping
 pub mod Opening
 pub mod Ranks
 pub mod Regions
-pub mod Gating
-pub mod Hearing
-pub mod Housing
-pub mod Moments
-pub mod Phasing
-pub mod Telling

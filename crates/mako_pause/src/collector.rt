@@ -156,12 +156,10 @@ impl Collector {
         let Collector { kept, stage: _ } = self;
         kept.into_cycles()
     }
-}
 
-#[cfg(test)]
-impl Collector {
-    /// Whether it can go on with this word, for tests.
-    pub(crate) fn can_go_on(&self, before: u64) -> bool
+    /// Whether it can go on with this word, of a heap without garbage: for callers that know nothing of the words that
+    /// are found. Where the answer is no, it may be able to all the same.
+    pub fn can_go_on(&self, before: u64) -> bool
         ensures { result ≡ true → collecting.Fits self.now before }
     {
         self.stage.can_go_on(&self.kept, before)

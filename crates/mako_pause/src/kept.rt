@@ -15,7 +15,6 @@ ghost use Rattle.mako_pause.specs.Keeping.{Runs, IsKeptKnown, EmptyIsKnown};
 ghost use Rattle.mako_pause.specs.Opening.{new_holdings};
 
 mod choices;
-#[cfg(test)]
 mod fitting;
 mod rings;
 
@@ -330,14 +329,20 @@ impl Kept {
 fn no_windows(alloc: Global, count: usize) -> Result<Vec<Window>, Memory>
     ensures { IfOk result (λ windows. windows.items ≡ replicate count no_window) }
 {
-    vec![in alloc; Window { head: 0, tail: 0 }; count].map_err(|_| Memory)
+    let Ok(windows) = vec![in alloc; Window { head: 0, tail: 0 }; count] else {
+        return Err(Memory);
+    };
+    Ok(windows)
 }
 
 /// So many positions at the first slot.
 fn first_places(alloc: Global, count: usize) -> Result<Vec<u64>, Memory>
     ensures { IfOk result (λ places. places.items ≡ replicate count 0) }
 {
-    vec![in alloc; 0u64; count].map_err(|_| Memory)
+    let Ok(places) = vec![in alloc; 0u64; count] else {
+        return Err(Memory);
+    };
+    Ok(places)
 }
 
 /// The first window with a slot that was not seen emptied.

@@ -7,13 +7,10 @@ mod collector;
 mod forwarding;
 mod idling;
 mod kept;
-pub mod laws;
 mod noticing;
 mod pausing;
 mod regions;
 mod stage;
-#[cfg(test)]
-mod tests;
 
 pub use collector::Collector;
 pub use kept::Kept;

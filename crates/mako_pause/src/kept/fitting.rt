@@ -1,4 +1,4 @@
-//! Whether the collector can go on with a word, for tests: what they do not need is not found to fit.
+//! Whether the collector can go on with a word, in a heap without garbage: other words are not found to fit.
 
 ghost use Rattle.std.specs.Prelude.{◌≡◌, true, ◌<◌, ◌*◌, length};
 ghost use Rattle.mako_words.specs.Values.{IsPacked, value_at};

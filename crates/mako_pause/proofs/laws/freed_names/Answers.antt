@@ -1,5 +1,0 @@
-use Rattle.mako_pause.proofs.Rising.{lists_rise}
-use Rattle.mako_pause.proofs.laws.freed_names.Goals as goal
-
-pub returns : goal.returns
-returns c = lists_rise
