@@ -277,7 +277,7 @@ roles_next n cycle roles given h = record {
   soon = λ r. soon_next cycle (role_at roles r) (h.soon r);
 }
 
-opening_at : (n : Numbers) (count r : ℕ) → r < count → role_at (opening_roles n count) r ≡ opening_role n r
+pub opening_at : (n : Numbers) (count r : ℕ) → r < count → role_at (opening_roles n count) r ≡ opening_role n r
 unfolding opening_roles
 opening_at n zero r l = absurd (omega (arith, l))
 opening_at n (suc count) r l =

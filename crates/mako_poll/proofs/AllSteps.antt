@@ -63,7 +63,7 @@ unrest_shows n s k h is =
     ]
 
 -- a ring of empty slots
-opening_ring : (size : ℕ) (slot : ℕ → ℕ) (at : ℕ) (w : Window) → 0 < size → ((k : ℕ) → k < size → slot k ≡ 0) → at ≡ 0 → w.head ≡ 0 → w.tail ≡ 0 → RingStands size slot at w
+pub opening_ring : (size : ℕ) (slot : ℕ → ℕ) (at : ℕ) (w : Window) → 0 < size → ((k : ℕ) → k < size → slot k ≡ 0) → at ≡ 0 → w.head ≡ 0 → w.tail ≡ 0 → RingStands size slot at w
 opening_ring size slot at w some empty a e t = record {
   at_below = omega arith;
   window = record { tail_below = omega arith; ordered = omega arith; few = omega arith };

@@ -151,12 +151,12 @@ worlds_stand n v [] stands steps = stands
 worlds_stand n v (u ∷ us) stands steps = worlds_stand n u us (world_step n v u stands steps.0) steps.1
 
 -- ---- the opening
-no_windows : (size r : ℕ) → slice_index_or (replicate size no_window) r no_window ≡ no_window
+pub no_windows : (size r : ℕ) → slice_index_or (replicate size no_window) r no_window ≡ no_window
 no_windows zero r = refl
 no_windows (suc size) zero = refl
 no_windows (suc size) (suc r) = no_windows size r
 
-no_positions : (size r : ℕ) → slice_index (replicate size 0) r ≡ 0
+pub no_positions : (size r : ℕ) → slice_index (replicate size 0) r ≡ 0
 no_positions zero r = refl
 no_positions (suc size) zero = refl
 no_positions (suc size) (suc r) = no_positions size r

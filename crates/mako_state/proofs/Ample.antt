@@ -35,12 +35,12 @@ cond_le true x = omega arith
 cond_le false x = omega arith
 
 -- the weight of the call, if it made an object for the mutator with that number or for one after it
-abbrev weight_at : (Call → ℕ) → ℕ → Point → ℕ
+abbrev pub weight_at : (Call → ℕ) → ℕ → Point → ℕ
 weight_at weight first (Did m c (Made name)) = cond (ltb m first) 0 (weight c)
 weight_at weight first p = 0
 
 -- the sum over all points
-abbrev weights : (Call → ℕ) → ℕ → List Point → ℕ
+abbrev pub weights : (Call → ℕ) → ℕ → List Point → ℕ
 weights weight first [] = 0
 weights weight first (p ∷ points) = weight_at weight first p + weights weight first points
 
@@ -102,7 +102,7 @@ prefix_le weight calls program t =
     ap (sum_by weight) (sym t.1) ∙ sum_by-append weight calls t.0 in omega arith
 
 -- the calls of the mutators from that one on are prefixes of the programs
-abbrev FollowsFrom : ℕ → List (List Call) → List Point → Type 0
+abbrev pub FollowsFrom : ℕ → List (List Call) → List Point → Type 0
 FollowsFrom first programs points = (i m : ℕ) (program : List Call) → m ≡ first + i
     → slice_get programs i ≡ Some program → IsPrefix (calls_by m points) program
 
@@ -110,13 +110,13 @@ follows_rest : (first : ℕ) (p : List Call) (programs : List (List Call)) (poin
     → FollowsFrom first (p ∷ programs) points → FollowsFrom (first + 1) programs points
 follows_rest first p programs points follows i m program e at = follows (suc i) m program (omega arith) at
 
-all_programs : (weight : Call → ℕ) (p : List Call) (programs : List (List Call))
+pub all_programs : (weight : Call → ℕ) (p : List Call) (programs : List (List Call))
     → sum_by weight (flat_map (λ calls. calls) (p ∷ programs))
     ≡ sum_by weight p + sum_by weight (flat_map (λ calls. calls) programs)
 all_programs weight p programs = sum_by-append weight p (flat_map (λ calls. calls) programs)
 
 -- those of all mutators weigh no more than the programs, but for mutators that have no program
-all_mutators : (weight : Call → ℕ) (first end : ℕ) (programs : List (List Call)) (points : List Point)
+pub all_mutators : (weight : Call → ℕ) (first end : ℕ) (programs : List (List Call)) (points : List Point)
     → FollowsFrom first programs points → end ≡ first + length programs
     → weights weight first points ≤ sum_by weight (flat_map (λ calls. calls) programs) + weights weight end points
 all_mutators weight first end [] points follows is =
@@ -182,7 +182,7 @@ none_at weight end h (Did m c (Made name)) lawful rows =
     let l = row_within h.roots m t.0 t.3.0 t.3.1 in weight_before weight end m c name (omega arith)
 none_at weight end h p lawful rows = refl
 
-none_from : (weight : Call → ℕ) (end : ℕ) (h : Heap) (points : List Point) → AreLawful h points
+pub none_from : (weight : Call → ℕ) (end : ℕ) (h : Heap) (points : List Point) → AreLawful h points
     → length h.roots ≡ end → weights weight end points ≡ 0
 none_from weight end h [] all rows = refl
 none_from weight end h (p ∷ points) all rows =
@@ -220,7 +220,7 @@ words_few w t (p ∷ points) =
 -- ---- names
 
 -- 1 for a call that makes an object
-abbrev one_new : Call → ℕ
+abbrev pub one_new : Call → ℕ
 one_new c = cond (is_new c) 1 0
 
 made_at : (h : Heap) (p : Point) → IsLawful h p → length (made_by p) ≤ weight_at one_new 0 p
@@ -230,7 +230,7 @@ made_at h (Did m c (Made name)) lawful =
     let e = weight_there one_new 0 m c name (omega arith) in omega arith
 made_at h p lawful = omega arith
 
-made_few : (h : Heap) (points : List Point) → AreLawful h points
+pub made_few : (h : Heap) (points : List Point) → AreLawful h points
     → length (flat_map made_by points) ≤ weights one_new 0 points
 made_few h [] all = omega arith
 made_few h (p ∷ points) all =

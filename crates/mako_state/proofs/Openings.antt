@@ -68,16 +68,16 @@ number_fits n (Show r) fits = tt
 number_fits n Collect fits = tt
 
 module _ (s : ScriptView) (proper : IsProper s) where
-  in_range : EachInRange (tested s.numbers)
+  pub in_range : EachInRange (tested s.numbers)
   in_range = proper.shape.in_range.each
 
   mutators_are : length (facts_of s).programs ≡ s.numbers.mutators
   mutators_are = length-map s.programs (λ (p : ProgramView). p.calls) ∙ sym proper.mutators
 
-  board_fits : s.board + 1 ≤ s.numbers.words
+  pub board_fits : s.board + 1 ≤ s.numbers.words
   board_fits = let high = proper.board_high in omega (arith, high, in_range)
 
-  workload : IsWorkloadOf s.numbers (facts_of s)
+  pub workload : IsWorkloadOf s.numbers (facts_of s)
   workload = record {
     mutators = mutators_are;
     roots = refl;
@@ -91,11 +91,11 @@ module _ (s : ScriptView) (proper : IsProper s) where
     few_generations = omega (arith, in_range);
   }
 
-  program_at : (m : ℕ) (p : ProgramView) → slice_get s.programs m ≡ Some p
+  pub program_at : (m : ℕ) (p : ProgramView) → slice_get s.programs m ≡ Some p
       → slice_get (facts_of s).programs m ≡ Some p.calls
   program_at m p at = map_at (λ (q : ProgramView). q.calls) s.programs m p at
 
-  programs_fit : ProgramsFit (facts_of s).programs
+  pub programs_fit : ProgramsFit (facts_of s).programs
   programs_fit m program call at here =
       let t = map_get (λ (q : ProgramView). q.calls) s.programs m program at in
       let found : slice_get program here.0 ≡ Some call =
@@ -123,43 +123,42 @@ root_value (suc k) roots (suc m) q v e = root_value k roots m q v e
 
 -- ---- a core with these words and seats
 
-module _ (s : ScriptView) (proper : IsProper s) (form : NeedsNoCycle (facts_of s)) (ws : List ℕ)
-    (size : length ws ≡ total s.numbers)
+module _ (s : ScriptView) (proper : IsProper s) (ws : List ℕ) (size : length ws ≡ total s.numbers)
     (stands : (p : Place) → Within s.numbers p → word_at s.numbers ws p ≡ opening_words s.numbers s.board p)
     (seats : List Seat) (count : length seats ≡ s.numbers.mutators + s.numbers.servers + 1)
     (each : (i : ℕ) (v : Seat) → slice_get seats i ≡ Some v → IsOpeningSeat s i v) where
   -- names
-  phase_is : phase_of s.numbers ws ≡ Idle 0
+  pub phase_is : phase_of s.numbers ws ≡ Idle 0
   unfolding phase_of
   phase_is = ap phase_at (stands phase tt)
 
-  some : 0 < all_entries s.numbers
+  pub some : 0 < all_entries s.numbers
   some = entries_some s.numbers proper.shape s.board
 
-  first : entry_of s.numbers ws 0 ≡ board_entry s.numbers
+  pub first : entry_of s.numbers ws 0 ≡ board_entry s.numbers
   unfolding entry_of
   first = ap entry_at (stands (entry 0) some)
       ∙ entry_at-entry_word (board_entry s.numbers) (fits_word s.numbers proper.shape s.board (board_fits s proper))
 
-  word_zero : (x : ℕ) → 0 < x → x < all_entries s.numbers → word_at s.numbers ws (entry x) ≡ 0
+  pub word_zero : (x : ℕ) → 0 < x → x < all_entries s.numbers → word_at s.numbers ws (entry x) ≡ 0
   word_zero x l within = stands (entry x) within ∙ off x l
     where
       off : (x : ℕ) → 0 < x → opening_words s.numbers s.board (entry x) ≡ 0
       off x l = grind (arith, nat_tests)
 
-  others : (x : ℕ) → 0 < x → x < all_entries s.numbers
+  pub others : (x : ℕ) → 0 < x → x < all_entries s.numbers
       → ((entry_of s.numbers ws x).taken ≡ false) × ((entry_of s.numbers ws x).generation ≡ 0)
   unfolding entry_of
   others x l within =
       let e = word_zero x l within in (ap (λ k. (entry_at k).taken) e, ap (λ k. (entry_at k).generation) e)
 
-  slots : (p : Place) → Within s.numbers p → IsUseSlot p → word_at s.numbers ws p ≡ 0
+  pub slots : (p : Place) → Within s.numbers p → IsUseSlot p → word_at s.numbers ws p ≡ 0
   slots (barrier m slot) within is = stands (barrier m slot) within
   slots (work i slot) within is = stands (work i slot) within
   slots (ghost a b slot) within is = stands (ghost a b slot) within
   slots p within is = absurd is
 
-  board_in_range : IsInRange (facts_of s) board_name
+  pub board_in_range : IsInRange (facts_of s) board_name
   board_in_range = record { entry = some; generation = (let r = in_range s proper in omega (arith, r)) }
 
   -- what is left of each program is the program
@@ -173,7 +172,7 @@ module _ (s : ScriptView) (proper : IsProper s) (form : NeedsNoCycle (facts_of s
       absurd (let within = slice_get_within (facts_of s).programs i program is in
       let long = mutators_are s proper in let same = proper.mutators in omega arith)
 
-  programs_left : (m : ℕ) (left program : List Call) → slice_get (map left_facet seats) m ≡ Some left
+  pub programs_left : (m : ℕ) (left program : List Call) → slice_get (map left_facet seats) m ≡ Some left
       → slice_get (facts_of s).programs m ≡ Some program → program ≡ left
   programs_left m left program at is =
       let t = map_get left_facet seats m left at in program_is m t.0 program (each m t.0 t.1) is ∙ t.2
@@ -198,14 +197,14 @@ module _ (s : ScriptView) (proper : IsProper s) (form : NeedsNoCycle (facts_of s
   })
 
   -- layouts
-  gates_same : map (gate_facet s.numbers) seats ≡ seats_from 0 (s.numbers.mutators + s.numbers.servers + 1)
+  pub gates_same : map (gate_facet s.numbers) seats ≡ seats_from 0 (s.numbers.mutators + s.numbers.servers + 1)
   gates_same = gates_are (map (gate_facet s.numbers) seats) 0 (s.numbers.mutators + s.numbers.servers + 1)
       (length-map seats (gate_facet s.numbers) ∙ count)
       (λ i g at. let t = map_get (gate_facet s.numbers) seats i g at in
       sym t.2 ∙ gate_is s proper.mutators i t.0 (each i t.0 t.1)
       ∙ ap (λ q. mutator_at q away) (let a : i ≡ 0 + i = omega arith in a))
 
-  works_same : map work_facet seats ≡ idle_works (s.numbers.mutators + s.numbers.servers + 1)
+  pub works_same : map work_facet seats ≡ idle_works (s.numbers.mutators + s.numbers.servers + 1)
   works_same = works_are (map work_facet seats) (s.numbers.mutators + s.numbers.servers + 1)
       (length-map seats work_facet ∙ count)
       (λ i w at. let t = map_get work_facet seats i w at in sym t.2 ∙ work_is s i t.0 (each i t.0 t.1))
@@ -248,13 +247,13 @@ module _ (s : ScriptView) (proper : IsProper s) (form : NeedsNoCycle (facts_of s
       }) one
 
   -- roots, seats, and that no cycle runs
-  roots : RootsStand s.numbers (opening_of (facts_of s)) ws seats
+  pub roots : RootsStand s.numbers (opening_of (facts_of s)) ws seats
   roots m q v x at low in_row is =
       subst (λ (c : Option Carried). WordStands c q (word_at s.numbers ws (root m q)) x)
       (sym (carries_none s m v (each m v at)))
       (stands (root m q) (low, in_row) ∙ root_value (length (facts_of s).programs) s.numbers.roots m q x is)
 
-  mutator_stands : (m : ℕ) (p : ProgramView) → slice_get s.programs m ≡ Some p
+  pub mutator_stands : (m : ℕ) (p : ProgramView) → slice_get s.programs m ≡ Some p
       → MutatorStands s.numbers (facts_of s) opening_front m (opening_driver s.numbers m p)
   mutator_stands m p at =
       let within : m < length s.programs = slice_get_within s.programs m p at in
@@ -276,36 +275,36 @@ module _ (s : ScriptView) (proper : IsProper s) (form : NeedsNoCycle (facts_of s
   seat_stands _ _ (of_server i j e l) = ((let same = proper.mutators in omega arith), l, refl)
   seat_stands _ _ (of_collector i e) = ((let same = proper.mutators in omega arith), refl)
 
-  ended_none : sum_by ended_of seats ≡ 0
+  pub ended_none : sum_by ended_of seats ≡ 0
   ended_none = sum_none ended_of seats (λ i v at. none_ended s i v (each i v at))
 
-  seat_rests : (i : ℕ) (v : Seat) → IsOpeningSeat s i v → SeatRests s.numbers ws seats v
-  seat_rests _ _ (of_mutator m p at) =
+  seat_rests : NeedsNoCycle (facts_of s) → (i : ℕ) (v : Seat) → IsOpeningSeat s i v → SeatRests s.numbers ws seats v
+  seat_rests form _ _ (of_mutator m p at) =
       first_rests (record { shape = s.numbers; mutator = m }) p.calls s.numbers (no_collect s proper form m p at)
-  seat_rests _ _ (of_server i j e l) = tt
-  seat_rests _ _ (of_collector i e) = (refl, stands phase tt)
+  seat_rests form _ _ (of_server i j e l) = tt
+  seat_rests form _ _ (of_collector i e) = (refl, stands phase tt)
 
-  rests : NoCycleRuns s.numbers ws seats
-  rests = record {
+  rests : NeedsNoCycle (facts_of s) → NoCycleRuns s.numbers ws seats
+  rests form = record {
     demand = stands demand tt;
     homes = λ t low. stands (home t) low;
     finished = stands finished tt ∙ sym ended_none;
-    each = λ i v at. seat_rests i v (each i v at);
+    each = λ i v at. seat_rests form i v (each i v at);
   }
 
-  opens : WholeInvariant s.numbers (facts_of s) core
-  opens = record {
+  opens : NeedsNoCycle (facts_of s) → WholeInvariant s.numbers (facts_of s) core
+  opens form = record {
     script = record { shape = proper.shape; facts = workload s proper; programs = programs_fit s proper; form = form };
     count = count;
     seats = λ i v at. seat_stands i v (each i v at);
     names = names;
     layout = evacuated;
     roots = roots;
-    rests = rests;
+    rests = rests form;
   }
 
 pub opening_holds : OpeningHolds
 opening_holds s proper form =
-    opens s proper form (words_at_start s.numbers s.board) (start_size s.numbers proper.shape s.board)
+    opens s proper (words_at_start s.numbers s.board) (start_size s.numbers proper.shape s.board)
     (start_words s.numbers proper.shape s.board) (opening_seats s)
-    (let many = seats_count s in let same = proper.mutators in omega (arith, many, same)) (seat_is s)
+    (let many = seats_count s in let same = proper.mutators in omega (arith, many, same)) (seat_is s) form

@@ -141,7 +141,7 @@ module _ (o : Owner) (is_owner : IsOwner o) where
         subst (λ i. i / m.tablets ≡ o.server) at (div-mul-add o.server m.tablets b low),
       )
 
-  own_entry : (x : ℕ) → IsOwnEntry o x
+  pub own_entry : (x : ℕ) → IsOwnEntry o x
       → (x < m.servers * m.tablets * m.entries) × (server_of_entry m x ≡ o.server)
   own_entry x is =
       let some : 0 < m.entries = width x m.entries (tablets_end o) is.below in

@@ -1,0 +1,17 @@
+pub mod AllHoused
+pub mod AllRuns
+pub mod CollectorChoices
+pub mod CollectorFinishes
+pub mod CollectorGates
+pub mod CollectorGoing
+pub mod CollectorHears
+pub mod CollectorHoused
+pub mod CollectorLeaves
+pub mod CollectorRounds
+pub mod CollectorSnaps
+pub mod CollectorSteps
+pub mod MutatorSteps
+pub mod Openings
+pub mod Seats
+pub mod ServerSteps
+pub mod Telling
