@@ -24,9 +24,10 @@ looks_find_names n w s seats i k m all here hold =
     let low : m < k.shape.mutators = sits.keeps.stage.1 in
     let count = sits.known.barriers_count in
     let inside : slice_index k.barrier_at m < k.shape.ring = sits.known.barriers m 0 (omega arith) in
-    hold m (slice_index k.barrier_at m)
-    (subst (λ (q : Numbers). m < q.mutators) sits.here.shape low,
-    subst (λ (q : Numbers). slice_index k.barrier_at m < q.ring) sits.here.shape inside)
+    hold m (slice_index k.barrier_at m) (
+      subst (λ (q : Numbers). m < q.mutators) sits.here.shape low,
+      subst (λ (q : Numbers). slice_index k.barrier_at m < q.ring) sits.here.shape inside,
+    )
 
 pub emptying_leaves_names : EmptyingLeavesNames
 emptying_leaves_names n words us leaves hold m slot within =

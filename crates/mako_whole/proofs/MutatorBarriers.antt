@@ -40,7 +40,7 @@ module _ (n : Numbers) (w : Facts) (s : JointScene) (seats : List Seat) (m : ℕ
 
   module _ (put : Calling) (at : Located) (args : Put) (old : Name) (is : d.progress.task ≡ Attempting put)
       (st : put.stage ≡ Putting at args (StoringBarrier old)) where
-    known : calling.IsKnown put
+    pub known : calling.IsKnown put
     known = (subst (TaskIsKnown d.caller d.calls d.progress.done) is sits.keeps.known.progress.task).known
 
     same : put.caller ≡ d.caller
@@ -56,7 +56,7 @@ module _ (n : Numbers) (w : Facts) (s : JointScene) (seats : List Seat) (m : ℕ
     slot = subst (PutsAt (all.places m)) is sits.puts
 
     -- the words after it
-    stored : set s.words (index n (barrier m (all.places m))) (name_word old) ≡ (stepped s m d).words
+    pub stored : set s.words (index n (barrier m (all.places m))) (name_word old) ≡ (stepped s m d).words
     stored =
         (λ i. set s.words (index (sym shape i) (barrier (sym number i) (sym slot i))) (name_word old))
         ∙ ap (λ t. words_stepped (calling.stage_next put.caller put.slot t) s.words) (sym st)
@@ -84,7 +84,7 @@ module _ (n : Numbers) (w : Facts) (s : JointScene) (seats : List Seat) (m : ℕ
         (subst (TaskKeeps n (state_of w s.front.history) s.words m) is sits.keeps.counts)
         (subst StoresBarrier (sym st) tt)
 
-    place_low : all.places m < n.ring
+    pub place_low : all.places m < n.ring
     place_low = subst (λ x. x < n.ring) slot (subst (λ (k : Numbers). put.slot < k.ring) shape known.slot)
 
     ring_goes_on : (i : ℕ) (c : Collecting) → CollectorSits n w s all.taker all.places i c

@@ -50,7 +50,7 @@ clearing_goes n w s e ended laden taker sent j reader small c acts = by e.stage 
         freeing_keeps n w s e ended laden taker sent j reader small c acts (subst IsFreeing (sym is) tt)
 
 -- the phase is Evac of its cycle
-works_there : (e : Evacuation) → IsAct (evacuations.next_of e)
+pub works_there : (e : Evacuation) → IsAct (evacuations.next_of e)
     → Works (clearing_phase e) × (cycle_in (clearing_phase e) ≡ e.owner.cycle)
 works_there e acts = by e.stage acts
   where

@@ -151,7 +151,7 @@ module _ (o : Owner) (is_owner : IsOwner o) where
   abbrev V : Place → Type 0
   V = ClearingWrites
 
-  own_tablet : (t : ℕ) → IsOwnTablet o t → (t < m.servers * m.tablets) × (server_of_tablet m t ≡ o.server)
+  pub own_tablet : (t : ℕ) → IsOwnTablet o t → (t < m.servers * m.tablets) × (server_of_tablet m t ≡ o.server)
   own_tablet t is =
       let b : ℕ = t - o.server * m.tablets in
       let from = is.from in let below = is.below in
@@ -161,7 +161,7 @@ module _ (o : Owner) (is_owner : IsOwner o) where
         subst (λ i. i / m.tablets ≡ o.server) at (div-mul-add o.server m.tablets b low),
       )
 
-  own_entry : (x : ℕ) → IsOwnEntry o x
+  pub own_entry : (x : ℕ) → IsOwnEntry o x
       → (x < m.servers * m.tablets * m.entries) × (server_of_entry m x ≡ o.server)
   own_entry x is =
       let some : 0 < m.entries = width x m.entries (tablets_end o) is.below in

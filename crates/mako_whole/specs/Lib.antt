@@ -1,4 +1,8 @@
+pub mod AllBarriers
+pub mod AllCollecting
+pub mod AllGifts
 pub mod AllHoused
+pub mod AllNotices
 pub mod AllRuns
 pub mod CollectorChoices
 pub mod CollectorFinishes

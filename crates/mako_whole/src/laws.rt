@@ -1,6 +1,10 @@
 //! Laws of all seats. The functions do nothing; what they ensure is for contracts and proofs.
 
+ghost use Rattle.mako_whole.specs.AllBarriers.{CollectorsHoldBarriers, MutatorsHoldBarriers, OpeningsHoldBarriers, ServersHoldBarriers, StepsHoldBarriers};
+ghost use Rattle.mako_whole.specs.AllCollecting.{CollectorsKeepSeats, FindingsFit, NoticeRuns};
+ghost use Rattle.mako_whole.specs.AllGifts.{ChoicesKeepGifts, FinishKeepsGifts, HearingKeepsGifts, MutatorsKeepGifts, NoticesFindGifts, OpeningsGiveNone, PollsKeepGifts, ServersKeepGifts, SnapshotsKeepGifts, StepsKeepGifts};
 ghost use Rattle.mako_whole.specs.AllHoused.{AllHousedHaveSpares, CollectorsStayHoused, MutatorsLeaveHoused, OpeningsAreHoused, ServersLeaveHoused};
+ghost use Rattle.mako_whole.specs.AllNotices.{CollectorNotices, FinishNotices, HearingNotices, MutatorNotices, OpeningNotices, ServerNotices};
 ghost use Rattle.mako_whole.specs.AllRuns.{AllRunsAnswer, AllRunsAnswerToEnd, AllRunsFree, AllRunsReply, AllRunsSit, ChoiceRuns, CollectorRuns, EvacRuns, GateRuns, LookRuns, MutatorRuns, PollRuns, RestsKeep, RoundStoreRuns, ServerRuns, SnapshotRuns, StopRuns};
 ghost use Rattle.mako_whole.specs.CollectorChoices.{ChoicesKeepAll, EvacKeepsAll, TracesStayOfSeats};
 ghost use Rattle.mako_whole.specs.CollectorFinishes.{FinishKeepsAll};
@@ -153,6 +157,16 @@ pub fn seats_sit_after_collecting()
     ensures rest { RestsKeep }
 {}
 
+/// Where each barrier slot has a name or nothing, a notice that was found stands in its slot yet, nothing is left of
+/// the servers that were read, the regions given up get spare with the next cycle, and a home that is loaded has a
+/// spare region: what the collector finds is what it can go on with (`fit`), and all seats sit after its step at a
+/// notice and after the store of Idle (`notices`), and so after each of its steps, whatever its stage (`keep`).
+pub fn collectors_keep_seats()
+    ensures fit { FindingsFit }
+    ensures notices { NoticeRuns }
+    ensures keep { CollectorsKeepSeats }
+{}
+
 /// If each step of the collector keeps it, all seats sit after any steps of any seats from the start of a proper
 /// script. Then the front answers the script, to its end once each mutator is at its end; each mutator has the replies
 /// of the history; and each finished cycle freed exactly the names that died in it.
@@ -172,6 +186,17 @@ pub fn barriers_have_names()
     ensures put { PutsLeaveNames }
 {}
 
+/// Each barrier slot has a name or nothing: before the first step of any script (`openings`), and, where it is so and
+/// all seats sit, after each step of a mutator (`mutators`), of a server (`servers`) and of the collector, in any scene
+/// with the words after its act (`collectors`). So it is after any step of a state in which all seats sit (`steps`).
+pub fn barriers_stay_named()
+    ensures openings { OpeningsHoldBarriers }
+    ensures mutators { MutatorsHoldBarriers }
+    ensures servers { ServersHoldBarriers }
+    ensures collectors { CollectorsHoldBarriers }
+    ensures steps { StepsHoldBarriers }
+{}
+
 /// The collector went from its opening to where it is, and found each home as it stored it. So it is before the first
 /// step of any script (`opening`), and after each step of a mutator (`mutators`), of a server (`servers`) and, at every
 /// stage, of the collector, where the word that it finds is one that it can go on with (`collectors`). Then there is
@@ -182,4 +207,36 @@ pub fn all_homes_are_as_stored()
     ensures servers { ServersLeaveHoused }
     ensures collectors { CollectorsStayHoused }
     ensures spares { AllHousedHaveSpares }
+{}
+
+/// Nothing is left of the servers that the collector has read, and the notice that it has found still stands: so it
+/// is before the first step of any script (`opening`). Each step keeps it where all seats sit: of a mutator
+/// (`mutators`), of a server, which sends while it is yet to be read, and stores notices into empty slots (`servers`),
+/// of the collector beside its notices (`collectors`), of its looks at notices and its takes (`hearing`), and with
+/// the store of Idle (`finish`).
+pub fn notices_stand()
+    ensures opening { OpeningNotices }
+    ensures mutators { MutatorNotices }
+    ensures servers { ServerNotices }
+    ensures collectors { CollectorNotices }
+    ensures hearing { HearingNotices }
+    ensures finish { FinishNotices }
+{}
+
+/// The regions that tablets gave up so far in a cycle are those that get spare with the next one, but for the one that
+/// is still to be told: so it is at the start of each proper script (`openings`), and past each step of a mutator
+/// (`mutators`), of a server (`servers`), and of the collector: those that leave the choice (`steps`), the store of
+/// Trace with the snapshot (`snapshots`), its poll (`polls`), the choice of tablets with the store of Evac (`choices`),
+/// its notices (`hearing`), and the store of Idle (`finish`). So it finds them so at its notices (`notices`).
+pub fn gifts_get_spare_next()
+    ensures notices { NoticesFindGifts }
+    ensures openings { OpeningsGiveNone }
+    ensures mutators { MutatorsKeepGifts }
+    ensures servers { ServersKeepGifts }
+    ensures steps { StepsKeepGifts }
+    ensures snapshots { SnapshotsKeepGifts }
+    ensures polls { PollsKeepGifts }
+    ensures choices { ChoicesKeepGifts }
+    ensures hearing { HearingKeepsGifts }
+    ensures finish { FinishKeepsGifts }
 {}
