@@ -1,5 +1,5 @@
 -- All seats over runs: each step of a seat keeps that all seats sit, and so do runs.
-use Rattle.std.proofs.Common.{◌≡◌, ℕ, List, slice_get, slice_set, Option, Some, None, sym, ap, subst, refl, ◌<◌, length}
+use Rattle.std.proofs.Common.{◌≡◌, ℕ, List, slice_get, slice_set, Some, sym, ap, subst, refl, ◌<◌, length}
 use Rattle.std.specs.List.{Contains}
 use Rattle.std.proofs.lemmas.Option.{slice_get_within}
 use Rattle.mako_words.specs.declared.name.Name.{Name}
@@ -28,18 +28,14 @@ use Rattle.mako_seat.specs.declared.seat.Seat.{Seat}
 use Rattle.mako_seat.specs.declared.seat.Seat.TheVariants.{Mutator, Server, Collector}
 use Rattle.mako_seat.specs.Seats.{next_of, fed, event_of}
 use Rattle.mako_state.specs.CoreStates.{CoreState, got_by, front_after, made, stepped_by, step_of}
-use Rattle.mako_state.specs.Runs.{Reached}
-use Rattle.mako_state.specs.Runs.Reached.{Starts, Steps}
 use Rattle.mako_joint.specs.Joints.{JointScene}
 use Rattle.mako_mutating.specs.Mutators as mutating
 use Rattle.mako_whole.specs.Seats.{AllSit, SeatSits}
 use Rattle.mako_whole.specs.ServerSteps.{stage_after, server_stepped, ServerGoesOn}
-use Rattle.mako_whole.specs.AllRuns.{scene_in, SeatsSit, MutatorRuns, ServerRuns, CollectorsKeep, CollectorRuns, AllRunsSit, AllRunsAnswer, AllRunsAnswerToEnd, AllRunsReply, AllRunsFree}
+use Rattle.mako_whole.specs.AllRuns.{scene_in, SeatsSit, MutatorRuns, ServerRuns, CollectorRuns}
 use Rattle.mako_whole.specs.Openings.{opening_scene, trace_facet, held_facet}
 use Rattle.mako_whole.proofs.MutatorSteps.{mutators_keep_all}
-use Rattle.mako_whole.proofs.OpeningSits.{openings_sit}
 use Rattle.mako_whole.proofs.ServerEvacuates.{servers_keep_all}
-use Rattle.mako_whole.proofs.Telling.{fronts_answer, fronts_answer_to_end, freed_are_those, replies_are_told}
 
 -- ---- a step
 
@@ -156,42 +152,3 @@ openings_have_no_more s all = record {
     low i (Mutator d) name sits has = sits.keeps.in_range
     low i (Server v) name sits has = absurd (in_none name has)
     low i (Collector c) name sits has = absurd (in_none name has)
-
-module _ (n : Numbers) (w : Facts) (keeps : CollectorsKeep n w) (st : CoreState) (sits : SeatsSit n w st) where
-  seat_runs : (i : ℕ) (o : Option Seat) → slice_get st.seats i ≡ o → SeatsSit n w (step_of st i)
-  seat_runs i None here = subst (λ o. SeatsSit n w (stepped_by st i o)) (sym here) sits
-  seat_runs i (Some (Mutator d)) here = mutators_run n w st i d sits here
-  seat_runs i (Some (Server v)) here = servers_run n w st i v sits here
-  seat_runs i (Some (Collector c)) here = keeps st i c sits here
-
-pub all_runs_sit : AllRunsSit
-all_runs_sit s st proper keeps reached = holds reached
-  where
-    holds : {st : CoreState} → Reached s st → SeatsSit s.numbers (facts_of s) st
-    holds Starts = record {
-      facets = (opening_scene s).facets;
-      all = openings_sit s proper;
-      only = openings_have_no_more s (openings_sit s proper);
-    }
-    holds (Steps st i reached) =
-        seat_runs s.numbers (facts_of s) keeps st (holds reached) i (slice_get st.seats i) refl
-
-pub all_runs_answer : AllRunsAnswer
-all_runs_answer s st proper keeps reached =
-    let sits = all_runs_sit s st proper keeps reached in
-    fronts_answer s.numbers (facts_of s) (scene_in st sits.facets) st.seats sits.all
-
-pub all_runs_answer_to_end : AllRunsAnswerToEnd
-all_runs_answer_to_end s st proper keeps reached ended =
-    let sits = all_runs_sit s st proper keeps reached in
-    fronts_answer_to_end s.numbers (facts_of s) (scene_in st sits.facets) st.seats sits.all ended
-
-pub all_runs_reply : AllRunsReply
-all_runs_reply s st m d proper keeps reached here =
-    let sits = all_runs_sit s st proper keeps reached in
-    replies_are_told s.numbers (facts_of s) (scene_in st sits.facets) st.seats m d sits.all here
-
-pub all_runs_free : AllRunsFree
-all_runs_free s st i names proper keeps reached here =
-    let sits = all_runs_sit s st proper keeps reached in
-    freed_are_those s.numbers (facts_of s) (scene_in st sits.facets) st.seats i names sits.all here

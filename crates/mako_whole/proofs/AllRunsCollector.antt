@@ -12,16 +12,13 @@ use Rattle.mako_whole.proofs.CollectorSnaps.{snapshots_keep_all}
 use Rattle.mako_shape.specs.declared.numbers.Numbers.{Numbers}
 use Rattle.mako_model.specs.Legal.{Facts}
 use Rattle.mako_pause.specs.Collecting.{Collecting, Holdings, at, running, stage_event}
-use Rattle.mako_pause.specs.declared.stage.IdleStage.TheVariants.{LoadingDemand, LookingFinished, StoringStop}
+use Rattle.mako_pause.specs.declared.stage.IdleStage.TheVariants.{StoringStop}
 use Rattle.mako_pause.specs.declared.stage.PauseStage.TheVariants.{Draining, LoadingRoot, Shutting, StoringTrace, Opening}
-use Rattle.mako_pause.specs.declared.stage.ForwardStage.TheVariants.{Looking, Storing}
-use Rattle.mako_pause.specs.declared.stage.BarrierStage.TheVariants.{Loading, Clearing}
-use Rattle.mako_pause.specs.declared.stage.ChoiceStage.{ChoiceStage}
-use Rattle.mako_pause.specs.declared.stage.ChoiceStage.TheVariants.{LoadingLive, LoadingTop, LoadingHome, StoringLeaving, StoringHome, StoringTop, StoringEvac, Opening as Reopening}
+use Rattle.mako_pause.specs.declared.stage.ChoiceStage.TheVariants.{StoringEvac}
 use Rattle.mako_state.specs.CoreStates.{CoreState, front_after, step_of}
 use Rattle.mako_whole.specs.CollectorSteps.{IsLook}
 use Rattle.mako_whole.specs.CollectorRounds.{IsRoundStore}
-use Rattle.mako_whole.specs.CollectorChoices.{IsOfChoice, TracesAreOfSeats}
+use Rattle.mako_whole.specs.CollectorChoices.{TracesAreOfSeats}
 use Rattle.mako_whole.specs.CollectorGates.{IsGateStore}
 use Rattle.mako_model.specs.declared.event.Event.TheVariants.{Nothing}
 use Rattle.mako_layout.specs.Facets.{Gift, Choice}
@@ -30,8 +27,8 @@ use Rattle.mako_pause.specs.declared.stage.CollectStage.TheVariants.{Idle, Pausi
 use Rattle.mako_seat.specs.declared.seat.Seat.TheVariants.{Collector}
 use Rattle.mako_collecting.specs.Roles.{ChoiceOf}
 use Rattle.mako_collecting.specs.Steps.{stepped, polled, chosen, snapped, with_collector, words_next, collector_next, choice_begun}
-use Rattle.mako_whole.specs.AllRuns.{scene_in, SeatsSit, LookRuns, RoundStoreRuns, PollRuns, ChoiceRuns, GateRuns, StopRuns, SnapshotRuns, EvacRuns, CollectorsRest, RestsKeep}
-use Rattle.mako_whole.proofs.AllRuns.{collectors_run, step_sits}
+use Rattle.mako_whole.specs.AllRuns.{scene_in, SeatsSit, LookRuns, RoundStoreRuns, PollRuns, ChoiceRuns, GateRuns, StopRuns, SnapshotRuns, EvacRuns}
+use Rattle.mako_whole.proofs.AllRuns.{collectors_run}
 use Rattle.mako_whole.proofs.CollectorChoices.{choices_keep_all}
 use Rattle.mako_whole.proofs.CollectorEvac.{evac_keeps_all}
 use Rattle.mako_whole.proofs.CollectorGates.{gates_keep_all, stops_keep_all}
@@ -175,7 +172,7 @@ snapshots_run n w st i k sits here =
     })
 
 -- as many facets of tracing as seats
-traces_are : (n : Numbers) (w : Facts) (st : CoreState) (i : ℕ) (c : Collecting) (sits : SeatsSit n w st) →
+pub traces_are : (n : Numbers) (w : Facts) (st : CoreState) (i : ℕ) (c : Collecting) (sits : SeatsSit n w st) →
     slice_get st.seats i ≡ Some (Collector c) → TracesAreOfSeats n (scene_in st sits.facets)
 traces_are n w st i c sits here =
     let last = slice_get_within sits.facets.trace (n.mutators + n.servers) (trace.collecting (names_of c))
@@ -198,55 +195,3 @@ evacs_run n w st i k sits here =
           (traces_are n w st i (at k (Choosing StoringEvac)) sits here) c.0 c.1 c.2;
       only = no_more_then n st w sits (choice_next k StoringEvac c.0 c.1) (at k (Choosing StoringEvac));
     })
-
--- ---- each stage
-
-module _ (n : Numbers) (w : Facts) (rest : CollectorsRest n w) (st : CoreState) (sits : SeatsSit n w st) (i : ℕ)
-    (k : Holdings) where
-  abbrev At : CollectStage → Type 0
-  At stage = slice_get st.seats i ≡ Some (Collector (at k stage))
-
-  abbrev Kept : Type 0
-  Kept = SeatsSit n w (step_of st i)
-
-  look : (stage : CollectStage) → IsLook stage → At stage → Kept
-  look stage is here = looks_run n w st i k stage is sits (rest.fits st i k stage sits here)
-
-  store : (stage : CollectStage) → IsRoundStore stage → At stage → Kept
-  store stage is here = round_stores_run n w st i k stage is sits (rest.fits st i k stage sits here)
-
-  gate : (stage : CollectStage) → IsGateStore stage → At stage → Kept
-  gate stage is here = gates_run n w st i k stage is sits here
-
-  choose : (stage : ChoiceStage) → IsOfChoice stage → At (Choosing stage) → Kept
-  choose stage is here = choices_run n w st i k stage is (rest.spares st i k stage sits here) sits
-      (rest.fits st i k (Choosing stage) sits here)
-
-  kept_at : (stage : CollectStage) → At stage → Kept
-  kept_at (Idle LoadingDemand) = look (Idle LoadingDemand) tt
-  kept_at (Idle LookingFinished) = look (Idle LookingFinished) tt
-  kept_at (Idle StoringStop) = stops_run n w st i k sits
-  kept_at (Pausing (Shutting pause m)) = gate (Pausing (Shutting pause m)) tt
-  kept_at (Pausing (Draining pause m)) = look (Pausing (Draining pause m)) tt
-  kept_at (Pausing (LoadingRoot m q)) = look (Pausing (LoadingRoot m q)) tt
-  kept_at (Pausing StoringTrace) = snapshots_run n w st i k sits
-  kept_at (Pausing (Opening m)) = gate (Pausing (Opening m)) tt
-  kept_at (Forwarding (Looking x)) = look (Forwarding (Looking x)) tt
-  kept_at (Forwarding (Storing x)) = store (Forwarding (Storing x)) tt
-  kept_at (Barriers (Loading m)) = look (Barriers (Loading m)) tt
-  kept_at (Barriers (Clearing m x)) = store (Barriers (Clearing m x)) tt
-  kept_at (Emptying r) = look (Emptying r) tt
-  kept_at Polling = λ here. polls_run n w st i k sits (rest.fits st i k Polling sits here)
-  kept_at (Choosing (LoadingLive r place)) = choose (LoadingLive r place) tt
-  kept_at (Choosing (LoadingTop r place words)) = choose (LoadingTop r place words) tt
-  kept_at (Choosing (LoadingHome at)) = choose (LoadingHome at) tt
-  kept_at (Choosing (StoringLeaving at gift)) = choose (StoringLeaving at gift) tt
-  kept_at (Choosing (StoringHome at gift)) = choose (StoringHome at gift) tt
-  kept_at (Choosing (StoringTop at)) = choose (StoringTop at) tt
-  kept_at (Choosing StoringEvac) = evacs_run n w st i k sits
-  kept_at (Choosing (Reopening m)) = gate (Choosing (Reopening m)) tt
-  kept_at (Noticing stage) = rest.notices st i k stage sits
-  kept_at Ended = λ here. step_sits n w st i (Collector (at k Ended)) sits here (λ acts. absurd acts)
-
-pub rests_keep : RestsKeep
-rests_keep n w rest st i c sits here = kept_at n w rest st sits i c.kept c.stage here

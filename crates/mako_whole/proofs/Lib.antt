@@ -3,6 +3,8 @@ pub mod AllBarriersCollector
 pub mod AllBarriersMutator
 pub mod AllBarriersRuns
 pub mod AllCollecting
+pub mod AllCollectingScenes
+pub mod AllCollectingStand
 pub mod AllCollectingSteps
 pub mod AllGifts
 pub mod AllGiftsCalm
@@ -16,6 +18,9 @@ pub mod AllNoticesServers
 pub mod AllNoticesSlots
 pub mod AllRuns
 pub mod AllRunsCollector
+pub mod AllStandingCollector
+pub mod AllStandingRuns
+pub mod AllStandingSteps
 pub mod CollectorBeside
 pub mod CollectorChoices
 pub mod CollectorChosen

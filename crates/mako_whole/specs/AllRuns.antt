@@ -1,31 +1,22 @@
 -- All seats over runs of a core: what each step of a seat keeps, and what stands after any steps of any seats.
-use Rattle.std.specs.Prelude.{ℕ, ◌≡◌, ◌+◌, List, slice_get, slice_set, Some}
-use Rattle.mako_words.specs.declared.name.Name.{Name}
+use Rattle.std.specs.Prelude.{ℕ, ◌≡◌, List, slice_get, slice_set, Some}
 use Rattle.mako_shape.specs.declared.numbers.Numbers.{Numbers}
 use Rattle.mako_step.specs.Acts.{finds, words_stepped}
-use Rattle.mako_model.specs.Answering.{Answers, AnswersToEnd}
-use Rattle.mako_model.specs.Dead.{AreFreed}
-use Rattle.mako_model.specs.Fronts.{replies_to}
 use Rattle.mako_model.specs.Legal.{Facts}
 use Rattle.mako_mutator.specs.Drivers.{Driving}
-use Rattle.mako_mutator.specs.declared.progress.Task.TheVariants.{Ended}
-use Rattle.mako_script.specs.ScriptFacts.{facts_of}
-use Rattle.mako_script.specs.Scripts.{ScriptView, IsProper}
 use Rattle.mako_server.specs.Serving.{Serving}
 use Rattle.mako_pause.specs.Collecting.{Collecting, Holdings, at, next_of, event_of, Fits}
 use Rattle.mako_pause.specs.declared.stage.IdleStage.TheVariants.{StoringStop}
 use Rattle.mako_pause.specs.declared.stage.PauseStage.TheVariants.{StoringTrace}
 use Rattle.mako_pause.specs.declared.stage.ChoiceStage.{ChoiceStage}
 use Rattle.mako_pause.specs.declared.stage.ChoiceStage.TheVariants.{StoringEvac}
-use Rattle.mako_pause.specs.declared.stage.NoticeStage.{NoticeStage}
 use Rattle.mako_pause.specs.declared.stage.CollectStage.{CollectStage}
-use Rattle.mako_pause.specs.declared.stage.CollectStage.TheVariants.{Idle, Pausing, Polling, Choosing, Noticing}
+use Rattle.mako_pause.specs.declared.stage.CollectStage.TheVariants.{Idle, Pausing, Polling, Choosing}
 use Rattle.mako_collecting.specs.Roles.{HasSpare}
 use Rattle.mako_collecting.specs.Steps.{collector_next}
 use Rattle.mako_seat.specs.declared.seat.Seat.{Seat}
 use Rattle.mako_seat.specs.declared.seat.Seat.TheVariants.{Mutator, Server, Collector}
 use Rattle.mako_state.specs.CoreStates.{CoreState, front_after, step_of}
-use Rattle.mako_state.specs.Runs.{Reached}
 use Rattle.mako_joint.specs.Joints.{JointFacets, JointScene}
 use Rattle.mako_whole.specs.Seats.{AllSit}
 use Rattle.mako_whole.specs.CollectorSteps.{IsLook}
@@ -59,11 +50,6 @@ ServerRuns = (n : Numbers) (w : Facts) (st : CoreState) (i : ℕ) (v : Serving) 
     → slice_get st.seats i ≡ Some (Server v) → SeatsSit n w (step_of st i)
 
 -- ---- steps of the collector
-
--- so it has to be after each step of the collector
-abbrev pub CollectorsKeep : Numbers → Facts → Type 0
-CollectorsKeep n w = (st : CoreState) (i : ℕ) (c : Collecting) → SeatsSit n w st
-    → slice_get st.seats i ≡ Some (Collector c) → SeatsSit n w (step_of st i)
 
 -- The scene after its step has the words after its act and the front after its event, and all seats sit there with the
 -- collector after it.
@@ -126,49 +112,3 @@ SnapshotRuns = (n : Numbers) (w : Facts) (st : CoreState) (i : ℕ) (k : Holding
 abbrev pub EvacRuns : Type 0
 EvacRuns = (n : Numbers) (w : Facts) (st : CoreState) (i : ℕ) (k : Holdings) → SeatsSit n w st
     → slice_get st.seats i ≡ Some (Collector (at k (Choosing StoringEvac))) → SeatsSit n w (step_of st i)
-
--- What is asked of the collector where all seats sit: that its act finds what it can go on with, that there is a spare
--- region left for a home that it loads, and that all seats sit after its notices and after the store of Idle.
-pub record CollectorsRest (n : Numbers) (w : Facts) : Type 0 where
-  pub fits : (st : CoreState) (i : ℕ) (k : Holdings) (stage : CollectStage) → SeatsSit n w st
-      → slice_get st.seats i ≡ Some (Collector (at k stage)) → CollectorIsAt st i k stage
-  pub spares : (st : CoreState) (i : ℕ) (k : Holdings) (stage : ChoiceStage) → SeatsSit n w st
-      → slice_get st.seats i ≡ Some (Collector (at k (Choosing stage))) → HasSpare k stage
-  pub notices : (st : CoreState) (i : ℕ) (k : Holdings) (stage : NoticeStage) → SeatsSit n w st
-      → slice_get st.seats i ≡ Some (Collector (at k (Noticing stage))) → SeatsSit n w (step_of st i)
-
--- then each step of the collector keeps it
-abbrev pub RestsKeep : Type 0
-RestsKeep = (n : Numbers) (w : Facts) → CollectorsRest n w → CollectorsKeep n w
-
--- ---- runs
-
--- If the collector keeps it, all seats sit in all states to which the core of a proper script comes, by steps of any
--- seats in any order.
-abbrev pub AllRunsSit : Type 0
-AllRunsSit = (s : ScriptView) (st : CoreState) → IsProper s → CollectorsKeep s.numbers (facts_of s) → Reached s st
-    → SeatsSit s.numbers (facts_of s) st
-
--- then the front answers the script
-abbrev pub AllRunsAnswer : Type 0
-AllRunsAnswer = (s : ScriptView) (st : CoreState) → IsProper s → CollectorsKeep s.numbers (facts_of s) → Reached s st
-    → Answers (facts_of s) st.front
-
--- to its end, once each mutator is at the end of its program
-abbrev pub AllRunsAnswerToEnd : Type 0
-AllRunsAnswerToEnd = (s : ScriptView) (st : CoreState) → IsProper s → CollectorsKeep s.numbers (facts_of s)
-    → Reached s st
-    → ((m : ℕ) (d : Driving) → slice_get st.seats m ≡ Some (Mutator d) → d.progress.task ≡ Ended)
-    → AnswersToEnd (facts_of s) st.front
-
--- a mutator has the replies that the history gives it
-abbrev pub AllRunsReply : Type 0
-AllRunsReply = (s : ScriptView) (st : CoreState) (m : ℕ) (d : Driving) → IsProper s
-    → CollectorsKeep s.numbers (facts_of s) → Reached s st
-    → slice_get st.seats m ≡ Some (Mutator d) → d.replies ≡ replies_to m st.front.history
-
--- and each finished cycle freed the names that died in it, and no others
-abbrev pub AllRunsFree : Type 0
-AllRunsFree = (s : ScriptView) (st : CoreState) (i : ℕ) (names : List Name) → IsProper s
-    → CollectorsKeep s.numbers (facts_of s) → Reached s st
-    → slice_get st.front.finished i ≡ Some names → AreFreed (facts_of s) st.front.history (i + 1) names

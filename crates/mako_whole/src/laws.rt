@@ -2,10 +2,12 @@
 
 ghost use Rattle.mako_whole.specs.AllBarriers.{CollectorsHoldBarriers, MutatorsHoldBarriers, OpeningsHoldBarriers, ServersHoldBarriers, StepsHoldBarriers};
 ghost use Rattle.mako_whole.specs.AllCollecting.{CollectorsKeepSeats, FindingsFit, NoticeRuns};
+ghost use Rattle.mako_whole.specs.AllCollectingScenes.{CameStand, CollectorsCome};
 ghost use Rattle.mako_whole.specs.AllGifts.{ChoicesKeepGifts, FinishKeepsGifts, HearingKeepsGifts, MutatorsKeepGifts, NoticesFindGifts, OpeningsGiveNone, PollsKeepGifts, ServersKeepGifts, SnapshotsKeepGifts, StepsKeepGifts};
 ghost use Rattle.mako_whole.specs.AllHoused.{AllHousedHaveSpares, CollectorsStayHoused, MutatorsLeaveHoused, OpeningsAreHoused, ServersLeaveHoused};
 ghost use Rattle.mako_whole.specs.AllNotices.{CollectorNotices, FinishNotices, HearingNotices, MutatorNotices, OpeningNotices, ServerNotices};
-ghost use Rattle.mako_whole.specs.AllRuns.{AllRunsAnswer, AllRunsAnswerToEnd, AllRunsFree, AllRunsReply, AllRunsSit, ChoiceRuns, CollectorRuns, EvacRuns, GateRuns, LookRuns, MutatorRuns, PollRuns, RestsKeep, RoundStoreRuns, ServerRuns, SnapshotRuns, StopRuns};
+ghost use Rattle.mako_whole.specs.AllRuns.{ChoiceRuns, CollectorRuns, EvacRuns, GateRuns, LookRuns, MutatorRuns, PollRuns, RoundStoreRuns, ServerRuns, SnapshotRuns, StopRuns};
+ghost use Rattle.mako_whole.specs.AllStanding.{AllRunsStand, CollectorStands, RunsAnswer, RunsAnswerToEnd, RunsFree, RunsReply};
 ghost use Rattle.mako_whole.specs.CollectorChoices.{ChoicesKeepAll, EvacKeepsAll, TracesStayOfSeats};
 ghost use Rattle.mako_whole.specs.CollectorFinishes.{FinishKeepsAll};
 ghost use Rattle.mako_whole.specs.CollectorGates.{GatesKeepAll, StopsKeepAll};
@@ -143,8 +145,7 @@ pub fn seats_sit_after_steps()
 
 /// So it is after the steps of the collector that are told here: its looks, its stores of pending names, its poll, the
 /// choice of tablets where there is a spare region left for a home that it loads, its stores at gates, and the stores
-/// of Trace, Evac and Stop. So its steps keep it, if those at its notices and at the store of Idle do, if each word
-/// that it finds is one that it can go on with, and if there is a spare region for each home (`rest`).
+/// of Trace, Evac and Stop.
 pub fn seats_sit_after_collecting()
     ensures looks { LookRuns }
     ensures stores { RoundStoreRuns }
@@ -154,28 +155,21 @@ pub fn seats_sit_after_collecting()
     ensures stop { StopRuns }
     ensures snapshots { SnapshotRuns }
     ensures evacuations { EvacRuns }
-    ensures rest { RestsKeep }
 {}
 
 /// Where each barrier slot has a name or nothing, a notice that was found stands in its slot yet, nothing is left of
 /// the servers that were read, the regions given up get spare with the next cycle, and a home that is loaded has a
 /// spare region: what the collector finds is what it can go on with (`fit`), and all seats sit after its step at a
 /// notice and after the store of Idle (`notices`), and so after each of its steps, whatever its stage (`keep`).
+/// notice and after the store of Idle (`notices`), and so after each of its steps, whatever its stage (`keep`): they do
+/// in the scene that the law of its stage names (`scenes`). Where all that stands in this scene again, the state after
+/// the step is as the one before it (`stand`).
 pub fn collectors_keep_seats()
     ensures fit { FindingsFit }
     ensures notices { NoticeRuns }
     ensures keep { CollectorsKeepSeats }
-{}
-
-/// If each step of the collector keeps it, all seats sit after any steps of any seats from the start of a proper
-/// script. Then the front answers the script, to its end once each mutator is at its end; each mutator has the replies
-/// of the history; and each finished cycle freed exactly the names that died in it.
-pub fn all_runs_sit()
-    ensures sit { AllRunsSit }
-    ensures answers { AllRunsAnswer }
-    ensures end { AllRunsAnswerToEnd }
-    ensures replies { AllRunsReply }
-    ensures freed { AllRunsFree }
+    ensures scenes { CollectorsCome }
+    ensures stand { CameStand }
 {}
 
 /// Where each barrier slot has a name or nothing, the collector's look at one finds what it can go on with (`looks`).
@@ -239,4 +233,23 @@ pub fn gifts_get_spare_next()
     ensures choices { ChoicesKeepGifts }
     ensures hearing { HearingKeepsGifts }
     ensures finish { FinishKeepsGifts }
+{}
+
+/// There are facets with which all seats sit in a state, none of them behind those of the seats, while each barrier
+/// slot has a name or nothing, notices stand, homes are as stored, and the regions given up get spare with the next
+/// cycle: so it is after each step of the collector, whatever its stage, where it was so before.
+pub fn collector_stands()
+    ensures { CollectorStands }
+{}
+
+/// From the start of every script that the grammar allows, after any steps of any seats in any order, all seats stand
+/// (`stand`): there are facets with which all groups hold, and each seat keeps what it keeps. So the front answers the
+/// script (`answers`), to its end once each mutator is at its end (`end`); each mutator has the replies of the history
+/// (`replies`); and each finished cycle freed exactly the names that died in it (`freed`).
+pub fn all_runs_stand()
+    ensures stand { AllRunsStand }
+    ensures answers { RunsAnswer }
+    ensures end { RunsAnswerToEnd }
+    ensures replies { RunsReply }
+    ensures freed { RunsFree }
 {}

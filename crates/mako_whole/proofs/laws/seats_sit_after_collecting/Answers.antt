@@ -1,4 +1,4 @@
-use Rattle.mako_whole.proofs.AllRunsCollector.{choices_run, evacs_run, gates_run, looks_run, polls_run, rests_keep, round_stores_run, snapshots_run, stops_run}
+use Rattle.mako_whole.proofs.AllRunsCollector.{choices_run, evacs_run, gates_run, looks_run, polls_run, round_stores_run, snapshots_run, stops_run}
 use Rattle.mako_whole.proofs.laws.seats_sit_after_collecting.Goals as goal
 
 pub returns-clause-looks : goal.returns-clause-looks
@@ -18,9 +18,6 @@ returns-clause-gates c = gates_run
 
 pub returns-clause-stop : goal.returns-clause-stop
 returns-clause-stop c = stops_run
-
-pub returns-clause-rest : goal.returns-clause-rest
-returns-clause-rest c = rests_keep
 
 pub returns-clause-snapshots : goal.returns-clause-snapshots
 returns-clause-snapshots c = snapshots_run
