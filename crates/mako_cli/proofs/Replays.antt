@@ -1,5 +1,5 @@
 -- The front of a replay, from what it answers.
-use Rattle.std.proofs.Common.{ℕ, ◌≡◌, ◌⊎◌, ◌↔◌, IsTrue, Bool, true, false, [], inl, inr, refl, sym, ◌∙◌}
+use Rattle.std.proofs.Common.{ℕ, ◌≡◌, ◌⊎◌, ◌↔◌, IsTrue, Bool, true, false, inl, inr, refl, sym, ◌∙◌}
 use Rattle.std.proofs.lemmas.Bool.{false≢true}
 use Rattle.mako_core.specs.Endings.{AllAtEnd}
 use Rattle.mako_model.specs.Answering.{Answers, AnswersToEnd}
@@ -15,16 +15,15 @@ pub front_of_replay : (finished : Bool) (order : Order) (steps made : ℕ) (scri
     front ≡ (after script order steps).state.front → made ≡ (after script order steps).made →
     (made ≡ steps) ⊎ AreAllAtEnd (after script order steps).state.seats →
     (IsTrue finished ↔ AllAtEnd script.numbers (after script order steps).state.seats) →
-    Answers (facts_of script) front → (IsTrue finished → AnswersToEnd (facts_of script) front) → front.finished ≡ [] →
+    Answers (facts_of script) front → (IsTrue finished → AnswersToEnd (facts_of script) front) →
     IsFrontOf order steps script finished front
-front_of_replay true order steps made script front run count ends told answers all cycles =
-    record { run = run; ending = told.0 refl; answers = all refl; cycles = cycles }
-front_of_replay false order steps made script front run count ends told answers all cycles = record {
+front_of_replay true order steps made script front run count ends told answers all =
+    record { run = run; ending = told.0 refl; answers = all refl }
+front_of_replay false order steps made script front run count ends told answers all = record {
   run = run;
   ending = (
     λ all. false≢true (told.1 all),
     elim ends [ inl e ↦ sym count ∙ e | inr seats ↦ absurd (false≢true (told.1 (λ m v low is. seats m v is))) ],
   );
   answers = answers;
-  cycles = cycles;
 }

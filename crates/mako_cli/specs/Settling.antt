@@ -12,7 +12,6 @@ use Rattle.mako_script.specs.declared.fault.Kind.{Kind}
 use Rattle.mako_script.specs.declared.fault.Kind.TheVariants.{Long}
 use Rattle.mako_script.specs.Answers.{IsRefused}
 use Rattle.mako_script.specs.FaultTexts.{fault_text}
-use Rattle.mako_script.specs.Forms.{IsAccepted}
 use Rattle.mako_script.specs.Outputs.{output_text}
 use Rattle.mako_script.specs.Scripts.{ScriptView}
 use Rattle.mako_script.specs.Texts.{IsScript}
@@ -73,11 +72,10 @@ pub record IsWhole (old new : Option (List ℕ)) (bytes : List ℕ) : Type 0 whe
   pub all : IfSome old (λ left. bytes ≡ left)
   pub ended : IfSome old (λ left. new ≡ Some [])
 
--- the bytes are those of the script, which is accepted
+-- the bytes are those of the script
 pub record IsRead (old new : Option (List ℕ)) (script : ScriptView) : Type 0 where
   pub bytes : List ℕ
   pub whole : IsWhole old new bytes
-  pub accepted : IsAccepted script
   pub spelled : IsScript bytes script
 
 -- every mutator is at its end, or one is not, and all given steps were made
@@ -90,13 +88,11 @@ abbrev pub AnswersAs : Bool → Facts → Seen → Type 0
 AnswersAs true facts front = AnswersToEnd facts front
 AnswersAs false facts front = Answers facts front
 
--- The front is that of the script's run in this order with at most so many steps, which ended so. It answers the script,
--- without a finished cycle.
+-- The front is that of the script's run in this order with at most so many steps, which ended so. It answers the script.
 pub record IsFrontOf (order : Order) (steps : ℕ) (script : ScriptView) (finished : Bool) (front : Seen) : Type 0 where
   pub run : front ≡ (after script order steps).state.front
   pub ending : EndsAs finished script steps (after script order steps)
   pub answers : AnswersAs finished (facts_of script) front
-  pub cycles : front.finished ≡ []
 
 -- the bytes have this fault, or there are too many
 pub record HasFault (old new : Option (List ℕ)) (kind : Kind) (line : ℕ) : Type 0 where
@@ -107,7 +103,7 @@ pub record HasFault (old new : Option (List ℕ)) (kind : Kind) (line : ℕ) : T
 abbrev pub IsUnread : Option (List ℕ) → Option (List ℕ) → Kind → ℕ → Type 0
 IsUnread old new kind line = (TakesMore max_bytes old new × (kind ≡ Long) × (line ≡ 0)) ⊎ HasFault old new kind line
 
--- What reading a source and carrying out its script come to: replayed where an accepted script was read, no script with
+-- What reading a source and carrying out its script come to: replayed where a script was read, no script with
 -- the fault that the bytes have, a read fault only where the source's count of faults rose. Want of memory is free.
 abbrev pub Settles : Order → ℕ → Option (List ℕ) → Option (List ℕ) → Type 0 → Settled → Type 0
 Settles order steps old new rose (Replayed script replayed) =
@@ -218,7 +214,7 @@ IsLeftBy (Replay order steps) old new taken_old taken_new front =
 IsLeftBy (Gen seed size) old new taken_old taken_new front = ⊥
 IsLeftBy (Count workers) old new taken_old taken_new front = ⊥
 
--- Too many bytes were read, or those of no accepted script, and the line of their fault was written.
+-- Too many bytes were read, or those of no script, and the line of their fault was written.
 pub record IsToldUnread (old new taken_old taken_new : Option (List ℕ)) : Type 0 where
   pub kind : Kind
   pub line : ℕ

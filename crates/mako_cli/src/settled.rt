@@ -14,7 +14,7 @@ pub enum Settled {
     Counted(u64),
     /// The words of the command line are no command.
     Usage,
-    /// The bytes are no script of the form that is accepted, or too many.
+    /// The bytes are no script, or too many.
     NoScript { kind: Kind, line: u32 },
     /// A read failed.
     ReadFault,

@@ -1,22 +1,24 @@
 -- What the seats have at the end of a run.
-use Rattle.std.proofs.Common.{◌≡◌, ℕ, zero, suc, ◌+◌, ◌-◌, ◌<◌, ◌≤◌, Bool, true, false, List, [], ◌∷◌, ◌++◌, length, take, drop, slice_get, Some, sym, ap, subst, refl, ◌∙◌, arith, append-nil}
-use Rattle.std.proofs.lemmas.List.{drop_all}
-use Rattle.std.proofs.lemmas.Option.{none-some, slice_get_within}
+use Rattle.std.proofs.Common.{◌≡◌, ℕ, zero, suc, ◌+◌, ◌-◌, ◌<◌, ◌≤◌, Bool, true, false, List, [], ◌∷◌, ◌++◌, length, take, slice_get, Some, sym, ap, subst, refl, ◌∙◌, arith}
+use Rattle.std.proofs.lemmas.Option.{none-some}
 use Rattle.mako_shape.specs.declared.numbers.Numbers.{Numbers}
 use Rattle.mako_model.specs.Answering.{Answers, AnswersToEnd}
-use Rattle.mako_model.specs.Fronts.{calls_by, replies_to}
+use Rattle.mako_model.specs.Fronts.{replies_to}
 use Rattle.mako_model.specs.Legal.{Facts}
-use Rattle.mako_model.specs.declared.call.Call.{Call}
 use Rattle.mako_model.specs.declared.reply.Reply.{Reply}
-use Rattle.mako_mutator.specs.Drivers.{Driving, place_by, TaskIsKnown, replied}
+use Rattle.mako_mutator.specs.Drivers.{Driving, place_by}
 use Rattle.mako_mutator.specs.declared.place.Place.TheVariants.{Ended as PlaceEnded}
 use Rattle.mako_mutator.specs.declared.progress.Task.{Task}
 use Rattle.mako_mutator.specs.declared.progress.Task.TheVariants.{Attempting, Awaiting, Finishing, Ended}
+use Rattle.mako_pause.specs.Collecting.{Collecting}
 use Rattle.mako_seat.specs.declared.seat.Seat.{Seat}
 use Rattle.mako_seat.specs.declared.seat.Seat.TheVariants.{Mutator, Server, Collector}
 use Rattle.mako_state.specs.CoreStates.{CoreState}
-use Rattle.mako_state.specs.Invariants.{WholeInvariant, SeatStands, left_facet}
-use Rattle.mako_state.proofs.Seating.{map_at}
+use Rattle.mako_whole.specs.AllRuns.{scene_in}
+use Rattle.mako_whole.specs.AllStanding.{SeatsStand}
+use Rattle.mako_whole.specs.Seats.{SeatSits}
+use Rattle.mako_whole.proofs.AllStandingSteps.{standing_answers, standing_answers_to_end}
+use Rattle.mako_core.specs.Cores.{cycles_kept, cycles_in}
 use Rattle.mako_core.specs.Endings.{replies_kept, replies_in, EndsWithCollector, AllAtEnd}
 use Rattle.mako_core.proofs.Starting.{some_at}
 
@@ -62,77 +64,78 @@ listed f (suc c) k (x ∷ xs) few first rest =
 
 -- ---- the seats of a core state
 
-module _ (n : Numbers) (w : Facts) (st : CoreState) (whole : WholeInvariant n w st) where
-  collector_at : (i : ℕ) (v : Seat) → slice_get st.seats i ≡ Some v → i ≡ n.mutators + n.servers → SeatStands n w st.front i v → i ≡ length st.seats - 1 → EndsWithCollector st.seats
-  collector_at i (Mutator d) here at stands last = absurd (let low = stands.in_range in omega (arith, low))
-  collector_at i (Server v) here at stands last = absurd (let e = stands.0 in let low = stands.1 in omega (arith, e, low))
-  collector_at i (Collector c) here at stands last = record { collector = c; last = subst (λ k. slice_get st.seats k ≡ Some (Collector c)) last here }
+module _ (n : Numbers) (w : Facts) (st : CoreState) (stands : SeatsStand n w st) where
+  pub count : length st.seats ≡ n.mutators + n.servers + 1
+  count = stands.all.count
+
+  abbrev Sits : ℕ → Seat → Type 0
+  Sits i v = SeatSits n w (scene_in st stands.facets) stands.all.taker stands.all.places i v
+
+  -- the last seat is the collector, and it has the finished cycles
+  record EndsAs (i : ℕ) : Type 0 where
+    collector : Collecting
+    last : slice_get st.seats i ≡ Some (Collector collector)
+    lists : collector.kept.cycles.lists ≡ st.front.finished
+
+  collector_at : (i : ℕ) (v : Seat) → slice_get st.seats i ≡ Some v → i ≡ n.mutators + n.servers → Sits i v → EndsAs i
+  collector_at i (Mutator d) here at sits = absurd (let low = sits.keeps.in_range in omega (arith, low))
+  collector_at i (Server v) here at sits = absurd (let e = sits.number in let low = sits.in_range in omega (arith, e, low))
+  collector_at i (Collector c) here at sits = record { collector = c; last = here; lists = sits.lists }
+
+  ends_as : EndsAs (length st.seats - 1)
+  ends_as =
+      let last = some_at st.seats (length st.seats - 1) (omega (arith, count)) in
+      collector_at (length st.seats - 1) last.0 last.1 (omega (arith, count)) (stands.all.each (length st.seats - 1) last.0 last.1)
 
   pub last_collector : EndsWithCollector st.seats
-  last_collector =
-      let count = whole.count in
-      let last = some_at st.seats (n.mutators + n.servers) (omega (arith, count)) in
-      collector_at (n.mutators + n.servers) last.0 last.1 refl (whole.seats (n.mutators + n.servers) last.0 last.1) (omega (arith, count))
+  last_collector = record { collector = ends_as.collector; last = ends_as.last }
 
-  kept_first : (i : ℕ) (v : Seat) → SeatStands n w st.front i v → i < n.mutators → replies_kept v ≡ replies_to (0 + i) st.front.history ∷ []
-  kept_first i (Mutator d) stands low = ap (λ r. r ∷ []) (stands.replies ∙ ap (λ j. replies_to j st.front.history) (let e : i ≡ 0 + i = omega arith in e))
-  kept_first i (Server v) stands low = absurd (let e = stands.0 in omega (arith, e))
-  kept_first i (Collector c) stands low = absurd (let e = stands.0 in omega (arith, e))
+  pub finished_kept : st.front.finished ≡ cycles_in st.seats
+  finished_kept = sym (ap cycles_kept ends_as.last ∙ ends_as.lists)
 
-  kept_rest : (i : ℕ) (v : Seat) → SeatStands n w st.front i v → n.mutators ≤ i → replies_kept v ≡ []
-  kept_rest i (Mutator d) stands high = absurd (let low = stands.in_range in omega (arith, low))
-  kept_rest i (Server v) stands high = refl
-  kept_rest i (Collector c) stands high = refl
+  kept_first : (i : ℕ) (v : Seat) → Sits i v → i < n.mutators → replies_kept v ≡ replies_to (0 + i) st.front.history ∷ []
+  kept_first i (Mutator d) sits low = ap (λ r. r ∷ []) (sits.keeps.replies ∙ ap (λ j. replies_to j st.front.history) (let e : i ≡ 0 + i = omega arith in e))
+  kept_first i (Server v) sits low = absurd (let e = sits.number in omega (arith, e))
+  kept_first i (Collector c) sits low = absurd (let e = sits.number in omega (arith, e))
+
+  kept_rest : (i : ℕ) (v : Seat) → Sits i v → n.mutators ≤ i → replies_kept v ≡ []
+  kept_rest i (Mutator d) sits high = absurd (let low = sits.keeps.in_range in omega (arith, low))
+  kept_rest i (Server v) sits high = refl
+  kept_rest i (Collector c) sits high = refl
 
   -- the replies of all seats but the last
   pub replies_are : Listed (λ m. replies_to m st.front.history) 0 n.mutators (replies_in (take (length st.seats - 1) st.seats))
   replies_are =
       let k = length st.seats - 1 in
-      let count = whole.count in
       let many : length (take k st.seats) ≡ k = length_take_below st.seats k (omega arith) in
       listed (λ m. replies_to m st.front.history) n.mutators 0 (take k st.seats) (omega (arith, many, count))
-      (λ i v here low. let there = get_take k st.seats i v here in kept_first i v (whole.seats i v there) low)
-      (λ i v here high. let there = get_take k st.seats i v here in kept_rest i v (whole.seats i v there) high)
+      (λ i v here low. let there = get_take k st.seats i v here in kept_first i v (stands.all.each i v there) low)
+      (λ i v here high. let there = get_take k st.seats i v here in kept_rest i v (stands.all.each i v there) high)
     where
       length_take_below : (xs : List Seat) (k : ℕ) → k ≤ length xs → length (take k xs) ≡ k
       length_take_below xs zero low = refl
       length_take_below [] (suc k) low = absurd (omega arith)
       length_take_below (x ∷ xs) (suc k) low = let more = length_take_below xs k (omega arith) in omega (arith, more)
 
+  pub programs_count : length w.programs ≡ n.mutators
+  programs_count = stands.all.joint.script.facts.mutators
+
   -- ---- the end
 
   pub answers : Answers w st.front
-  answers = whole.names.hold.answers
+  answers = standing_answers n w st stands
 
-  none_left : (d : Driving) (m : ℕ) → SeatStands n w st.front m (Mutator d) → (t : Task) → d.progress.task ≡ t → (b : Bool) → place_by d.progress.done b t ≡ PlaceEnded → drop (length d.replies) d.calls ≡ []
-  none_left d m stands (Attempting c) is true end = cc
-  none_left d m stands (Attempting c) is false end = cc
-  none_left d m stands (Awaiting c) is true end = cc
-  none_left d m stands (Awaiting c) is false end = cc
-  none_left d m stands Finishing is true end = cc
-  none_left d m stands Finishing is false end = cc
-  none_left d m stands Ended is b end =
-      let known = stands.known in
-      let done_all : d.progress.done ≡ length d.calls = subst (λ (t : Task). TaskIsKnown d.caller d.calls d.progress.done t) is known.progress.task in
-      let many : length d.replies ≡ d.progress.done + 0 = known.replies ∙ ap (λ (t : Task). d.progress.done + replied t) is in
-      drop_all (length d.replies) d.calls (omega (arith, done_all, many))
-
-  answered : (m : ℕ) (program : List Call) → slice_get w.programs m ≡ Some program → m < n.mutators → AllAtEnd n st.seats →
-      (v : Seat) → slice_get st.seats m ≡ Some v → SeatStands n w st.front m v → calls_by m st.front.history ≡ program
-  answered m program has low end (Mutator d) here stands =
-      let left : program ≡ calls_by m st.front.history ++ drop (length d.replies) d.calls = whole.names.hold.left m (left_facet (Mutator d)) (map_at left_facet st.seats m (Mutator d) here) program has in
-      let none = none_left d m stands d.progress.task refl d.progress.within (end m (Mutator d) low here) in
-      sym (left ∙ ap (λ (l : List Call). calls_by m st.front.history ++ l) none ∙ append-nil (calls_by m st.front.history))
-  answered m program has low end (Server v) here stands = absurd (let e = stands.0 in omega (arith, e))
-  answered m program has low end (Collector c) here stands = absurd (let e = stands.0 in omega (arith, e))
+  -- a mutator that is told to be at its end has ended its task
+  ended_at : (done : ℕ) (b : Bool) (t : Task) → place_by done b t ≡ PlaceEnded → t ≡ Ended
+  ended_at done true (Attempting c) end = cc
+  ended_at done false (Attempting c) end = cc
+  ended_at done true (Awaiting c) end = cc
+  ended_at done false (Awaiting c) end = cc
+  ended_at done true Finishing end = cc
+  ended_at done false Finishing end = cc
+  ended_at done b Ended end = refl
 
   pub answers_to_end : AllAtEnd n st.seats → AnswersToEnd w st.front
-  answers_to_end end = record {
-    answers = answers;
-    all = λ m program has.
-        let within = slice_get_within w.programs m program has in
-        let programs = whole.script.facts.mutators in
-        let count = whole.count in
-        let seat = some_at st.seats m (omega (arith, within, programs, count)) in
-        answered m program has (omega (arith, within, programs)) end seat.0 seat.1 (whole.seats m seat.0 seat.1);
-  }
+  answers_to_end end = standing_answers_to_end n w st stands (λ m d here.
+      let sits = stands.all.each m (Mutator d) here in
+      ended_at d.progress.done d.progress.within d.progress.task (end m (Mutator d) sits.keeps.in_range here))

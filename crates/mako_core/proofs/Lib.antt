@@ -1,3 +1,4 @@
-pub mod Laws
-pub mod Starting
 pub mod Finishing
+pub mod Laws
+pub mod Rooms
+pub mod Starting

@@ -1,7 +1,6 @@
 -- The words and the seats of the start, as they are put together one after another.
-use Rattle.std.proofs.Common.{◌≡◌, ℕ, zero, suc, ◌+◌, ◌-◌, ◌*◌, ◌<◌, ◌≤◌, List, [], ◌∷◌, ◌++◌, length, set, take, replicate, slice_get, sum_by, Some, sym, ap, subst, refl, ◌∙◌, arith, append_assoc}
+use Rattle.std.proofs.Common.{◌≡◌, ℕ, zero, suc, ◌+◌, ◌-◌, ◌*◌, ◌<◌, ◌≤◌, List, [], ◌∷◌, ◌++◌, length, set, take, replicate, slice_get, Some, sym, ap, subst, refl, ◌∙◌, arith, append_assoc}
 use Rattle.std.proofs.lemmas.List.{length_push}
-use Rattle.std.proofs.lemmas.List.Sums.{sum_by-cons, sum_by-append}
 use Rattle.std.proofs.lemmas.Option.{none-some, same_Some}
 use Rattle.mako_words.specs.Names.{name_word}
 use Rattle.mako_shape.specs.Belongings.{opening_home}
@@ -9,7 +8,7 @@ use Rattle.mako_shape.specs.Places.{root, home, index, total}
 use Rattle.mako_shape.specs.declared.numbers.Numbers.{Numbers}
 use Rattle.mako_model.specs.Heaps.{board_name}
 use Rattle.mako_script.specs.Programs.{ProgramView}
-use Rattle.mako_script.specs.Scripts.{ScriptView, IsProper, command_count}
+use Rattle.mako_script.specs.Scripts.{ScriptView, IsProper}
 use Rattle.mako_pause.specs.Opening as collecting
 use Rattle.mako_server.specs.Serving as serving
 use Rattle.mako_seat.specs.declared.seat.Seat.{Seat}
@@ -18,10 +17,9 @@ use Rattle.mako_state.specs.Openings.{Placed, board_roots, first_homes, board_pl
 use Rattle.mako_script.specs.ScriptFacts.{facts_of}
 use Rattle.mako_model.specs.declared.point.Point.{Point}
 use Rattle.mako_state.specs.CoreStates.{CoreState}
-use Rattle.mako_script.specs.Forms.{NeedsNoCycle}
-use Rattle.mako_state.specs.Invariants.{WholeInvariant}
-use Rattle.mako_core.specs.Cores.{core_view, cycles_kept, cycles_in, unanswered, HasRoom}
-use Rattle.mako_state.proofs.Openings.{opening_holds}
+use Rattle.mako_core.specs.Cores.{core_view, cycles_kept, cycles_in}
+use Rattle.mako_whole.specs.AllStanding.{SeatsStand}
+use Rattle.mako_whole.proofs.AllStandingSteps.{openings_stand}
 
 -- ---- words
 
@@ -114,31 +112,6 @@ no_cycles : (s : ScriptView) → cycles_in (opening_seats s) ≡ []
 no_cycles s =
     ap cycles_in (sym (seats_are s)) ∙ last_cycles (mutators_from s.numbers 0 s.programs ++ servers_from s.numbers 0 s.numbers.servers) (Collector (collecting.opening s))
 
-calls_left : (n : Numbers) (m : ℕ) (ps : List ProgramView) → sum_by unanswered (mutators_from n m ps) ≡ command_count ps
-calls_left n m [] = refl
-calls_left n m (p ∷ ps) =
-    sum_by-cons unanswered (Mutator (opening_driver n m p)) (mutators_from n (m + 1) ps)
-    ∙ ap (λ k. length p.calls + k) (calls_left n (m + 1) ps)
-    ∙ sym (sum_by-cons (λ (q : ProgramView). length q.calls) p ps)
-
-servers_have_none : (n : Numbers) (s c : ℕ) → sum_by unanswered (servers_from n s c) ≡ 0
-servers_have_none n s zero = refl
-servers_have_none n s (suc c) =
-    let more = sum_by-cons unanswered (Server (serving.opening n s)) (servers_from n (s + 1) c) in
-    let rest = servers_have_none n (s + 1) c in omega (arith, more, rest)
-
-all_unanswered : (s : ScriptView) → sum_by unanswered (opening_seats s) ≡ command_count s.programs
-all_unanswered s =
-    let mutators = mutators_from s.numbers 0 s.programs in
-    let servers = servers_from s.numbers 0 s.numbers.servers in
-    let collector : List Seat = Collector (collecting.opening s) ∷ [] in
-    let all = sum_by-append unanswered mutators (servers ++ collector) in
-    let others = sum_by-append unanswered servers collector in
-    let calls = calls_left s.numbers 0 s.programs in
-    let none = servers_have_none s.numbers 0 s.numbers.servers in
-    let last : sum_by unanswered collector ≡ 0 = refl in
-    omega (arith, all, others, calls, none, last)
-
 -- ---- the whole
 
 pub opening_is : (s : ScriptView) (ws : List ℕ) (seats : List Seat) (points : List Point) → ws ≡ words_at_start s.numbers s.board → seats ≡ opening_seats s → points ≡ [] →
@@ -147,13 +120,7 @@ opening_is s ws seats points words_are seats_are none =
     let finished = ap cycles_in seats_are ∙ no_cycles s in
     λ k. record { words = words_are k; seats = seats_are k; front = record { history = none k; finished = finished k } }
 
-pub opened : (s now : ScriptView) (st : CoreState) → s ≡ now → st ≡ opening_core now → IsProper now → NeedsNoCycle (facts_of now) → WholeInvariant s.numbers (facts_of s) st
-opened s now st same is proper form =
-    subst (λ (t : ScriptView). WholeInvariant t.numbers (facts_of t) st) (sym same)
-    (subst (WholeInvariant now.numbers (facts_of now)) (sym is) (opening_holds now proper form))
-
-pub opening_room : (s : ScriptView) (st : CoreState) (room : ℕ) → st ≡ opening_core s → command_count s.programs ≤ room → HasRoom room st
-opening_room s st room is few =
-    let all = all_unanswered s in
-    let here : HasRoom room (opening_core s) = record { fits = omega (arith, all, few) } in
-    subst (HasRoom room) (sym is) here
+pub opened : (s now : ScriptView) (st : CoreState) → s ≡ now → st ≡ opening_core now → IsProper now → SeatsStand s.numbers (facts_of s) st
+opened s now st same is proper =
+    subst (λ (t : ScriptView). SeatsStand t.numbers (facts_of t) st) (sym same)
+    (subst (SeatsStand now.numbers (facts_of now)) (sym is) (openings_stand now proper))

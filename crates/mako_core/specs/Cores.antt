@@ -1,14 +1,14 @@
 -- A core as contracts see it, and what it keeps beside.
-use Rattle.std.specs.Prelude.{◌≡◌, ℕ, ◌+◌, ◌-◌, ◌≤◌, List, [], length, sum_by, Option, Some, None, slice_get}
+use Rattle.std.specs.Prelude.{◌≡◌, ℕ, ◌+◌, ◌-◌, ◌≤◌, List, [], length, Option, Some, None, slice_get}
 use Rattle.mako_words.specs.declared.name.Name.{Name}
 use Rattle.mako_shape.specs.declared.numbers.Numbers.{Numbers}
 use Rattle.mako_model.specs.declared.point.Point.{Point}
-use Rattle.mako_script.specs.Scripts.{ScriptView}
+use Rattle.mako_script.specs.Scripts.{ScriptView, command_count}
 use Rattle.mako_script.specs.ScriptFacts.{facts_of}
 use Rattle.mako_seat.specs.declared.seat.Seat.{Seat}
 use Rattle.mako_seat.specs.declared.seat.Seat.TheVariants.{Mutator, Server, Collector}
 use Rattle.mako_state.specs.CoreStates.{CoreState}
-use Rattle.mako_state.specs.Invariants.{WholeInvariant, left_facet}
+use Rattle.mako_whole.specs.AllStanding.{SeatsStand}
 
 -- a core: its script, and its core state
 pub record CoreView : Type 0 where
@@ -32,19 +32,15 @@ core_view s words seats points = record {
   state = record { words = words; seats = seats; front = record { history = points; finished = cycles_in seats } };
 }
 
--- how many of a seat's calls are not answered yet
-abbrev pub unanswered : Seat → ℕ
-unanswered v = length (left_facet v)
-
--- there is room for the points that are there, and for one for each call that is not answered yet
-pub record HasRoom (room : ℕ) (st : CoreState) : Type 0 where
-  pub fits : length st.front.history + sum_by unanswered st.seats ≤ room
+-- there is room for a point for each call of the script, and for one for each snapshot
+abbrev pub HasRoom : ℕ → ScriptView → Type 0
+HasRoom room s = command_count s.programs + s.numbers.cycles ≤ room
 
 -- The core has got somewhere with its script, and there is room for all that is still to come: its points, and in the
 -- end a list of replies for each mutator.
 pub record CoreHolds {A : Type 0} (shape : Numbers) (c : CoreView) (room : ℕ) (lists : List A) (lists_room : ℕ) : Type 0 where
   pub shape_is : shape ≡ c.script.numbers
-  pub whole : WholeInvariant c.script.numbers (facts_of c.script) c.state
-  pub room_is : HasRoom room c.state
+  pub stands : SeatsStand c.script.numbers (facts_of c.script) c.state
+  pub room_is : HasRoom room c.script
   pub lists_are : lists ≡ []
   pub lists_fit : length c.script.programs ≤ lists_room

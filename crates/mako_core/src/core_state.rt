@@ -61,19 +61,17 @@ impl<W: Words> Core<W> {
     ghost use Rattle.mako_seat.specs.Seats.{place_of};
     ghost use Rattle.mako_seat.specs.declared.seat.Seat.{Seat};
     ghost use Rattle.mako_state.specs.CoreStates.{step_of};
-    ghost use Rattle.mako_state.specs.Invariants.{WholeInvariant};
+    ghost use Rattle.mako_whole.specs.AllStanding.{SeatsStand};
     ghost use Rattle.mako_core.specs.Cores.{CoreView};
     ghost use Rattle.mako_core.specs.Turns.{turn_at, told_at};
     ghost use Rattle.mako_shape.specs.Places.{total};
-    ghost use Rattle.mako_script.specs.Forms.{NeedsNoCycle};
     ghost use Rattle.mako_state.specs.Openings.{opening_core};
 
     /// The core of a script before the first step. It takes all memory that it ever takes.
     pub fn start(alloc: Global, script: &Script) -> Result<Core<W>, Memory>
-        requires { NeedsNoCycle (facts_of script.now) }
         ensures script { IfOk result (λ c. c.script ≡ script.now) }
         ensures opening { IfOk result (λ c. c.state ≡ opening_core script.now) }
-        ensures holds { IfOk result (λ c. WholeInvariant c.script.numbers (facts_of c.script) c.state) }
+        ensures holds { IfOk result (λ c. SeatsStand c.script.numbers (facts_of c.script) c.state) }
     {
         let programs = script.programs.as_slice();
         let seats = opening_seats(alloc, script)?;
@@ -151,7 +149,7 @@ impl<W: Words> Core<W> {
         ensures turn { result ≡ turn_at self.old.state (slice_get self.old.state.seats seat) }
         ensures history { let told = told_at self.old.state (slice_get self.old.state.seats seat) in
             self.new.state.front.history ≡ history_after self.old.state.front.history told }
-        ensures holds { WholeInvariant self.new.script.numbers (facts_of self.new.script) self.new.state }
+        ensures holds { SeatsStand self.new.script.numbers (facts_of self.new.script) self.new.state }
     {
         let machine = &mut self.seats[seat as usize];
         match make_step(machine, &mut self.words) {
@@ -170,7 +168,7 @@ impl<W: Words + Drop> Core<W> {
     ghost use Rattle.mako_model.specs.Answering.{Answers, AnswersToEnd};
     ghost use Rattle.mako_model.specs.Outcomes.{IsWhole, AreCyclesOfFront, reply_lists};
     ghost use Rattle.mako_script.specs.ScriptFacts.{facts_of};
-    ghost use Rattle.mako_state.specs.Invariants.{WholeInvariant};
+    ghost use Rattle.mako_whole.specs.AllStanding.{SeatsStand};
     ghost use Rattle.mako_core.specs.Cores.{CoreView};
     ghost use Rattle.mako_core.specs.Endings.{AllAtEnd};
 
@@ -182,7 +180,7 @@ impl<W: Words + Drop> Core<W> {
         ensures front { result.front ≡ self.state.front }
         ensures answers { Answers (facts_of self.script) result.front }
         ensures end { AllAtEnd self.script.numbers self.state.seats → AnswersToEnd (facts_of self.script) result.front }
-        ensures holds { WholeInvariant self.script.numbers (facts_of self.script) self.state }
+        ensures holds { SeatsStand self.script.numbers (facts_of self.script) self.state }
     {
         let Core {
             script: _,

@@ -1,11 +1,10 @@
 //! A script carried out in the order of a schedule.
 
-ghost use Rattle.std.specs.Prelude.{◌≡◌, ◌≤◌, ◌⊎◌, ◌↔◌, [], length, IfOk, IsTrue};
+ghost use Rattle.std.specs.Prelude.{◌≡◌, ◌≤◌, ◌⊎◌, ◌↔◌, length, IfOk, IsTrue};
 ghost use Rattle.mako_model.specs.Answering.{Answers, AnswersToEnd};
 ghost use Rattle.mako_model.specs.Outcomes.{IsWhole, AreCyclesOfFront, reply_lists};
 ghost use Rattle.mako_script.specs.ScriptFacts.{facts_of};
-ghost use Rattle.mako_script.specs.Forms.{NeedsNoCycle};
-ghost use Rattle.mako_state.specs.Invariants.{WholeInvariant};
+ghost use Rattle.mako_whole.specs.AllStanding.{SeatsStand};
 ghost use Rattle.mako_core.specs.Endings.{AllAtEnd};
 ghost use Rattle.mako_replay.specs.Runs.{after, AreAllAtEnd};
 
@@ -28,8 +27,7 @@ pub struct Replayed {
 /// Carries out the script in this order, until every seat is at its end or so many steps were made. All memory is taken
 /// before the first step, and `Memory` means that there was not enough.
 pub fn replay(alloc: Global, script: &Script, order: Order, steps: u64) -> Result<Replayed, Memory>
-    requires few { steps ≤ 1000000000 }
-    requires form { NeedsNoCycle (facts_of script.now) }
+    requires { steps ≤ 1000000000 }
     ensures run { IfOk result (λ r. r.outcome.front ≡ (after script.now order steps).state.front) }
     ensures made { IfOk result (λ r. r.steps_made ≡ (after script.now order steps).made) }
     ensures most { IfOk result (λ r. r.steps_made ≤ steps) }
@@ -42,8 +40,7 @@ pub fn replay(alloc: Global, script: &Script, order: Order, steps: u64) -> Resul
     ensures answers { IfOk result (λ r. Answers (facts_of script.now) r.outcome.front) }
     ensures end { IfOk result (λ r. IsTrue r.finished → AnswersToEnd (facts_of script.now) r.outcome.front) }
     ensures holds { IfOk result (λ r.
-        WholeInvariant script.now.numbers (facts_of script.now) (after script.now order steps).state) }
-    ensures cycles { IfOk result (λ r. r.outcome.front.finished ≡ []) }
+        SeatsStand script.now.numbers (facts_of script.now) (after script.now order steps).state) }
 {
     let mut running = Running::start(alloc, script, order)?;
     while running.steps_made < steps && !running.live.is_empty() {

@@ -1,8 +1,6 @@
 //! A core that makes the steps of a schedule.
 
 ghost use Rattle.std.specs.Prelude.{◌≡◌, ◌≢◌, ◌+◌, ◌<◌, ◌↔◌, [], IfOk, IsTrue};
-ghost use Rattle.mako_script.specs.ScriptFacts.{facts_of};
-ghost use Rattle.mako_script.specs.Forms.{NeedsNoCycle};
 ghost use Rattle.mako_core.specs.Endings.{AllAtEnd};
 ghost use Rattle.mako_replay.specs.Runs.{Going, advanced, at_start, is_end, live};
 ghost use Rattle.mako_replay.specs.Standing.{HasCome};
@@ -50,7 +48,6 @@ pub(crate) struct Running {
 impl Running {
     /// Before the first step.
     pub(crate) fn start(alloc: Global, script: &Script, order: Order) -> Result<Running, Memory>
-        requires { NeedsNoCycle (facts_of script.now) }
         ensures script { IfOk result (λ r. r.core.script ≡ script.now) }
         ensures live { IfOk result (λ r. r.live.items ≡ live r.core.state.seats) }
         ensures come { IfOk result (λ r. HasCome r (at_start script.now order)) }

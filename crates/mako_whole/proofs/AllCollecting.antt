@@ -108,9 +108,12 @@ module _ (n : Numbers) (w : Facts) (st : CoreState) (sits : SeatsSit n w st) (fa
   can_fits (Noticing stage) can = notice_fits stage can
   can_fits Ended can = tt
 
+  pub can_at : (stage : CollectStage) → Here stage → Can stage
+  can_at stage here =
+      collectors_can_go n w (scene_in st sits.facets) st.seats i k stage sits.all here (needs stage here)
+
   pub fits_at : (stage : CollectStage) → Here stage → FitsAt stage
-  fits_at stage here = can_fits stage
-      (collectors_can_go n w (scene_in st sits.facets) st.seats i k stage sits.all here (needs stage here))
+  fits_at stage here = can_fits stage (can_at stage here)
 
 pub findings_fit : FindingsFit
 findings_fit n w st i k stage sits facts here = fits_at n w st sits facts i k stage here

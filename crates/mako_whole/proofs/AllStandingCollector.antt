@@ -73,11 +73,11 @@ module _ (n : Numbers) (w : Facts) (st : CoreState) (stand : SeatsStand n w st) 
   abbrev s : JointScene
   s = scene_in st stand.facets
 
-  abbrev sits : SeatsSit n w st
+  abbrev pub sits : SeatsSit n w st
   sits = record { facets = stand.facets; all = stand.all; only = stand.behind }
 
   -- all that its steps ask
-  facts : FactsStand n w st stand.facets
+  pub facts : FactsStand n w st stand.facets
   facts = record {
     barriers = stand.barriers;
     notices = λ i k stage here. stand.notices.knows i (noticing k stage) here;

@@ -189,7 +189,7 @@ openings_stand s proper = record {
 -- ---- runs
 
 module _ (collector : CollectorStands) where
-  seat_stands : (n : Numbers) (w : Facts) (st : CoreState) → SeatsStand n w st → (i : ℕ) (o : Option Seat)
+  pub seat_stands : (n : Numbers) (w : Facts) (st : CoreState) → SeatsStand n w st → (i : ℕ) (o : Option Seat)
       → slice_get st.seats i ≡ o → SeatsStand n w (step_of st i)
   seat_stands n w st stands i None here = subst (λ o. SeatsStand n w (stepped_by st i o)) (sym here) stands
   seat_stands n w st stands i (Some (Mutator d)) here = mutators_stand n w st i d stands here

@@ -19,6 +19,7 @@ pub mod AllNoticesSlots
 pub mod AllRuns
 pub mod AllRunsCollector
 pub mod AllStandingCollector
+pub mod AllStandingGoing
 pub mod AllStandingRuns
 pub mod AllStandingSteps
 pub mod CollectorBeside

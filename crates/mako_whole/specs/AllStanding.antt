@@ -2,6 +2,7 @@
 use Rattle.std.specs.Prelude.{ℕ, ◌≡◌, ◌+◌, List, slice_get, Some}
 use Rattle.mako_words.specs.declared.name.Name.{Name}
 use Rattle.mako_shape.specs.declared.numbers.Numbers.{Numbers}
+use Rattle.mako_step.specs.Machines.{CanStep}
 use Rattle.mako_model.specs.Answering.{Answers, AnswersToEnd}
 use Rattle.mako_model.specs.Dead.{AreFreed}
 use Rattle.mako_model.specs.Fronts.{replies_to}
@@ -11,8 +12,11 @@ use Rattle.mako_mutator.specs.declared.progress.Task.TheVariants.{Ended}
 use Rattle.mako_pause.specs.Collecting.{Collecting}
 use Rattle.mako_script.specs.ScriptFacts.{facts_of}
 use Rattle.mako_script.specs.Scripts.{ScriptView, IsProper}
+use Rattle.mako_seat.specs.Seats.{next_of, Fits}
+use Rattle.mako_seat.specs.declared.seat.Seat.{Seat}
 use Rattle.mako_seat.specs.declared.seat.Seat.TheVariants.{Mutator, Collector}
 use Rattle.mako_state.specs.CoreStates.{CoreState, step_of}
+use Rattle.mako_state.specs.Openings.{opening_core}
 use Rattle.mako_state.specs.Runs.{Reached}
 use Rattle.mako_joint.specs.Joints.{JointFacets}
 use Rattle.mako_whole.specs.Seats.{AllSit}
@@ -40,7 +44,20 @@ abbrev pub CollectorStands : Type 0
 CollectorStands = (n : Numbers) (w : Facts) (st : CoreState) (i : ℕ) (c : Collecting) → SeatsStand n w st
     → slice_get st.seats i ≡ Some (Collector c) → SeatsStand n w (step_of st i)
 
--- and so it is in all states to which the core of a proper script comes, by steps of any seats in any order
+-- so it is at the start of each proper script
+abbrev pub OpeningsStand : Type 0
+OpeningsStand = (s : ScriptView) → IsProper s → SeatsStand s.numbers (facts_of s) (opening_core s)
+
+-- and each step of each seat keeps it
+abbrev pub StepsStand : Type 0
+StepsStand = (n : Numbers) (w : Facts) (st : CoreState) (i : ℕ) → SeatsStand n w st → SeatsStand n w (step_of st i)
+
+-- and is of a word that there is, within its bounds, and finds what the machine can go on with
+abbrev pub StepsCanGo : Type 0
+StepsCanGo = (n : Numbers) (w : Facts) (st : CoreState) (i : ℕ) (v : Seat) → SeatsStand n w st
+    → slice_get st.seats i ≡ Some v → CanStep (next_of v) st.words (Fits v)
+
+-- so it stands in all states to which the core of a proper script comes, by steps of any seats in any order
 abbrev pub AllRunsStand : Type 0
 AllRunsStand = (s : ScriptView) (st : CoreState) → IsProper s → Reached s st → SeatsStand s.numbers (facts_of s) st
 

@@ -7,7 +7,7 @@ ghost use Rattle.mako_whole.specs.AllGifts.{ChoicesKeepGifts, FinishKeepsGifts, 
 ghost use Rattle.mako_whole.specs.AllHoused.{AllHousedHaveSpares, CollectorsStayHoused, MutatorsLeaveHoused, OpeningsAreHoused, ServersLeaveHoused};
 ghost use Rattle.mako_whole.specs.AllNotices.{CollectorNotices, FinishNotices, HearingNotices, MutatorNotices, OpeningNotices, ServerNotices};
 ghost use Rattle.mako_whole.specs.AllRuns.{ChoiceRuns, CollectorRuns, EvacRuns, GateRuns, LookRuns, MutatorRuns, PollRuns, RoundStoreRuns, ServerRuns, SnapshotRuns, StopRuns};
-ghost use Rattle.mako_whole.specs.AllStanding.{AllRunsStand, CollectorStands, RunsAnswer, RunsAnswerToEnd, RunsFree, RunsReply};
+ghost use Rattle.mako_whole.specs.AllStanding.{AllRunsStand, CollectorStands, OpeningsStand, RunsAnswer, RunsAnswerToEnd, RunsFree, RunsReply, StepsCanGo, StepsStand};
 ghost use Rattle.mako_whole.specs.CollectorChoices.{ChoicesKeepAll, EvacKeepsAll, TracesStayOfSeats};
 ghost use Rattle.mako_whole.specs.CollectorFinishes.{FinishKeepsAll};
 ghost use Rattle.mako_whole.specs.CollectorGates.{GatesKeepAll, StopsKeepAll};
@@ -160,7 +160,6 @@ pub fn seats_sit_after_collecting()
 /// Where each barrier slot has a name or nothing, a notice that was found stands in its slot yet, nothing is left of
 /// the servers that were read, the regions given up get spare with the next cycle, and a home that is loaded has a
 /// spare region: what the collector finds is what it can go on with (`fit`), and all seats sit after its step at a
-/// notice and after the store of Idle (`notices`), and so after each of its steps, whatever its stage (`keep`).
 /// notice and after the store of Idle (`notices`), and so after each of its steps, whatever its stage (`keep`): they do
 /// in the scene that the law of its stage names (`scenes`). Where all that stands in this scene again, the state after
 /// the step is as the one before it (`stand`).
@@ -240,6 +239,15 @@ pub fn gifts_get_spare_next()
 /// cycle: so it is after each step of the collector, whatever its stage, where it was so before.
 pub fn collector_stands()
     ensures { CollectorStands }
+{}
+
+/// So all seats stand before the first step of every script that the grammar allows (`opening`), and after each step of
+/// any seat where they stood before it (`keep`); and then a seat can make its step: its act is of a word that there is,
+/// within its bounds, and finds what the machine can go on with (`go`).
+pub fn all_steps_stand()
+    ensures opening { OpeningsStand }
+    ensures keep { StepsStand }
+    ensures go { StepsCanGo }
 {}
 
 /// From the start of every script that the grammar allows, after any steps of any seats in any order, all seats stand

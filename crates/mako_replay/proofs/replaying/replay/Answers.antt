@@ -1,11 +1,9 @@
 use Rattle.std.proofs.Common.{◌≡◌, ◌⊎◌, inl, inr, ⊎_elim, ◌↔◌, [], length, IsTrue, ℕ, List, suc, ◌+◌, ◌∷◌, eqb-true, refl, sym, ap, ◌∙◌, subst, subst₂, arith}
 use Rattle.mako_model.specs.Answering.{Answers, AnswersToEnd}
-use Rattle.mako_model.specs.Fronts.{Seen}
 use Rattle.mako_script.specs.ScriptFacts.{facts_of}
 use Rattle.mako_script.specs.Scripts.{ScriptView}
 use Rattle.mako_state.specs.CoreStates.{CoreState}
-use Rattle.mako_state.specs.Invariants.{WholeInvariant}
-use Rattle.mako_state.proofs.Runs.{none_finished}
+use Rattle.mako_whole.specs.AllStanding.{SeatsStand}
 use Rattle.mako_core.specs.Endings.{AllAtEnd}
 use Rattle.mako_replay.specs.Runs.{after, at_start, times, AreAllAtEnd}
 use Rattle.mako_replay.specs.Standing.{HasCome}
@@ -43,8 +41,8 @@ returns c =
     ] in
     let come = whole_run r c.args.script.now c.args.order c.args.steps inv.come inv.live inv.most stops in
     let state : r.core.state ≡ (after c.args.script.now c.args.order c.args.steps).state = come.state in
-    let holds : WholeInvariant c.args.script.now.numbers (facts_of c.args.script.now) r.core.state =
-    subst (λ (s : ScriptView). WholeInvariant s.numbers (facts_of s) r.core.state) script c.finish.ensures.holds in
+    let holds : SeatsStand c.args.script.now.numbers (facts_of c.args.script.now) r.core.state =
+    subst (λ (s : ScriptView). SeatsStand s.numbers (facts_of s) r.core.state) script c.finish.ensures.holds in
     record {
       run = c.finish.ensures.front ∙ ap (λ (st : CoreState). st.front) state;
       made = come.made;
@@ -59,7 +57,5 @@ returns c =
       answers = subst (λ (s : ScriptView). Answers (facts_of s) c.finish.result.front) script c.finish.ensures.answers;
       end = λ yes_. subst (λ (s : ScriptView). AnswersToEnd (facts_of s) c.finish.result.front) script
           (c.finish.ensures.end (c.is_finished-finished.ensures.0 yes_));
-      holds = subst (WholeInvariant c.args.script.now.numbers (facts_of c.args.script.now)) state holds;
-      cycles = ap (λ (f : Seen). f.finished) c.finish.ensures.front
-          ∙ none_finished c.args.script.now.numbers (facts_of c.args.script.now) r.core.state holds;
+      holds = subst (SeatsStand c.args.script.now.numbers (facts_of c.args.script.now)) state holds;
     }

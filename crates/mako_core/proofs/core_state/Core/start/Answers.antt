@@ -1,6 +1,7 @@
-use Rattle.std.proofs.Common.{◌≡◌, length, sym, ap, subst, ◌∙◌, arith}
+use Rattle.std.proofs.Common.{◌≡◌, ◌+◌, length, sym, ap, subst, ◌∙◌, arith}
+use Rattle.mako_shape.specs.declared.numbers.Numbers.{Numbers}
 use Rattle.mako_script.specs.Scripts.{ScriptView, IsProper, command_count}
-use Rattle.mako_core.proofs.Starting.{opening_is, opened, opening_room}
+use Rattle.mako_core.proofs.Starting.{opening_is, opened}
 use Rattle.mako_core.proofs.core_state.Core.start.Goals as goal
 
 pub count_points-points-requires : goal.count_points-points-requires
@@ -15,7 +16,7 @@ pub returns-clause-holds : goal.returns-clause-holds
 returns-clause-holds g c =
     let s = c.args.script.now in
     opened c.of.result.value s _ c.of.ensures (opening_is s _ _ _ c.in_ok-words.ensures c.in_ok-seats.ensures c.in_ok-journal.ensures.empty)
-    (subst IsProper c.script.view_is c.script.invariant) c.requires
+    (subst IsProper c.script.view_is c.script.invariant)
 
 pub invariant_of-result : goal.invariant_of-result
 invariant_of-result g c =
@@ -24,11 +25,14 @@ invariant_of-result g c =
     let programs : c.as_slice-programs.result.now ≡ s.programs = c.as_slice-programs.ensures.value ∙ ap (λ (t : ScriptView). t.programs) c.script.view_is in
     let counted : command_count c.as_slice-programs.result.now ≡ command_count s.programs = ap command_count programs in
     let room = c.in_ok-journal.ensures.room in
+    let cycles = ap (λ (n : Numbers). n.cycles) (c.numbers.ensures.numbers ∙ ap (λ (t : ScriptView). t.numbers) c.script.view_is) in
     let listed : length c.as_slice-programs.result.now ≡ length c.of.result.value.programs = ap length (programs ∙ ap (λ (t : ScriptView). t.programs) (sym c.of.ensures)) in
     record {
       shape_is = ap (λ (t : ScriptView). t.numbers) (c.script.view_is ∙ sym c.of.ensures);
-      whole = opened c.of.result.value s _ c.of.ensures state_is (subst IsProper c.script.view_is c.script.invariant) c.requires;
-      room_is = opening_room s _ c.in_ok-journal.journal.room state_is (omega (arith, room, c.count_points-points.ensures, counted));
+      stands = opened c.of.result.value s _ c.of.ensures state_is (subst IsProper c.script.view_is c.script.invariant);
+      room_is =
+          let few = ap (λ (t : ScriptView). command_count t.programs + t.numbers.cycles) c.of.ensures in
+          omega (arith, few, room, c.count_points-points.ensures, counted, cycles);
       lists_are = c.in-Ok.ensures.items;
       lists_fit = omega (arith, c.in-Ok.ensures.exact, listed);
     }

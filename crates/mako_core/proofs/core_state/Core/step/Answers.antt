@@ -5,7 +5,7 @@ use Rattle.mako_core.specs.Cores.{CoreView}
 use Rattle.mako_core.specs.Histories.{history_after}
 use Rattle.mako_core.specs.Turns.{turn_at, told_at}
 use Rattle.mako_state.specs.CoreStates.{step_of}
-use Rattle.mako_core.proofs.Laws.{asked, state_is, whole_after, holds_after, turn_is, history_is_told, has_place}
+use Rattle.mako_core.proofs.Laws.{asked, state_is, stands_after, holds_after, turn_is, history_is_told, has_place}
 use Rattle.mako_core.proofs.core_state.Core.step.Goals as goal
 
 pub make_step-requires : goal.make_step-requires
@@ -61,7 +61,7 @@ returns-in-Ended-clause-holds g c =
     let v = c.index_mut-machine.result.now in
     let within : c.args.seat < length in_.seats.items = rw (← c.self.view_is) at c.requires in
     let here : slice_get in_.seats.items c.args.seat ≡ Some v = slice_get_read in_.seats.items (length in_.seats.items) c.args.seat v refl within c.index_mut-machine.ensures.value in
-    whole_after in_.shape in_.script.value (g.W.Words.words in_.words) in_.seats.items in_.journal.points in_.journal.room in_.lists.items _ c.self.invariant c.args.seat v here
+    stands_after in_.shape in_.script.value (g.W.Words.words in_.words) in_.seats.items in_.journal.points in_.journal.room in_.lists.items _ c.self.invariant c.args.seat v here
     (g.W.Words.words c.make_step.new.words) c.in-Ended.ensures.words c.make_step.new.machine c.in-Ended.ensures.machine StepEnded c.in-Ended.ensures.result in_.journal.points refl
 
 pub invariant_of-self-in-Waiting : goal.invariant_of-self-in-Waiting
@@ -109,7 +109,7 @@ returns-in-Waiting-clause-holds g c =
     let v = c.index_mut-machine.result.now in
     let within : c.args.seat < length in_.seats.items = rw (← c.self.view_is) at c.requires in
     let here : slice_get in_.seats.items c.args.seat ≡ Some v = slice_get_read in_.seats.items (length in_.seats.items) c.args.seat v refl within c.index_mut-machine.ensures.value in
-    whole_after in_.shape in_.script.value (g.W.Words.words in_.words) in_.seats.items in_.journal.points in_.journal.room in_.lists.items _ c.self.invariant c.args.seat v here
+    stands_after in_.shape in_.script.value (g.W.Words.words in_.words) in_.seats.items in_.journal.points in_.journal.room in_.lists.items _ c.self.invariant c.args.seat v here
     (g.W.Words.words c.make_step.new.words) c.in-Waiting.ensures.words c.make_step.new.machine c.in-Waiting.ensures.machine (StepWaiting c.in-Waiting.word) c.in-Waiting.ensures.result in_.journal.points refl
 
 pub keep_point-requires : goal.keep_point-requires
@@ -165,7 +165,7 @@ returns-in-Moved-clause-holds g c =
     let v = c.index_mut-machine.result.now in
     let within : c.args.seat < length in_.seats.items = rw (← c.self.view_is) at c.requires in
     let here : slice_get in_.seats.items c.args.seat ≡ Some v = slice_get_read in_.seats.items (length in_.seats.items) c.args.seat v refl within c.index_mut-machine.ensures.value in
-    whole_after in_.shape in_.script.value (g.W.Words.words in_.words) in_.seats.items in_.journal.points in_.journal.room in_.lists.items _ c.self.invariant c.args.seat v here
+    stands_after in_.shape in_.script.value (g.W.Words.words in_.words) in_.seats.items in_.journal.points in_.journal.room in_.lists.items _ c.self.invariant c.args.seat v here
     (g.W.Words.words c.make_step.new.words) c.in-Moved.ensures.words c.make_step.new.machine c.in-Moved.ensures.machine (StepMoved c.in-Moved.event) c.in-Moved.ensures.result c.keep_point.new.journal.points c.keep_point.ensures.points
 
 pub returns-in-Ended-clause-seats : goal.returns-in-Ended-clause-seats
