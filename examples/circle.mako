@@ -1,0 +1,20 @@
+mako 1
+servers 2
+tablets 1
+entries 2
+words 16
+spare 1
+ring 2
+roots 4
+cycles 10
+gens 8
+board 1
+mutator
+new a 1
+new b 1
+put a 0 b
+put b 0 a
+drop a
+drop b
+collect
+end

@@ -1,0 +1,18 @@
+mako 1
+servers 1
+tablets 1
+entries 4
+words 16
+spare 1
+ring 2
+roots 4
+cycles 10
+gens 8
+board 1
+mutator
+new a 1
+put a 0 a
+drop a
+collect
+collect
+end
