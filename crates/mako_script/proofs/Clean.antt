@@ -197,7 +197,6 @@ module _ (roots : ℕ) (names words after : List (List ℕ)) (line : CommandLine
   no_fault faults.NoMutator fault = fault
   no_fault faults.Words fault = fault
   no_fault faults.Long fault = fault
-  no_fault faults.Form fault = fault
 
   -- the names behind the line
   abbrev NamesAfter : Type 0

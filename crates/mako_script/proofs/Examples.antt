@@ -1,5 +1,5 @@
 -- The worked script is one, and the text with two spaces is that of none.
-use Rattle.std.proofs.Common.{◌≡◌, inr, [], ◌∷◌, ℕ, zero, suc, ◌<◌, ◌≤◌, List, ◌+◌, length, refl, ap, sym, ◌∙◌, arith, true, None}
+use Rattle.std.proofs.Common.{◌≡◌, ℕ, zero, suc, ◌<◌, ◌≤◌, List, ◌+◌, length, refl, ap, sym, ◌∙◌, arith, true, None}
 use Rattle.std.proofs.lemmas.Option.{none-some}
 use Rattle.std.specs.Prelude.{slice_index, ◌≢◌}
 use Rattle.std.specs.Fmt.{digits}
@@ -11,8 +11,6 @@ use Rattle.mako_text.specs.Scripts.{ScriptView, IsProper}
 use Rattle.mako_reader.specs.Reading.{script_at, lines_of, words_of, each_at, setting_at, sections_at, section_at, calls_at, command_at, arguments_at, value_at, argument_at, within_at, number_at, define_at, place_at}
 use Rattle.mako_text.specs.Printed.{values_of}
 use Rattle.mako_reader.proofs.Again.{script_again}
-use Rattle.mako_text.specs.Forms.{IsAccepted}
-use Rattle.mako_text.proofs.Accepted.{no_collect_in}
 use Rattle.mako_text.specs.Texts.{script_text, IsScript}
 use Rattle.mako_script.specs.Examples.{storing, storing_text, storing_names, storing_program, spaced_text}
 
@@ -71,12 +69,6 @@ proper = record {
   mutators = refl;
   commands = omega arith;
   programs = (program, tt);
-}
-
-pub accepted : IsAccepted storing
-accepted = record {
-  proper = proper;
-  form = inr (record { no_collect = no_collect_in (storing_program ∷ []) refl; entries = omega arith; words = omega arith });
 }
 
 pub is_storing : IsScript storing_text storing

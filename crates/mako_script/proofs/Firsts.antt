@@ -1,15 +1,15 @@
 -- A text has one first fault at most, and that of the empty text.
 use Rattle.std.proofs.Common.{◌≡◌, ◌⊎◌, inl, inr, ◌<◌, ◌≤◌, ℕ, zero, suc, List, [], ◌∷◌, get_or, true≢false, refl, ap, sym, ◌∙◌, arith}
 use Rattle.mako_script.specs.declared.fault.Kind.{Kind}
-use Rattle.mako_script.specs.declared.fault.Kind.TheVariants.{Header, NotAscii, Word, Number, Range, Names, Undefined, NoMutator, Unclosed, Many, Entries, Words, Long, Form}
+use Rattle.mako_script.specs.declared.fault.Kind.TheVariants.{Header, NotAscii, Word, Number, Range, Names, Undefined, NoMutator, Unclosed, Many, Entries, Words, Long}
 use Rattle.mako_script.specs.Faults.{IsFirstFault, HasFault, rank, told_line}
 use Rattle.mako_reader.specs.Reading.{lines_of}
 
 -- the kinds by their ranks
 by_rank : List Kind
-by_rank = NotAscii ∷ Unclosed ∷ Header ∷ Word ∷ Number ∷ Range ∷ Entries ∷ Undefined ∷ Names ∷ Many ∷ NoMutator ∷ Words ∷ Long ∷ Form ∷ []
+by_rank = NotAscii ∷ Unclosed ∷ Header ∷ Word ∷ Number ∷ Range ∷ Entries ∷ Undefined ∷ Names ∷ Many ∷ NoMutator ∷ Words ∷ Long ∷ []
 
-ranked : (kind : Kind) → get_or by_rank (rank kind) Form ≡ kind
+ranked : (kind : Kind) → get_or by_rank (rank kind) Long ≡ kind
 unfolding by_rank
 ranked NotAscii = refl
 ranked Unclosed = refl
@@ -24,10 +24,9 @@ ranked Many = refl
 ranked NoMutator = refl
 ranked Words = refl
 ranked Long = refl
-ranked Form = refl
 
 by_its_rank : (kind other : Kind) → rank kind ≡ rank other → kind ≡ other
-by_its_rank kind other same = sym (ranked kind) ∙ (ap (λ (r : ℕ). get_or by_rank r Form) same ∙ ranked other)
+by_its_rank kind other same = sym (ranked kind) ∙ (ap (λ (r : ℕ). get_or by_rank r Long) same ∙ ranked other)
 
 same_place : (at other a b : ℕ) → (at < other) ⊎ ((at ≡ other) × (a ≤ b)) → (other < at) ⊎ ((other ≡ at) × (b ≤ a)) → (at ≡ other) × (a ≡ b)
 same_place at other a b (inl l) (inl m) = (omega arith, omega arith)
@@ -59,7 +58,6 @@ ranks_first zero Many has = inr (refl, omega arith)
 ranks_first zero NoMutator has = inr (refl, omega arith)
 ranks_first zero Words has = inr (refl, omega arith)
 ranks_first zero Long has = inr (refl, omega arith)
-ranks_first zero Form has = inr (refl, omega arith)
 
 pub empty : IsFirstFault [] Unclosed 1
 unfolding lines_of

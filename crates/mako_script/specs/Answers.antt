@@ -1,10 +1,8 @@
 -- What a reader may answer.
-use Rattle.std.specs.Prelude.{◌≡◌, ℕ, ◌⊎◌, List, Result, Ok, Err}
+use Rattle.std.specs.Prelude.{◌≡◌, ℕ, List, Result, Ok, Err}
 use Rattle.mako_script.specs.declared.fault.Kind.{Kind}
-use Rattle.mako_script.specs.declared.fault.Kind.TheVariants.{Form}
 use Rattle.mako_script.specs.declared.fault.ScriptFault.{ScriptFault}
 use Rattle.mako_script.specs.declared.fault.ScriptFault.TheVariants.{Bad, Memory}
-use Rattle.mako_text.specs.Forms.{IsAccepted}
 use Rattle.mako_script.specs.Faults.{IsFirstFault}
 use Rattle.mako_text.specs.Scripts.{ScriptView}
 use Rattle.mako_text.specs.Texts.{IsScript}
@@ -26,8 +24,6 @@ IsFaultOrMemory bytes (Ok s) = ⊥
 IsFaultOrMemory bytes (Err Memory) = Unit {0}
 IsFaultOrMemory bytes (Err (Bad kind line)) = IsFirstFault bytes kind line
 
--- the bytes are no script, and this is their first fault, or they are a script that is not accepted
+-- the bytes are no script, and this is their first fault
 abbrev pub IsRefused : List ℕ → Kind → ℕ → Type 0
-IsRefused bytes kind line =
-    (((s : ScriptView) → ¬ IsScript bytes s) × IsFirstFault bytes kind line)
-    ⊎ ((kind ≡ Form) × (line ≡ 0) × ((s : ScriptView) × IsScript bytes s × ¬ IsAccepted s))
+IsRefused bytes kind line = ((s : ScriptView) → ¬ IsScript bytes s) × IsFirstFault bytes kind line

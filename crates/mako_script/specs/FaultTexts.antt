@@ -2,7 +2,7 @@
 use Rattle.std.specs.Prelude.{ℕ, List, ◌++◌, codes}
 use Rattle.std.specs.Fmt.{decimal}
 use Rattle.mako_script.specs.declared.fault.Kind.{Kind}
-use Rattle.mako_script.specs.declared.fault.Kind.TheVariants.{Header, NotAscii, Word, Number, Range, Names, Undefined, NoMutator, Unclosed, Many, Entries, Words, Long, Form}
+use Rattle.mako_script.specs.declared.fault.Kind.TheVariants.{Header, NotAscii, Word, Number, Range, Names, Undefined, NoMutator, Unclosed, Many, Entries, Words, Long}
 
 abbrev pub kind_text : Kind → List ℕ
 kind_text Header = codes "header"
@@ -18,7 +18,6 @@ kind_text Many = codes "many"
 kind_text Entries = codes "entries"
 kind_text Words = codes "words"
 kind_text Long = codes "long"
-kind_text Form = codes "form"
 
 -- the line that tells a fault
 abbrev pub fault_text : Kind → ℕ → List ℕ

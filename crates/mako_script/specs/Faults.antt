@@ -4,7 +4,7 @@ use Rattle.std.specs.List.{list_all}
 use Rattle.mako_shape.specs.Places.{total}
 use Rattle.mako_shape.specs.Limits.{all_entries, max_entries, max_words}
 use Rattle.mako_script.specs.declared.fault.Kind.{Kind}
-use Rattle.mako_script.specs.declared.fault.Kind.TheVariants.{Header, NotAscii, Word, Number, Range, Names, Undefined, NoMutator, Unclosed, Many, Entries, Words, Long, Form}
+use Rattle.mako_script.specs.declared.fault.Kind.TheVariants.{Header, NotAscii, Word, Number, Range, Names, Undefined, NoMutator, Unclosed, Many, Entries, Words, Long}
 use Rattle.mako_reader.specs.declared.command.Argument.{Argument}
 use Rattle.mako_reader.specs.declared.command.Argument.TheVariants as arguments
 use Rattle.mako_reader.specs.declared.command.Command.{Command}
@@ -61,7 +61,6 @@ LineFault lines at Unclosed = ⊥
 LineFault lines at NoMutator = ⊥
 LineFault lines at Words = ⊥
 LineFault lines at Long = ⊥
-LineFault lines at Form = ⊥
 
 -- what follows the last line feed has this fault
 abbrev pub EndFault : List (List ℕ) → ℕ → Kind → Type 0
@@ -78,7 +77,6 @@ EndFault lines at Undefined = ⊥
 EndFault lines at Many = ⊥
 EndFault lines at Entries = ⊥
 EndFault lines at Long = ⊥
-EndFault lines at Form = ⊥
 
 -- the text has this fault there
 abbrev pub HasFault : List (List ℕ) → ℕ → Kind → Type 0
@@ -101,7 +99,6 @@ rank Many = 9
 rank NoMutator = 10
 rank Words = 11
 rank Long = 12
-rank Form = 13
 
 -- the line that is told, from 1: for too many words it is that of the last setting
 abbrev pub told_line : ℕ → Kind → ℕ

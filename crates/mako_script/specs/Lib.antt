@@ -6,7 +6,6 @@ pub mod FaultTexts
 pub mod Faults
 pub mod Lines
 pub mod States
-pub use Rattle.mako_text.specs.Forms
 pub use Rattle.mako_text.specs.Keys
 pub use Rattle.mako_text.specs.Names
 pub use Rattle.mako_text.specs.Outputs

@@ -37,8 +37,6 @@ pub enum Kind {
     Words,
     /// The input is too long to be read; the line is 0.
     Long,
-    /// The bytes are a script, but not of the form that is carried out so far; the line is 0.
-    Form,
 }
 
 impl Kind {
@@ -68,7 +66,6 @@ impl Kind {
             Kind::Entries => "entries",
             Kind::Words => "words",
             Kind::Long => "long",
-            Kind::Form => "form",
         }
     }
 }

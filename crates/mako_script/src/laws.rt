@@ -4,17 +4,14 @@ ghost use Rattle.std.specs.Prelude.{◌≡◌, ◌∷◌, [], ℕ, List, codes};
 ghost use Rattle.mako_script.specs.declared.fault.Kind.{Kind};
 ghost use Rattle.mako_script.specs.declared.fault.Kind.TheVariants.{NotAscii, Unclosed, Word, Number, Range, Undefined, Names, NoMutator, Many, Entries, Words, Header};
 ghost use Rattle.mako_text.specs.Scripts.{ScriptView};
-ghost use Rattle.mako_text.specs.Forms.{IsAccepted};
 ghost use Rattle.mako_text.specs.Texts.{IsScript};
 ghost use Rattle.mako_script.specs.Faults.{HasFault, IsFirstFault};
 ghost use Rattle.mako_reader.specs.Reading.{lines_of};
 ghost use Rattle.mako_script.specs.Examples.{header, many_entries_text, many_sections_text, many_words_text, storing, storing_text, spaced_text, with_line};
 
-/// The text that makes an object, stores a number in it and gets it back is that of its script, and
-/// this script is accepted.
+/// The text that makes an object, stores a number in it and gets it back is that of its script.
 pub fn a_text_has_its_script()
     ensures text { IsScript storing_text storing }
-    ensures accepted { IsAccepted storing }
 {}
 
 /// The same text with a second space before a number is that of no script.

@@ -1,4 +1,3 @@
-pub mod Forms
 pub mod Keys
 pub mod Names
 pub mod Outputs

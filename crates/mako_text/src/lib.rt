@@ -1,7 +1,6 @@
 //! Scripts as values: their geometry and programs, their one text, and the printed output of a run.
 #![tactic(auto)]
 
-mod form;
 pub mod keys;
 pub mod line;
 mod output;
@@ -10,7 +9,6 @@ mod program;
 mod script;
 pub mod text;
 
-pub use form::is_accepted;
 pub use line::Line;
 pub use output::write_output;
 pub use printing::print;
