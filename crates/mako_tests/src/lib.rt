@@ -6,6 +6,8 @@ mod commands;
 #[cfg(test)]
 mod counts;
 #[cfg(test)]
+mod journals;
+#[cfg(test)]
 mod judging;
 #[cfg(test)]
 mod small_counts;
