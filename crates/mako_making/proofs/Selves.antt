@@ -25,9 +25,8 @@ use Rattle.mako_mutator.specs.Drivers.{Driving, task_for, told_reply}
 use Rattle.mako_model.specs.declared.event.Event.{Event}
 use Rattle.mako_model.specs.declared.event.Event.TheVariants.{Nothing, Answered, Snapped, Finished}
 use Rattle.mako_joint.specs.Joints.{JointScene}
-use Rattle.mako_state.specs.Carried.{stage_carried, task_carried}
+use Rattle.mako_state.specs.Carried.{stage_carried, task_carried, WordStands}
 use Rattle.mako_state.specs.CoreStates.{front_after}
-use Rattle.mako_state.specs.Invariants.{WordStands}
 use Rattle.mako_state.specs.Says.{StageSays, TaskSays}
 use Rattle.mako_state.proofs.Points.{own_reply}
 use Rattle.mako_state.proofs.Words.{load_back}

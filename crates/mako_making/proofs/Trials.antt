@@ -22,7 +22,7 @@ use Rattle.mako_names.specs.Trying as trying
 use Rattle.mako_names.specs.Trying.{Trying}
 use Rattle.mako_phases.specs.Facets.{outside}
 use Rattle.mako_state.specs.CoreStates.{front_after}
-use Rattle.mako_state.proofs.Attempts.{drop_at}
+use Rattle.mako_state.proofs.Lists.{drop_at}
 use Rattle.mako_state.proofs.Ends.{answer_asks}
 use Rattle.mako_state.proofs.Words.{load_back}
 use Rattle.mako_joint.specs.Joints.{JointScene, Joint}

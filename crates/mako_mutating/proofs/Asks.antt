@@ -46,8 +46,7 @@ use Rattle.mako_layout.specs.Found.{RecordIsFound}
 use Rattle.mako_layout.proofs.Found.{homes_are_found, addresses_are_found, records_are_found}
 use Rattle.mako_phases.specs.Facets.{phase_during}
 use Rattle.mako_phases.proofs.Parts.{bound_cycle, cycles_fit}
-use Rattle.mako_state.specs.Carried.{stage_carried}
-use Rattle.mako_state.specs.Invariants.{WordStands}
+use Rattle.mako_state.specs.Carried.{stage_carried, WordStands}
 use Rattle.mako_state.specs.Standings.{stage_standing}
 use Rattle.mako_state.specs.Works.{stage_work, uses_at}
 use Rattle.mako_state.proofs.Objects.{is_admitted, handy}

@@ -40,7 +40,7 @@ use Rattle.mako_state.specs.CoreStates.{front_after}
 use Rattle.mako_state.specs.Says.{StageSays}
 use Rattle.mako_state.specs.Standings.{stage_standing}
 use Rattle.mako_state.specs.Works.{stage_work}
-use Rattle.mako_state.proofs.Attempts.{drop_at}
+use Rattle.mako_state.proofs.Lists.{drop_at}
 use Rattle.mako_state.proofs.Points.{own_reply}
 use Rattle.mako_state.proofs.Words.{load_back}
 use Rattle.mako_joint.specs.Joints.{JointScene, names_in, trace_in, layout_in, polls_in, TracksFit, Joint}

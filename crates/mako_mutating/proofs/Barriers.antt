@@ -44,8 +44,7 @@ use Rattle.mako_phases.specs.Steps.{PhaseScene, PhaseOrderIn}
 use Rattle.mako_phases.specs.Steps as phases
 use Rattle.mako_phases.proofs.AllPhases.{phase_kept}
 use Rattle.mako_phases.proofs.Says.{part_phase}
-use Rattle.mako_state.specs.Carried.{stage_carried}
-use Rattle.mako_state.specs.Invariants.{WordStands}
+use Rattle.mako_state.specs.Carried.{stage_carried, WordStands}
 use Rattle.mako_state.specs.Says.{StageSays}
 use Rattle.mako_state.specs.Standings.{stage_standing}
 use Rattle.mako_state.specs.Works.{stage_work}

@@ -36,8 +36,7 @@ use Rattle.mako_mutator.specs.declared.progress.Task.{Task}
 use Rattle.mako_mutator.specs.declared.progress.Task.TheVariants.{Attempting, Awaiting, Finishing, Ended as TaskEnded}
 use Rattle.mako_mutator.specs.Drivers as drivers
 use Rattle.mako_mutator.specs.Drivers.{Driving, TaskIsKnown}
-use Rattle.mako_state.specs.Carried.{carried_of}
-use Rattle.mako_state.specs.Invariants.{WordStands}
+use Rattle.mako_state.specs.Carried.{carried_of, WordStands}
 use Rattle.mako_state.proofs.Points.{Preserves, preserves, says_kept, other_reply}
 use Rattle.mako_mutating.specs.Mutators.{ObjectsAreSmall, HasFields, CopyCounts, MoveCounts, PutKeeps, StageKeeps, TaskKeeps}
 use Rattle.mako_mutating.specs.Beside.{LeavesToMutator, GoesOnBeside, Silent, Told, Snapped, OthersLeave, IsSmallCall, IsSmallPoint, ObjectsStaySmall}

@@ -41,8 +41,7 @@ use Rattle.mako_layout.proofs.Frames.{places_are_apart}
 use Rattle.mako_phases.specs.Facets.{Admission, IsNotAdmitted}
 use Rattle.mako_phases.specs.Facets as phases
 use Rattle.mako_ring.specs.TraceFacets.{apart}
-use Rattle.mako_state.specs.Carried.{stage_carried, carried_of}
-use Rattle.mako_state.specs.Invariants.{WordStands}
+use Rattle.mako_state.specs.Carried.{stage_carried, carried_of, WordStands}
 use Rattle.mako_state.specs.Says.{StageSays, TaskSays}
 use Rattle.mako_state.specs.Standings.{stage_standing, standing_of}
 use Rattle.mako_state.specs.Works.{stage_work, work_of}

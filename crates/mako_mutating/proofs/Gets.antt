@@ -32,8 +32,7 @@ use Rattle.mako_names.specs.Trying as trying
 use Rattle.mako_shades.specs.Steps.{LeavesObjects}
 use Rattle.mako_layout.specs.Facets.{idle}
 use Rattle.mako_phases.specs.Facets.{inside}
-use Rattle.mako_state.specs.Carried.{stage_carried}
-use Rattle.mako_state.specs.Invariants.{WordStands}
+use Rattle.mako_state.specs.Carried.{stage_carried, WordStands}
 use Rattle.mako_state.specs.Says.{StageSays, AccessSays}
 use Rattle.mako_state.specs.Standings.{stage_standing}
 use Rattle.mako_state.specs.Works.{stage_work, uses_at}

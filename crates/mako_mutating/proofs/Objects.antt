@@ -36,8 +36,7 @@ use Rattle.mako_layout.specs.Evacuations as evacuations
 use Rattle.mako_layout.specs.StepParts.{OwesNothing}
 use Rattle.mako_layout.specs.Steps.Step.{load_entry, load_home, keep_home, forget}
 use Rattle.mako_layout.proofs.EachStep.{each_step_keeps}
-use Rattle.mako_state.specs.Carried.{stage_carried}
-use Rattle.mako_state.specs.Invariants.{WordStands}
+use Rattle.mako_state.specs.Carried.{stage_carried, WordStands}
 use Rattle.mako_state.specs.Says.{StageSays, AccessSays}
 use Rattle.mako_state.specs.Standings.{stage_standing}
 use Rattle.mako_state.specs.Works.{stage_work, uses_at}

@@ -16,8 +16,7 @@ use Rattle.mako_mutator.specs.declared.progress.Task.{Task}
 use Rattle.mako_mutator.specs.Drivers as drivers
 use Rattle.mako_mutator.specs.Drivers.{Driving, task_for}
 use Rattle.mako_mutator.proofs.DriverGoing.{opening_known}
-use Rattle.mako_state.specs.Carried.{task_carried}
-use Rattle.mako_state.specs.Invariants.{WordStands}
+use Rattle.mako_state.specs.Carried.{task_carried, WordStands}
 use Rattle.mako_state.specs.Says.{TaskSays}
 use Rattle.mako_mutating.specs.Mutators.{MutatorKeeps, TaskKeeps}
 use Rattle.mako_mutating.specs.Beside.{OpeningsKeep}

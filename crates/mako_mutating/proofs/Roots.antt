@@ -36,13 +36,11 @@ use Rattle.mako_names.specs.Trying as trying
 use Rattle.mako_shades.specs.Steps.{LeavesObjects}
 use Rattle.mako_layout.specs.Evacuations.{Evacuation}
 use Rattle.mako_phases.specs.Facets.{inside}
-use Rattle.mako_state.specs.Carried.{stage_carried}
-use Rattle.mako_state.specs.Invariants.{WordStands}
+use Rattle.mako_state.specs.Carried.{stage_carried, WordStands}
 use Rattle.mako_state.specs.Says.{StageSays, RootSays}
 use Rattle.mako_state.specs.Standings.{stage_standing}
 use Rattle.mako_state.specs.Works.{stage_work}
-use Rattle.mako_state.proofs.Replies.{numbers, drops, shows, copies_into}
-use Rattle.mako_state.proofs.StageCalls.{copies, gets, puts, puts_value, puts_at}
+use Rattle.mako_state.proofs.StageCalls.{numbers, drops, shows, copies_into, copies, gets, puts, puts_value, puts_at}
 use Rattle.mako_joint.proofs.Heaps.{values_fit}
 use Rattle.mako_mutating.specs.MutatorFacets.{stage_trying, stage_trace, stage_held, stage_admission}
 use Rattle.mako_mutating.specs.Mutators.{view_of, StageKeeps, RootsStand}

@@ -31,9 +31,8 @@ use Rattle.mako_layout.specs.Facets.{Work}
 use Rattle.mako_phases.specs.Facets.{Admission, mutating}
 use Rattle.mako_phases.specs.Orders.{IsTracePhase}
 use Rattle.mako_ring.specs.TraceFacets.{TraceFacet}
-use Rattle.mako_state.specs.Carried.{carried_of}
+use Rattle.mako_state.specs.Carried.{carried_of, WordStands}
 use Rattle.mako_state.specs.CoreStates.{front_after}
-use Rattle.mako_state.specs.Invariants.{WordStands}
 use Rattle.mako_state.specs.Says.{TaskSays}
 use Rattle.mako_state.specs.Standings.{standing_of}
 use Rattle.mako_state.specs.Works.{work_of}

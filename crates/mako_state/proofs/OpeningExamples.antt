@@ -3,7 +3,7 @@ use Rattle.std.proofs.Common.{◌≡◌, ℕ, List, [], ◌∷◌, ◌++◌, map
 use Rattle.mako_shape.specs.Places.{index, total}
 use Rattle.mako_gate.specs.Standings.{away, mutator_at}
 use Rattle.mako_script.specs.Examples.{storing, storing_calls}
-use Rattle.mako_state.specs.Invariants.{gate_facet, left_facet}
+use Rattle.mako_state.specs.Facets.{gate_facet, left_facet}
 use Rattle.mako_state.specs.Openings.{words_at_start, opening_seats}
 
 -- the name of the board in root 0, the top 2, the board's entry with the address 27, and its header of one field

@@ -6,9 +6,6 @@ use Rattle.mako_shape.specs.declared.numbers.Numbers.{Numbers}
 use Rattle.mako_gate.specs.Standings.{GateFacet, away, mutator_at}
 use Rattle.mako_model.specs.declared.call.Call.{Call}
 use Rattle.mako_model.specs.declared.call.Call.TheVariants.{New, Num, CopyRoot, DropRoot, Get, Put, Show, Collect}
-use Rattle.mako_model.specs.Fronts.{Seen}
-use Rattle.mako_model.specs.Heaps.{Heap}
-use Rattle.mako_model.specs.Legal.{Facts}
 use Rattle.mako_script.specs.Programs.{ProgramView}
 use Rattle.mako_script.specs.Scripts.{ScriptView}
 use Rattle.mako_call.specs.declared.caller.Caller.{Caller}
@@ -26,12 +23,8 @@ use Rattle.mako_seat.specs.declared.seat.Seat.{Seat}
 use Rattle.mako_seat.specs.declared.seat.Seat.TheVariants.{Mutator, Server, Collector}
 use Rattle.mako_layout.specs.Facets.{Work, idle}
 use Rattle.mako_layout.specs.Openings.{seats_from, idle_works}
-use Rattle.mako_state.specs.Carried.{stage_carried, task_carried}
-use Rattle.mako_state.specs.Invariants.{gate_facet, work_facet, carried_facet}
+use Rattle.mako_state.specs.Facets.{gate_facet, work_facet, task_ended, ended_of}
 use Rattle.mako_state.specs.Openings.{opening_driver, mutators_from, servers_from, opening_seats}
-use Rattle.mako_state.specs.Rests.{task_ended, ended_of, StageRests, TaskRests}
-use Rattle.mako_state.specs.Says.{StageSays, TaskSays}
-use Rattle.mako_state.specs.Sought.{StageSought, TaskSought}
 use Rattle.mako_state.specs.Standings.{stage_standing, task_standing}
 use Rattle.mako_state.specs.Works.{stage_work, task_work}
 
@@ -147,25 +140,8 @@ module _ (k : Caller) (calls : List Call) where
   first_works = for_first k (slice_get calls 0) (λ t. task_work t ≡ idle) refl
       (λ call e. for_stage call (λ g. stage_work k.shape g ≡ idle) refl (λ _. refl))
 
-  first_carries : task_carried (begun k calls).task ≡ None
-  first_carries = for_first k (slice_get calls 0) (λ t. task_carried t ≡ None) refl
-      (λ call e. for_stage call (λ g. stage_carried g ≡ None) refl (λ _. refl))
-
   first_ended : task_ended (begun k calls).task ≡ 0
   first_ended = for_first k (slice_get calls 0) (λ t. task_ended t ≡ 0) refl (λ call e. refl)
-
-  pub first_says : (h : Heap) (m : ℕ) → TaskSays h m (begun k calls).task
-  first_says h m = for_first k (slice_get calls 0) (TaskSays h m) tt
-      (λ call e. for_stage call (StageSays h m call) tt (λ _. tt))
-
-  pub first_seeks : (w : Facts) (front : Seen) (m : ℕ) → TaskSought w front m (begun k calls).task
-  first_seeks w front m = for_first k (slice_get calls 0) (TaskSought w front m) tt
-      (λ call e. for_stage call (StageSought w front m call) tt (λ _. tt))
-
-  -- a collect comes first only where no cycle may run
-  pub first_rests : (n : Numbers) → (slice_get calls 0 ≡ Some Collect → n.cycles ≡ 0) → TaskRests n (begun k calls).task
-  first_rests n none = for_first k (slice_get calls 0) (TaskRests n) tt
-      (λ call e. for_stage call (StageRests n) tt (λ is. none (e ∙ ap (λ c. Some c) is)))
 
 -- ---- what is read of each seat
 
@@ -181,11 +157,6 @@ module _ (s : ScriptView) where
   work_is _ _ (of_mutator m p at) = first_works (record { shape = s.numbers; mutator = m }) p.calls
   work_is _ _ (of_server i j e l) = refl
   work_is _ _ (of_collector i e) = refl
-
-  pub carries_none : (i : ℕ) (v : Seat) → IsOpeningSeat s i v → carried_facet v ≡ None
-  carries_none _ _ (of_mutator m p at) = first_carries (record { shape = s.numbers; mutator = m }) p.calls
-  carries_none _ _ (of_server i j e l) = refl
-  carries_none _ _ (of_collector i e) = refl
 
   pub none_ended : (i : ℕ) (v : Seat) → IsOpeningSeat s i v → ended_of v ≡ 0
   none_ended _ _ (of_mutator m p at) = first_ended (record { shape = s.numbers; mutator = m }) p.calls

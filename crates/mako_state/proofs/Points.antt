@@ -1,9 +1,8 @@
 -- What a point leaves of what other mutators know.
-use Rattle.std.proofs.Common.{◌≡◌, ◌≢◌, ℕ, ◌+◌, ◌-◌, ◌<◌, ◌==◌, inl, inr, ⊎_elim, true, false, List, [], ◌∷◌, ◌++◌, length, map, set, replicate, Some, None, sym, ap, subst, refl, ◌∙◌, arith, append-nil, length-set, cond}
+use Rattle.std.proofs.Common.{◌≡◌, ◌≢◌, ℕ, ◌<◌, ◌==◌, ⊎_elim, true, false, List, [], ◌∷◌, ◌++◌, length, map, set, replicate, Some, None, sym, ap, subst, refl, ◌∙◌, arith, append-nil, length-set, cond}
 use Rattle.std.proofs.lemmas.Bool.{ne_eqb}
 use Rattle.std.proofs.Common.{eq-eqb}
 use Rattle.std.proofs.lemmas.List.{map-append}
-use Rattle.std.proofs.lemmas.List.Sums.{sum_by_push}
 use Rattle.std.proofs.lemmas.Option.{none-some, same_Some}
 use Rattle.mako_words.specs.declared.name.Name.{Name}
 use Rattle.mako_words.specs.declared.value.Value.{Value}
@@ -14,14 +13,10 @@ use Rattle.mako_model.specs.declared.reply.Reply.{Reply}
 use Rattle.mako_model.specs.declared.reply.Reply.TheVariants as reply
 use Rattle.mako_model.specs.declared.point.Point.{Point}
 use Rattle.mako_model.specs.declared.point.Point.TheVariants.{Did, Snap}
-use Rattle.mako_model.specs.Fronts.{Seen, answered_by, replies_to, with_point}
+use Rattle.mako_model.specs.Fronts.{answered_by, replies_to}
 use Rattle.mako_model.specs.Heaps.{Heap, root_of, fields_of, with_root, with_fields}
 use Rattle.mako_model.specs.Lawful.{IsLawful, IsLawfulReply, heap_after, heap_replied}
-use Rattle.mako_model.specs.Legal.{Facts}
-use Rattle.mako_model.specs.Dead.{IsDead}
-use Rattle.mako_model.specs.Starved.{IsEntryUnavailable, IsTabletFull, words_by}
 use Rattle.mako_model.proofs.Changes.{put_writes}
-use Rattle.mako_model.proofs.Histories.{made_stays}
 use Rattle.mako_model.proofs.Lookups.{root_other, fields_same, fields_other, name_cases}
 use Rattle.mako_call.specs.declared.object.Access.{Access}
 use Rattle.mako_call.specs.declared.object.Access.TheVariants.{Get as Gets, Put as Puts}
@@ -37,16 +32,7 @@ use Rattle.mako_call.specs.declared.putting.PutStage.{PutStage}
 use Rattle.mako_call.specs.declared.putting.PutStage.TheVariants.{LoadingHeader as PutHeader, LoadingOld, LookingAtBarrier, StoringBarrier, StoringField}
 use Rattle.mako_mutator.specs.declared.progress.Task.{Task}
 use Rattle.mako_mutator.specs.declared.progress.Task.TheVariants.{Attempting, Awaiting, Finishing, Ended as TaskEnded}
-use Rattle.mako_alloc.specs.declared.progress.NewStage.{NewStage}
-use Rattle.mako_alloc.specs.declared.progress.NewStage.TheVariants.{Arriving as NewArriving, TurnedAway as NewTurnedAway, TakingTurn as NewTakingTurn, LoadingLeaving, LoadingTop, LoadingEntry as NewEntry, LoadingHome as NewHome, Making, GivingTurn as PassingTurn, Leaving as NewLeaving, Ended as NewEnded}
-use Rattle.mako_call.specs.declared.allocating.AllocStage.{AllocStage}
-use Rattle.mako_call.specs.declared.allocating.AllocStage.TheVariants.{Searching}
-use Rattle.mako_call.specs.declared.leaving.LeaveStage.{LeaveStage}
-use Rattle.mako_call.specs.declared.leaving.LeaveStage.TheVariants.{FromTablet, FromOwn}
-use Rattle.mako_model.specs.declared.attempt.Attempt.{Attempt}
-use Rattle.mako_model.specs.declared.attempt.Attempt.TheVariants.{Full as NoRoom}
 use Rattle.mako_state.specs.Says.{AccessSays, HasMore, RootSays, GetSays, PutSays, StageSays, TaskSays}
-use Rattle.mako_state.specs.Sought.{Sought, NewStageSought, AllocSought, OutcomeSought, LeaveSought, StageSought, TaskSought}
 
 -- ---- the heap
 
@@ -164,75 +150,6 @@ module _ (h after : Heap) (i : ℕ) (p : Preserves h after i) where
   says_kept (Awaiting c) s = tt
   says_kept Finishing s = tt
   says_kept TaskEnded s = tt
-
--- ---- what was found full
-
--- nothing is dead in no cycle
-pub none_dead : (w : Facts) (history : List Point) (x : Name) → IsDead w history 0 x → ⊥
-none_dead w history x d = let e = d.numbered in omega arith
-
-module _ (w : Facts) (front : Seen) (p : Point) where
-  unavailable_stays : (x : ℕ) → IsEntryUnavailable w front front.history 0 x →
-      IsEntryUnavailable w (with_point front p) (front.history ++ p ∷ []) 0 x
-  unavailable_stays x u = ⊎_elim
-      (λ t. inl (
-        t.0,
-        made_stays front.history (p ∷ []) (record { entry = x; generation = t.0 }) t.1,
-        none_dead w (front.history ++ p ∷ []) (record { entry = x; generation = t.0 }),
-      ))
-      (λ t. inr (made_stays front.history (p ∷ []) (record { entry = x; generation = w.generations - 1 }) t)) u
-
-  full_stays : (fields t : ℕ) → IsTabletFull w front front.history 0 fields t →
-      IsTabletFull w (with_point front p) (front.history ++ p ∷ []) 0 fields t
-  full_stays fields t f = ⊎_elim (λ u. inl (λ x at. unavailable_stays x (u x at)))
-      (λ l. inr (omega (arith, l, sum_by_push (words_by w t) front.history p))) f
-
-  sought_stays : (m fields tablets entries : ℕ) → Sought w front m fields tablets entries →
-      Sought w (with_point front p) m fields tablets entries
-  sought_stays m fields tablets entries s = record {
-    gone = λ passed low. full_stays fields _ (s.gone passed low);
-    seen = λ passed low. unavailable_stays _ (s.seen passed low);
-  }
-
-  new_sought : (m fields passed : ℕ) (s : NewStage) → NewStageSought w front m fields passed s →
-      NewStageSought w (with_point front p) m fields passed s
-  new_sought m fields passed NewArriving s = sought_stays m fields passed 0 s
-  new_sought m fields passed NewTurnedAway s = sought_stays m fields (passed + 1) 0 s
-  new_sought m fields passed NewTakingTurn s = sought_stays m fields passed 0 s
-  new_sought m fields passed LoadingLeaving s = sought_stays m fields passed 0 s
-  new_sought m fields passed LoadingTop s = sought_stays m fields passed 0 s
-  new_sought m fields passed (NewEntry kept place) s = sought_stays m fields passed place s
-  new_sought m fields passed (NewHome kept name) s = tt
-  new_sought m fields passed (Making made part) s = tt
-  new_sought m fields passed PassingTurn s = sought_stays m fields (passed + 1) 0 s
-  new_sought m fields passed NewLeaving s = sought_stays m fields (passed + 1) 0 s
-  new_sought m fields passed (NewEnded found) s = tt
-
-  alloc_sought : (m : ℕ) (s : AllocStage) → AllocSought w front m s → AllocSought w (with_point front p) m s
-  alloc_sought m (Searching root search) s =
-      λ none. new_sought m search.job.fields search.progress.passed search.progress.stage (s none)
-  alloc_sought m stage s = s
-
-  outcome_sought : (m : ℕ) (c : Call) (o : Attempt) → OutcomeSought w front m c o →
-      OutcomeSought w (with_point front p) m c o
-  outcome_sought m (call.New root fields) NoRoom s = sought_stays m fields w.tablets 0 s
-  outcome_sought m c o s = s
-
-  leave_sought : (m : ℕ) (c : Call) (stage : LeaveStage) → LeaveSought w front m c stage →
-      LeaveSought w (with_point front p) m c stage
-  leave_sought m c (FromTablet tablet outcome) s = outcome_sought m c outcome s
-  leave_sought m c (FromOwn outcome) s = outcome_sought m c outcome s
-  leave_sought m c stage s = s
-
-  stage_sought : (m : ℕ) (c : Call) (stage : CallStage) → StageSought w front m c stage →
-      StageSought w (with_point front p) m c stage
-  stage_sought m c (Allocating stage) s = alloc_sought m stage s
-  stage_sought m c (Leaving stage) s = leave_sought m c stage s
-  stage_sought m c stage s = s
-
-  pub task_sought : (m : ℕ) (t : Task) → TaskSought w front m t → TaskSought w (with_point front p) m t
-  task_sought m (Attempting c) s = stage_sought m c.call c.stage s
-  task_sought m t s = s
 
 -- ---- replies
 

@@ -1,5 +1,5 @@
 -- Of which calls the stages of an attempt are.
-use Rattle.std.proofs.Common.{◌≡◌, ℕ, sym}
+use Rattle.std.proofs.Common.{◌≡◌, ℕ, sym, ap}
 use Rattle.mako_words.specs.declared.name.Name.{Name}
 use Rattle.mako_words.specs.declared.value.Value.{Value}
 use Rattle.mako_model.specs.declared.call.Call.{Call}
@@ -7,10 +7,57 @@ use Rattle.mako_model.specs.declared.call.Call.TheVariants as call
 use Rattle.mako_call.specs.declared.object.Access.TheVariants.{Get as Gets, Put as Puts}
 use Rattle.mako_call.specs.declared.object.Get.{Get as GetArgs}
 use Rattle.mako_call.specs.declared.object.Put.{Put as PutArgs}
-use Rattle.mako_call.specs.declared.rooting.RootStage.TheVariants.{LoadingCopied, LoadingSource, LoadingTarget, LoadingValue, LoadingPhase}
+use Rattle.mako_call.specs.declared.rooting.RootStage.TheVariants.{LoadingCopied, LoadingShown, LoadingSource, LoadingTarget, LoadingValue, LoadingPhase, StoringCopied, StoringNull, StoringNumber}
 use Rattle.mako_call.specs.Agreeing.{RootStageOf, AccessOf}
 
--- which calls the stages are those of
+-- ---- at roots
+
+-- stages that answer at once
+pub numbers : (c : Call) (q number : ℕ) → RootStageOf c (StoringNumber q number) → c ≡ call.Num q number
+numbers (call.Num q0 n0) q number e = λ i. call.Num (sym e.0 i) (sym e.1 i)
+numbers (call.New q0 fields) q number e = absurd e
+numbers (call.CopyRoot to from) q number e = absurd e
+numbers (call.DropRoot q0) q number e = absurd e
+numbers (call.Get to from field) q number e = absurd e
+numbers (call.Put to field from) q number e = absurd e
+numbers (call.Show q0) q number e = absurd e
+numbers call.Collect q number e = absurd e
+
+pub drops : (c : Call) (q : ℕ) → RootStageOf c (StoringNull q) → c ≡ call.DropRoot q
+drops (call.DropRoot q0) q e = ap call.DropRoot (sym e)
+drops (call.New q0 fields) q e = absurd e
+drops (call.Num q0 number) q e = absurd e
+drops (call.CopyRoot to from) q e = absurd e
+drops (call.Get to from field) q e = absurd e
+drops (call.Put to field from) q e = absurd e
+drops (call.Show q0) q e = absurd e
+drops call.Collect q e = absurd e
+
+pub shows : (c : Call) (q : ℕ) → RootStageOf c (LoadingShown q) → c ≡ call.Show q
+shows (call.Show q0) q e = ap call.Show (sym e)
+shows (call.New q0 fields) q e = absurd e
+shows (call.Num q0 number) q e = absurd e
+shows (call.DropRoot q0) q e = absurd e
+shows (call.CopyRoot to from) q e = absurd e
+shows (call.Get to from field) q e = absurd e
+shows (call.Put to field from) q e = absurd e
+shows call.Collect q e = absurd e
+
+pub record CopiesInto (c : Call) (r : ℕ) : Type 0 where
+  pub from : ℕ
+  pub is : c ≡ call.CopyRoot r from
+
+pub copies_into : (c : Call) (r : ℕ) (v : Value) → RootStageOf c (StoringCopied r v) → CopiesInto c r
+copies_into (call.CopyRoot to from) r v e = record { from = from; is = λ i. call.CopyRoot (sym e i) from }
+copies_into (call.New q0 fields) r v e = absurd e
+copies_into (call.Num q0 number) r v e = absurd e
+copies_into (call.DropRoot q0) r v e = absurd e
+copies_into (call.Get to from field) r v e = absurd e
+copies_into (call.Put to field from) r v e = absurd e
+copies_into (call.Show q0) r v e = absurd e
+copies_into call.Collect r v e = absurd e
+
+-- and those that load a root
 pub copies : (c : Call) (r q : ℕ) → RootStageOf c (LoadingCopied r q) → c ≡ call.CopyRoot r q
 copies (call.CopyRoot to from) r q e = λ i. call.CopyRoot (sym e.0 i) (sym e.1 i)
 copies (call.New r0 fields) r q e = absurd e
@@ -70,7 +117,8 @@ puts_at (call.DropRoot r0) object i v e = absurd e
 puts_at (call.Show r0) object i v e = absurd e
 puts_at call.Collect object i v e = absurd e
 
--- and of a get or a put at an object
+-- ---- at an object
+
 pub record GetsInto (c : Call) (get : GetArgs) : Type 0 where
   pub from : ℕ
   pub is : c ≡ call.Get get.to from get.field

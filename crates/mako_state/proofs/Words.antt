@@ -1,16 +1,13 @@
 -- Words after an act, and what a store at one place leaves alone.
-use Rattle.std.proofs.Common.{◌≡◌, ◌≢◌, ℕ, ◌<◌, List, length, set, sym, ap, refl}
+use Rattle.std.proofs.Common.{◌≡◌, ◌≢◌, ℕ, ◌<◌, List, length, set, sym, ap}
 use Rattle.std.proofs.lemmas.List.{set-get_or}
 use Rattle.mako_shape.specs.declared.numbers.Numbers.{Numbers}
-use Rattle.mako_shape.specs.Places.{Place, phase, demand, finished, mutator_gate, root, tablet_gate, turn, home, top, leaving, entry, region_word, rank, index, total, Within, word_at}
+use Rattle.mako_shape.specs.Places.{Place, phase, mutator_gate, root, tablet_gate, turn, home, top, leaving, entry, region_word, rank, index, total, Within, word_at}
 use Rattle.mako_shape.proofs.PlaceLaws.{word_same, word_other}
 use Rattle.mako_step.specs.Acts.{words_after}
 use Rattle.mako_step.specs.declared.act.Op.TheVariants.{Load}
-use Rattle.mako_names.specs.Uses.{IsUseSlot, IsNamePlace}
-use Rattle.mako_state.proofs.Onward.{SameTables}
 use Rattle.mako_gate.specs.Changes.{Sets, LeavesGates}
 use Rattle.mako_layout.specs.Frames.{LeavesLayout}
-use Rattle.mako_names.proofs.StepsKept.{leaves_all, leaves_others}
 
 -- a load leaves the words
 pub load_back : (ws : List ℕ) (i : ℕ) → words_after (record { word = i; op = Load }) ws ≡ ws
@@ -21,38 +18,7 @@ pub sets_words : (n : Numbers) (ws : List ℕ) → length ws ≡ total n → (p 
     Sets n (word_at n ws) (word_at n (set ws (index n p) x)) p x
 sets_words n ws size p x h = record { here = word_same n ws p x size h; others = λ q k d. word_other n ws p q x h k d }
 
--- ---- a store at a place that neither the table nor the slots of names read
-pub record IsApart (p : Place) : Type 0 where
-  pub not_phase : rank p ≢ 0
-  pub not_demand : rank p ≢ 1
-  pub not_finished : rank p ≢ 2
-  pub not_home : rank p ≢ 12
-  pub not_entry : rank p ≢ 16
-  pub no_slot : IsUseSlot p → ⊥
-
-no_name : (p : Place) → IsApart p → IsNamePlace p → ⊥
-no_name phase apart is = apart.not_phase refl
-no_name (entry x) apart is = apart.not_entry refl
-no_name p apart is = apart.no_slot is
-
-pub same_tables : (n : Numbers) (ws : List ℕ) → length ws ≡ total n → SameTables n ws ws
-same_tables n ws size = record {
-  leaves = leaves_all n ws size;
-  homes = λ t low. refl;
-  demand = refl;
-  finished = refl;
-}
-
-pub stored_apart : (n : Numbers) (ws : List ℕ) (p : Place) (v : ℕ) → length ws ≡ total n → Within n p → IsApart p →
-    SameTables n ws (set ws (index n p) v)
-stored_apart n ws p v size within apart = record {
-  leaves = leaves_others n ws p v size within (no_name p apart);
-  homes = λ t low. word_other n ws p (home t) v within low (λ e. apart.not_home (sym (ap rank e)));
-  demand = word_other n ws p demand v within tt (λ e. apart.not_demand (sym (ap rank e)));
-  finished = word_other n ws p finished v within tt (λ e. apart.not_finished (sym (ap rank e)));
-}
-
--- and the roots, where the place is none
+-- ---- a store at another place than a root leaves the roots
 pub same_roots : (n : Numbers) (ws : List ℕ) (p : Place) (v : ℕ) → Within n p → rank p ≢ 4 → (m q : ℕ) →
     m < n.mutators → q < n.roots →
     word_at n (set ws (index n p) v) (root m q) ≡ word_at n ws (root m q)

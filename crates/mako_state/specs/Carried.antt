@@ -1,7 +1,8 @@
--- The roots that are decided, and still to be stored.
-use Rattle.std.specs.Prelude.{ℕ, Option, Some, None}
+-- The roots that are decided and still to be stored, and what root words are meanwhile.
+use Rattle.std.specs.Prelude.{◌≡◌, ℕ, Option, Some, None}
 use Rattle.mako_words.specs.declared.value.Value.{Value}
 use Rattle.mako_words.specs.declared.value.Value.TheVariants.{Ref}
+use Rattle.mako_words.specs.Values.{value_word}
 use Rattle.mako_call.specs.declared.object.Get.{Get as GetArgs}
 use Rattle.mako_call.specs.declared.call_stage.CallStage.{CallStage}
 use Rattle.mako_call.specs.declared.call_stage.CallStage.TheVariants.{Arriving, Rooting, Entering, Moving, Getting, Putting, Allocating, Asking, Leaving, Ended}
@@ -49,3 +50,8 @@ task_carried TaskEnded = None
 
 abbrev pub carried_of : Driving → Option Carried
 carried_of d = task_carried d.progress.task
+
+-- a root word is the packed root, but for a root that is still to be stored
+abbrev pub WordStands : Option Carried → ℕ → ℕ → Value → Type 0
+WordStands None q word v = word ≡ value_word v
+WordStands (Some c) q word v = (c.root ≡ q → c.value ≡ v) × ((c.root ≡ q → ⊥) → word ≡ value_word v)

@@ -2,9 +2,7 @@ pub mod Standings
 pub mod Works
 pub mod Says
 pub mod Carried
-pub mod Sought
+pub mod Facets
 pub mod CoreStates
-pub mod Rests
-pub mod Invariants
 pub mod Openings
 pub mod Runs

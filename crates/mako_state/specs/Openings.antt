@@ -8,8 +8,7 @@ use Rattle.mako_shape.specs.Belongings.{opening_home}
 use Rattle.mako_model.specs.Fronts.{opening_front}
 use Rattle.mako_model.specs.Heaps.{board_name}
 use Rattle.mako_script.specs.Programs.{ProgramView}
-use Rattle.mako_script.specs.ScriptFacts.{facts_of}
-use Rattle.mako_script.specs.Scripts.{ScriptView, IsProper}
+use Rattle.mako_script.specs.Scripts.{ScriptView}
 use Rattle.mako_mutator.specs.Drivers as drivers
 use Rattle.mako_mutator.specs.Drivers.{Driving}
 use Rattle.mako_server.specs.Serving as serving
@@ -18,8 +17,6 @@ use Rattle.mako_seat.specs.declared.seat.Seat.{Seat}
 use Rattle.mako_seat.specs.declared.seat.Seat.TheVariants.{Mutator, Server, Collector}
 use Rattle.mako_layout.specs.Openings.{board_entry}
 use Rattle.mako_state.specs.CoreStates.{CoreState}
-use Rattle.mako_script.specs.Forms.{NeedsNoCycle}
-use Rattle.mako_state.specs.Invariants.{WholeInvariant}
 
 -- ---- words
 
@@ -87,7 +84,3 @@ opening_core s = record {
   seats = opening_seats s;
   front = opening_front;
 }
-
-abbrev pub OpeningHolds : Type 0
-OpeningHolds = (s : ScriptView) → IsProper s → NeedsNoCycle (facts_of s)
-    → WholeInvariant s.numbers (facts_of s) (opening_core s)

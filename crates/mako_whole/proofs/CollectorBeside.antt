@@ -18,7 +18,7 @@ use Rattle.mako_server.specs.declared.stage.ServerStage.TheVariants.{Turning, Tr
 use Rattle.mako_pause.specs.Collecting.{Collecting}
 use Rattle.mako_seat.specs.declared.seat.Seat.{Seat}
 use Rattle.mako_seat.specs.declared.seat.Seat.TheVariants.{Mutator, Server, Collector}
-use Rattle.mako_state.specs.Rests.{ended_of}
+use Rattle.mako_state.specs.Facets.{ended_of}
 use Rattle.mako_state.proofs.Seating.{map_kept}
 use Rattle.mako_tracing.specs.ServerFacets.{tracer_laden}
 use Rattle.mako_clearing.specs.ClearingFacets.{server_seat}

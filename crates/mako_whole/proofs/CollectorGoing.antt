@@ -57,7 +57,7 @@ use Rattle.mako_pause.specs.declared.stage.CollectStage.{CollectStage}
 use Rattle.mako_pause.specs.declared.stage.CollectStage.TheVariants.{Idle, Pausing, Forwarding, Barriers, Emptying, Polling, Choosing, Noticing, Ended}
 use Rattle.mako_seat.specs.declared.seat.Seat.{Seat}
 use Rattle.mako_seat.specs.declared.seat.Seat.TheVariants.{Mutator, Server, Collector}
-use Rattle.mako_state.specs.Rests.{task_ended, ended_of}
+use Rattle.mako_state.specs.Facets.{task_ended, ended_of}
 use Rattle.mako_whole.specs.Seats.{LivesFit, CollectorSits, AllSit}
 use Rattle.mako_whole.proofs.CollectorHears.{hearing_keeps_all}
 use Rattle.mako_whole.proofs.CollectorGoingWords.{root_fits, pending_few, top_fits}

@@ -31,8 +31,7 @@ use Rattle.mako_mutator.specs.declared.progress.Task.TheVariants.{Attempting, Aw
 use Rattle.mako_pause.specs.Collecting.{Collecting}
 use Rattle.mako_seat.specs.declared.seat.Seat.{Seat}
 use Rattle.mako_seat.specs.declared.seat.Seat.TheVariants.{Mutator, Server, Collector}
-use Rattle.mako_state.specs.Carried.{stage_carried, task_carried}
-use Rattle.mako_state.specs.Invariants.{WordStands}
+use Rattle.mako_state.specs.Carried.{stage_carried, task_carried, WordStands}
 use Rattle.mako_mutating.specs.MutatorFacets.{task_admission, stage_admission}
 use Rattle.mako_collecting.specs.Facets.{part_of, names_of}
 use Rattle.mako_whole.specs.Seats.{SeatSits, AllSit}

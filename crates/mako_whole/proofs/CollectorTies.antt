@@ -41,8 +41,7 @@ use Rattle.mako_mutator.specs.declared.progress.Task.TheVariants.{Attempting, Aw
 use Rattle.mako_pause.specs.Collecting.{Collecting}
 use Rattle.mako_seat.specs.declared.seat.Seat.{Seat}
 use Rattle.mako_seat.specs.declared.seat.Seat.TheVariants.{Mutator, Server, Collector}
-use Rattle.mako_state.specs.Carried.{stage_carried, task_carried}
-use Rattle.mako_state.specs.Invariants.{WordStands}
+use Rattle.mako_state.specs.Carried.{stage_carried, task_carried, WordStands}
 use Rattle.mako_mutating.specs.MutatorFacets.{storing_in, put_trace, stage_trace, task_trace, task_admission, stage_admission, stage_held, task_held, held_of, trace_of}
 use Rattle.mako_tracing.specs.ServerFacets.{server_trace, server_phase}
 use Rattle.mako_tracing.proofs.Resting.{unladen_rest}

@@ -28,7 +28,7 @@ use Rattle.mako_mutator.specs.Drivers.{Driving, TaskIsKnown}
 use Rattle.mako_joint.specs.Joints.{JointScene}
 use Rattle.mako_seat.specs.declared.seat.Seat.{Seat}
 use Rattle.mako_seat.specs.declared.seat.Seat.TheVariants.{Mutator}
-use Rattle.mako_state.specs.Rests.{task_ended, ended_of}
+use Rattle.mako_state.specs.Facets.{task_ended, ended_of}
 use Rattle.mako_mutating.specs.Mutators.{found_by, stepped}
 use Rattle.mako_mutating.specs.MutatorFacets.{stage_admission, task_admission}
 use Rattle.mako_writes.specs.Writes.{LeavesOthers}

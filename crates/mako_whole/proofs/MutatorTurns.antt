@@ -22,7 +22,7 @@ use Rattle.mako_mutator.specs.Drivers.{Driving, TaskIsKnown}
 use Rattle.mako_joint.specs.Joints.{JointScene}
 use Rattle.mako_seat.specs.declared.seat.Seat.{Seat}
 use Rattle.mako_seat.specs.declared.seat.Seat.TheVariants.{Mutator, Server, Collector}
-use Rattle.mako_state.specs.Rests.{task_ended, ended_of}
+use Rattle.mako_state.specs.Facets.{task_ended, ended_of}
 use Rattle.mako_mutating.specs.Laws.{IsOfACall}
 use Rattle.mako_mutating.specs.Mutators.{found_by, stepped, IsAttempting}
 use Rattle.mako_mutating.proofs.MoveSteps.{attempts_keep, attempts_can_go}

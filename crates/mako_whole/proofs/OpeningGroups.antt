@@ -30,7 +30,7 @@ use Rattle.mako_phases.specs.Orders.{AreSeated}
 use Rattle.mako_phases.specs.Reaching.{IsOpeningFacet, IsRootOrEntry, IsPhaseOpening}
 use Rattle.mako_phases.specs.Steps.{IsPhaseWord}
 use Rattle.mako_seat.specs.declared.seat.Seat.{Seat}
-use Rattle.mako_state.specs.Invariants.{gate_facet}
+use Rattle.mako_state.specs.Facets.{gate_facet}
 use Rattle.mako_state.proofs.Openings.{in_range, workload, programs_fit, board_in_range, phase_is, first, word_zero, others, slots, programs_left, gates_same, works_same}
 use Rattle.mako_state.proofs.OpeningSeats.{IsOpeningSeat, of_mutator, of_server, of_collector, gate_is}
 use Rattle.mako_state.proofs.Seating.{map_at}

@@ -37,7 +37,7 @@ use Rattle.mako_pause.proofs.Openings.{roles_count}
 use Rattle.mako_cycles.proofs.Roles.{opening_at}
 use Rattle.mako_seat.specs.declared.seat.Seat.{Seat}
 use Rattle.mako_seat.specs.declared.seat.Seat.TheVariants.{Mutator, Server, Collector}
-use Rattle.mako_state.specs.Invariants.{gate_facet, work_facet, left_facet}
+use Rattle.mako_state.specs.Facets.{gate_facet, work_facet, left_facet}
 use Rattle.mako_state.specs.Openings.{words_at_start, opening_driver, opening_seats}
 use Rattle.mako_state.proofs.OpeningWords.{start_size, start_words}
 use Rattle.mako_state.proofs.Openings.{in_range, program_at, phase_is, ended_none}

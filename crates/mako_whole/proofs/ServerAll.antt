@@ -13,7 +13,7 @@ use Rattle.mako_joint.specs.Joints.{JointScene, Joint}
 use Rattle.mako_server.specs.Serving.{Serving}
 use Rattle.mako_seat.specs.declared.seat.Seat.{Seat}
 use Rattle.mako_seat.specs.declared.seat.Seat.TheVariants.{Mutator, Server, Collector}
-use Rattle.mako_state.specs.Rests.{ended_of}
+use Rattle.mako_state.specs.Facets.{ended_of}
 use Rattle.mako_tracing.specs.ServerFacets.{server_live}
 use Rattle.mako_tracing.specs.ServerKeeps.{SlotsBelong, FieldsAreFew}
 use Rattle.mako_whole.specs.Seats.{SeatSits, ServerSits, LivesFit, live_facet, AllSit}

@@ -16,7 +16,7 @@ use Rattle.mako_server.specs.Serving as servers
 use Rattle.mako_pause.specs.Opening as collectors
 use Rattle.mako_seat.specs.declared.seat.Seat.{Seat}
 use Rattle.mako_seat.specs.declared.seat.Seat.TheVariants.{Mutator, Server, Collector}
-use Rattle.mako_state.specs.Invariants.{gate_facet, work_facet, left_facet}
+use Rattle.mako_state.specs.Facets.{gate_facet, work_facet, left_facet}
 use Rattle.mako_state.specs.Openings.{words_at_start, opening_seats}
 use Rattle.mako_joint.specs.Joints.{JointFacets, JointScene}
 use Rattle.mako_mutating.specs.MutatorFacets.{held_of, trying_of, trace_of, task_admission}

@@ -35,7 +35,7 @@ use Rattle.mako_pause.specs.declared.stage.CollectStage.{CollectStage}
 use Rattle.mako_pause.specs.declared.stage.CollectStage.TheVariants.{Idle as CollectIdle, Pausing, Forwarding, Barriers, Emptying, Polling, Choosing, Noticing, Ended as CollectEnded}
 use Rattle.mako_seat.specs.declared.seat.Seat.{Seat}
 use Rattle.mako_seat.specs.declared.seat.Seat.TheVariants.{Mutator, Server, Collector}
-use Rattle.mako_state.specs.Rests.{ended_of}
+use Rattle.mako_state.specs.Facets.{ended_of}
 use Rattle.mako_mutating.specs.Mutators.{IsSeen, view_of, MutatorKeeps}
 use Rattle.mako_making.specs.Makings.{TaskSearches}
 use Rattle.mako_tracing.specs.ServerFacets.{IsServerSeat, server_live, tracer_laden}

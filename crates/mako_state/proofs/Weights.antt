@@ -1,12 +1,10 @@
--- A script for whose objects one tablet has room finds no tablet full.
+-- The calls that made objects weigh no more than those of all programs: no more names are made than programs have
+-- calls for.
 use mathlib.Core.List.{IsPrefix}
-use Rattle.std.proofs.Common.{◌≡◌, ℕ, zero, suc, ◌+◌, ◌-◌, ◌*◌, ◌/◌, ◌<◌, ◌≤◌, ◌==◌, ⊎_elim, Bool, true, false, cond, ltb, List, [], ◌∷◌, ◌++◌, length, flat_map, slice_get, Some, sum_by, count_by, sym, ap, subst, refl, ◌∙◌, arith, eq-eqb, ne_eqb, length-append, length-set}
+use Rattle.std.proofs.Common.{◌≡◌, ℕ, zero, suc, ◌+◌, ◌<◌, ◌≤◌, ⊎_elim, Bool, cond, ltb, List, [], ◌∷◌, length, flat_map, slice_get, Some, sum_by, sym, ap, subst, refl, ◌∙◌, arith, eq-eqb, ne_eqb, length-append, length-set}
 use Rattle.std.proofs.lemmas.Bool.{cases_eq, cases_lt, lt-ltb, le-ltb}
-use Rattle.std.proofs.lemmas.Bool.Decides.{nat_tests}
-use Rattle.std.proofs.lemmas.List.{length-replicate}
-use Rattle.std.proofs.lemmas.List.Sums.{sum_by-cons, sum_by-append, count_by-le-length}
-use Rattle.std.proofs.lemmas.Nat.{div-mul-add}
-use Rattle.std.proofs.lemmas.Option.{same_Some, none-some}
+use Rattle.std.proofs.lemmas.List.Sums.{sum_by-cons, sum_by-append}
+use Rattle.std.proofs.lemmas.Option.{none-some}
 use Rattle.mako_words.specs.declared.name.Name.{Name}
 use Rattle.mako_words.specs.declared.value.Value.{Value}
 use Rattle.mako_model.specs.declared.call.Call.{Call}
@@ -15,24 +13,16 @@ use Rattle.mako_model.specs.declared.reply.Reply.{Reply}
 use Rattle.mako_model.specs.declared.reply.Reply.TheVariants.{Made}
 use Rattle.mako_model.specs.declared.point.Point.{Point}
 use Rattle.mako_model.specs.declared.point.Point.TheVariants.{Did, Snap}
-use Rattle.mako_model.specs.Fronts.{Seen, calls_by, FollowsPrograms}
-use Rattle.mako_model.specs.Heaps.{Heap, opening_roots}
+use Rattle.mako_model.specs.Fronts.{calls_by}
+use Rattle.mako_model.specs.Heaps.{Heap}
 use Rattle.mako_model.specs.Lawful.{HasRoot, IsLawful, heap_after}
-use Rattle.mako_model.specs.Legal.{Facts, opening_of, AreLawful, IsLegal}
-use Rattle.mako_model.specs.Dead.{made_by, names_made}
-use Rattle.mako_model.specs.LawfulFronts.{IsLawfulFront}
-use Rattle.mako_model.specs.Starved.{words_by, IsEntryUnavailable, IsTabletFull}
+use Rattle.mako_model.specs.Legal.{AreLawful}
+use Rattle.mako_model.specs.Dead.{made_by}
 use Rattle.mako_model.proofs.Changes.{Change, Nothing, Snapped, Rooted, Written, New, change_of}
 use Rattle.mako_model.proofs.Lists.{cell}
-use Rattle.mako_names.specs.Counts.{one_of, made_of}
-use Rattle.mako_names.proofs.Counts.{names_in_order}
-use Rattle.mako_script.specs.Forms.{is_new, record_words, all_calls, HasAmpleRoom}
+use Rattle.mako_pause.specs.Opening.{is_new}
 
 -- ---- the calls that made objects, each with its weight
-
-cond_le : (b : Bool) (x : ℕ) → cond b x 0 ≤ x
-cond_le true x = omega arith
-cond_le false x = omega arith
 
 -- the weight of the call, if it made an object for the mutator with that number or for one after it
 abbrev pub weight_at : (Call → ℕ) → ℕ → Point → ℕ
@@ -130,30 +120,6 @@ all_mutators weight first end (p ∷ programs) points follows is =
     let le = prefix_le weight (calls_by first points) p (follows 0 first p (omega arith) refl) in
     let all = all_programs weight p programs in omega arith
 
--- nor do they with a mutator's next call, which has no answer yet
-and_next : (weight : Call → ℕ) (first end : ℕ) (programs : List (List Call)) (i m : ℕ) (points : List Point)
-    (calls left : List Call) (c : Call) → FollowsFrom first programs points → end ≡ first + length programs
-    → m ≡ first + i → slice_get programs i ≡ Some calls → calls ≡ calls_by m points ++ c ∷ left
-    → weights weight first points + weight c
-    ≤ sum_by weight (flat_map (λ calls. calls) programs) + weights weight end points
-and_next weight first end [] i m points calls left c follows is_end is at next = absurd (none-some calls at)
-and_next weight first end (p ∷ programs) zero m points calls left c follows is_end is at next =
-    let rest = all_mutators weight (first + 1) end programs points
-    (follows_rest first p programs points follows) (omega arith) in
-    let one = one_mutator weight first points in
-    let own : sum_by weight (calls_by m points) ≡ sum_by weight (calls_by first points) =
-    ap (λ z. sum_by weight (calls_by z points)) (let d : m ≡ first = omega arith in d) in
-    let sum : sum_by weight p ≡ sum_by weight (calls_by m points) + sum_by weight (c ∷ left) =
-    ap (sum_by weight) (same_Some p calls at ∙ next) ∙ sum_by-append weight (calls_by m points) (c ∷ left) in
-    let cons = sum_by-cons weight c left in
-    let all = all_programs weight p programs in omega arith
-and_next weight first end (p ∷ programs) (suc i) m points calls left c follows is_end is at next =
-    let rest = and_next weight (first + 1) end programs i m points calls left c
-    (follows_rest first p programs points follows) (omega arith) (omega arith) at next in
-    let one = one_mutator weight first points in
-    let le = prefix_le weight (calls_by first points) p (follows 0 first p (omega arith) refl) in
-    let all = all_programs weight p programs in omega arith
-
 -- ---- an object is made by a `new` of a mutator that has a program
 
 rows_kept : (h after : Heap) (made : List Name) → Change h after made → length after.roots ≡ length h.roots
@@ -190,33 +156,6 @@ none_from weight end h (p ∷ points) all rows =
     (rows_kept h (heap_after h p) (made_by p) (change_of h p all.0) ∙ rows) in
     let here = none_at weight end h p all.0 rows in omega arith
 
--- so all objects that were made, and the next, weigh no more than the calls of the programs
-within_programs : (weight : Call → ℕ) (w : Facts) (points : List Point) (m : ℕ) (calls left : List Call) (c : Call)
-    → IsLegal w points → FollowsPrograms w.programs points → slice_get w.programs m ≡ Some calls
-    → calls ≡ calls_by m points ++ c ∷ left → weights weight 0 points + weight c ≤ sum_by weight (all_calls w)
-within_programs weight w points m calls left c legal follows at next =
-    let from : FollowsFrom 0 w.programs points = λ i n program e is.
-    subst (λ z. IsPrefix (calls_by z points) program) (let d : i ≡ n = omega arith in d) (follows i program is) in
-    let all = and_next weight 0 (length w.programs) w.programs m m points calls left c
-    from (omega arith) (omega arith) at next in
-    let none = none_from weight (length w.programs) (opening_of w) points legal
-    (length-replicate (length w.programs) (opening_roots w.roots)) in omega arith
-
--- ---- words
-
-words_at : (w : Facts) (t : ℕ) (p : Point) → words_by w t p ≤ weight_at record_words 0 p
-words_at w t (Did m (call.New root fields) (Made name)) =
-    let e = weight_there record_words 0 m (call.New root fields) name (omega arith) in
-    let le = cond_le (name.entry / w.entries == t) (fields + 1) in omega arith
-words_at w t p = omega arith
-
-words_few : (w : Facts) (t : ℕ) (points : List Point) → sum_by (words_by w t) points ≤ weights record_words 0 points
-words_few w t [] = omega arith
-words_few w t (p ∷ points) =
-    let rest = words_few w t points in
-    let here = words_at w t p in
-    let sum = sum_by-cons (words_by w t) p points in omega arith
-
 -- ---- names
 
 -- 1 for a call that makes an object
@@ -237,74 +176,3 @@ made_few h (p ∷ points) all =
     let rest = made_few (heap_after h p) points all.1 in
     let here = made_at h p all.0 in
     let sum = length-append (made_by p) (flat_map made_by points) in omega arith
-
--- how many of the names have an entry below that
-abbrev names_below : ℕ → List Name → ℕ
-names_below entry names = count_by (λ (name : Name). ltb name.entry entry) names
-
-one_below : (entry : ℕ) (name : Name)
-    → cond (ltb name.entry (entry + 1)) 1 0 ≡ cond (ltb name.entry entry) 1 0 + one_of entry name
-one_below entry name = grind (arith, nat_tests)
-
-next_below : (entry : ℕ) (names : List Name)
-    → names_below (entry + 1) names ≡ names_below entry names + sum_by (one_of entry) names
-next_below entry [] = refl
-next_below entry (name ∷ names) =
-    let rest = next_below entry names in
-    let here = one_below entry name in
-    let more = sum_by-cons (λ (n : Name). cond (ltb n.entry (entry + 1)) 1 0) name names in
-    let less = sum_by-cons (λ (n : Name). cond (ltb n.entry entry) 1 0) name names in
-    let one = sum_by-cons (one_of entry) name names in omega arith
-
--- where each entry of a range has a name, there are as many names
-covered : (names : List Name) (start count end : ℕ) → end ≡ start + count
-    → ((x : ℕ) → start ≤ x → x < end → 1 ≤ sum_by (one_of x) names) → count ≤ names_below end names
-covered names start zero end is all = omega arith
-covered names start (suc count) end is all =
-    let rest = covered names start count (start + count) refl (λ x low high. all x low (omega arith)) in
-    let last = all (start + count) (omega arith) (omega arith) in
-    let next = next_below (start + count) names in
-    let same : names_below end names ≡ names_below (start + count + 1) names =
-    ap (λ z. names_below z names) (let d : end ≡ start + count + 1 = omega arith in d) in omega arith
-
-in_tablet : (x entries t start : ℕ) → start ≡ t * entries → start ≤ x → x < start + entries → x / entries ≡ t
-in_tablet x entries t start is low high =
-    let d : x ≡ t * entries + (x - start) = omega arith in
-    ap (λ (z : ℕ). z / entries) d ∙ div-mul-add t entries (x - start) (omega arith)
-
-taken_made : (w : Facts) (front : Seen) (x : ℕ) → IsLawfulFront w front
-    → IsEntryUnavailable w front front.history 0 x → 1 ≤ sum_by (one_of x) (names_made front.history)
-unfolding made_of
-taken_made w front x lawful taken =
-    ⊎_elim (λ u. let l = (names_in_order w front lawful x u.0).0 u.1 in omega arith)
-    (λ u. let l = (names_in_order w front lawful x (w.generations - 1)).0 u in omega arith) taken
-
--- a tablet whose entries all have names has no more of them than were made
-tablet_few : (w : Facts) (front : Seen) (t : ℕ) → IsLawfulFront w front
-    → ((entry : ℕ) → entry / w.entries ≡ t → IsEntryUnavailable w front front.history 0 entry)
-    → w.entries ≤ length (names_made front.history)
-tablet_few w front t lawful all =
-    let names = names_made front.history in
-    let start = t * w.entries in
-    let few = covered names start w.entries (start + w.entries) refl
-    (λ x low high. taken_made w front x lawful (all x (in_tablet x w.entries t start refl low high))) in
-    let le = count_by-le-length (λ (name : Name). ltb name.entry (start + w.entries)) names in omega arith
-
--- ---- no tablet is full
-
-pub ample : (w : Facts) (front : Seen) (m q f : ℕ) (calls left : List Call) → HasAmpleRoom w → IsLawfulFront w front
-    → FollowsPrograms w.programs front.history → slice_get w.programs m ≡ Some calls
-    → calls ≡ calls_by m front.history ++ call.New q f ∷ left
-    → (t : ℕ) → IsTabletFull w front front.history 0 f t → ⊥
-ample w front m q f calls left room lawful follows at next t full =
-    ⊎_elim
-    (λ all. let few = tablet_few w front t lawful all in
-    let made = made_few (opening_of w) front.history lawful.legal in
-    let within =
-    within_programs one_new w front.history m calls left (call.New q f) lawful.legal follows at next in
-    let entries = room.entries in omega arith)
-    (λ less. let few = words_few w t front.history in
-    let board = cond_le (t == 0) (w.board + 1) in
-    let within =
-    within_programs record_words w front.history m calls left (call.New q f) lawful.legal follows at next in
-    let words = room.words in omega arith) full
