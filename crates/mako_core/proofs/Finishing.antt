@@ -1,12 +1,12 @@
 -- What the seats have at the end of a run.
-use Rattle.std.proofs.Common.{◌≡◌, ℕ, zero, suc, ◌+◌, ◌-◌, ◌<◌, ◌≤◌, Bool, true, false, List, [], ◌∷◌, ◌++◌, length, take, slice_get, Some, sym, ap, subst, refl, ◌∙◌, arith}
+use Rattle.std.proofs.Common.{◌≡◌, ℕ, zero, suc, ◌+◌, ◌-◌, ◌<◌, ◌≤◌, Bool, true, false, List, [], ◌∷◌, ◌++◌, length, take, slice_get, Some, sym, ap, refl, ◌∙◌, arith}
 use Rattle.std.proofs.lemmas.Option.{none-some}
 use Rattle.mako_shape.specs.declared.numbers.Numbers.{Numbers}
 use Rattle.mako_model.specs.Answering.{Answers, AnswersToEnd}
 use Rattle.mako_model.specs.Fronts.{replies_to}
 use Rattle.mako_model.specs.Legal.{Facts}
 use Rattle.mako_model.specs.declared.reply.Reply.{Reply}
-use Rattle.mako_mutator.specs.Drivers.{Driving, place_by}
+use Rattle.mako_mutator.specs.Drivers.{place_by}
 use Rattle.mako_mutator.specs.declared.place.Place.TheVariants.{Ended as PlaceEnded}
 use Rattle.mako_mutator.specs.declared.progress.Task.{Task}
 use Rattle.mako_mutator.specs.declared.progress.Task.TheVariants.{Attempting, Awaiting, Finishing, Ended}

@@ -1,32 +1,27 @@
 -- How long histories are: a point for each call at most, and one for each snapshot.
 use mathlib.Core.List.{IsPrefix}
-use Rattle.std.proofs.Common.{◌≡◌, ℕ, zero, suc, ◌+◌, ◌<◌, ◌≤◌, ⊎_elim, Bool, cond, ltb, List, [], ◌∷◌, ◌++◌, length, map, slice_get, Some, sum_by, sym, ap, subst, refl, ◌∙◌, arith, eq-eqb, ne_eqb, length-append, length-set}
+use Rattle.std.proofs.Common.{◌≡◌, ℕ, suc, ◌+◌, ◌<◌, ◌≤◌, ⊎_elim, Bool, cond, ltb, List, [], ◌∷◌, ◌++◌, length, map, sum_by, sym, ap, subst, refl, ◌∙◌, arith, length-append}
 use Rattle.std.specs.List.{fold}
 use Rattle.std.proofs.lemmas.Bool.{cases_eq, cases_lt, lt-ltb, le-ltb}
 use Rattle.std.proofs.lemmas.List.{length-replicate}
 use Rattle.std.proofs.lemmas.List.Sums.{sum_by-cons}
-use Rattle.std.proofs.lemmas.Option.{none-some}
-use Rattle.mako_words.specs.declared.name.Name.{Name}
-use Rattle.mako_words.specs.declared.value.Value.{Value}
 use Rattle.mako_model.specs.declared.call.Call.{Call}
-use Rattle.mako_model.specs.declared.call.Call.TheVariants as call
 use Rattle.mako_model.specs.declared.reply.Reply.{Reply}
-use Rattle.mako_model.specs.declared.reply.Reply.TheVariants as reply
 use Rattle.mako_model.specs.declared.point.Point.{Point}
 use Rattle.mako_model.specs.declared.point.Point.TheVariants.{Did, Snap}
 use Rattle.mako_model.specs.Answering.{Answers}
 use Rattle.mako_model.specs.Dead.{made_by}
 use Rattle.mako_model.specs.Fronts.{Seen, calls_by}
 use Rattle.mako_model.specs.Heaps.{Heap, opening_roots}
-use Rattle.mako_model.specs.Lawful.{IsLawful, IsLawfulReply, heap_after}
-use Rattle.mako_model.specs.Legal.{opening_of, AreLawful, state_of}
-use Rattle.mako_model.proofs.Changes.{Change, Nothing, Snapped, Rooted, Written, New, change_of}
+use Rattle.mako_model.specs.Lawful.{IsLawful, heap_after}
+use Rattle.mako_model.specs.Legal.{opening_of, AreLawful}
+use Rattle.mako_model.proofs.Changes.{change_of}
 use Rattle.mako_model.proofs.CycleCounts.{few_snaps}
 use Rattle.mako_model.proofs.DeadApart.{snaps_replied}
-use Rattle.mako_model.proofs.Lists.{cell}
 use Rattle.mako_script.specs.Programs.{ProgramView}
 use Rattle.mako_script.specs.ScriptFacts.{facts_of}
 use Rattle.mako_script.specs.Scripts.{ScriptView, command_count}
+use Rattle.mako_state.proofs.Answered.{FollowsFrom, other_calls, own_calls, reply_within, rows_kept}
 
 -- ---- answers and snapshots
 
@@ -66,14 +61,6 @@ each_is_one (Snap cycle ∷ points) =
 
 -- ---- answers are of programs
 
-own_calls : (m n : ℕ) (c : Call) (r : Reply) (points : List Point) → n ≡ m
-    → calls_by m (Did n c r ∷ points) ≡ c ∷ calls_by m points
-own_calls m n c r points e = let is = eq-eqb n m e in rw is refl
-
-other_calls : (m n : ℕ) (c : Call) (r : Reply) (points : List Point) → (n ≡ m → ⊥)
-    → calls_by m (Did n c r ∷ points) ≡ calls_by m points
-other_calls m n c r points other = let is = ne_eqb n m other in rw is refl
-
 answer_of_other : (m n : ℕ) (c : Call) (r : Reply) → (n ≡ m → ⊥)
     → answer_at m (Did n c r) ≡ answer_at (m + 1) (Did n c r)
 answer_of_other m n c r other =
@@ -102,11 +89,6 @@ one_mutator m (Did n c r ∷ points) =
     (λ other. let calls = ap length (other_calls m n c r points other) in
     let same = answer_of_other m n c r other in omega arith) (cases_eq n m)
 
--- the calls of the mutators from that one on are prefixes of the programs
-abbrev FollowsFrom : ℕ → List (List Call) → List Point → Type 0
-FollowsFrom first programs points = (i m : ℕ) (program : List Call) → m ≡ first + i
-    → slice_get programs i ≡ Some program → IsPrefix (calls_by m points) program
-
 prefix_short : (calls program : List Call) → IsPrefix calls program → length calls ≤ length program
 prefix_short calls program t =
     let e : length (calls ++ t.0) ≡ length program = ap length t.1 in
@@ -129,37 +111,6 @@ all_mutators first end (p ∷ programs) points follows is =
     let all = sum_by-cons (λ (calls : List Call). length calls) p programs in omega arith
 
 -- ---- no other mutator is answered
-
-rows_kept : (h after : Heap) (made : List Name) → Change h after made → length after.roots ≡ length h.roots
-rows_kept h after made (Nothing e none) = ap (λ (s : Heap). length s.roots) e
-rows_kept h after made (Snapped e none) = ap (λ (s : Heap). length s.roots) e
-rows_kept h after made (Rooted m q v root hand e none) =
-    subst (λ (s : Heap). length s.roots ≡ length h.roots) (sym e) (length-set h.roots m _)
-rows_kept h after made (Written m q name fields i v refers hand e none) = ap (λ (s : Heap). length s.roots) e
-rows_kept h after made (New m q name fields root fresh e one) =
-    subst (λ (s : Heap). length s.roots ≡ length h.roots) (sym e) (length-set h.roots m _)
-
-row_within : (rows : List (List Value)) (m q : ℕ) (v : Value) → cell rows m q ≡ Some v → m < length rows
-row_within [] m q v e = absurd (none-some v e)
-row_within (row ∷ rows) zero q v e = omega arith
-row_within (row ∷ rows) (suc m) q v e = let l = row_within rows m q v e in omega arith
-
-reply_within : (h : Heap) (m : ℕ) (c : Call) (r : Reply) → IsLawfulReply h m c r → m < length h.roots
-reply_within h m (call.New root fields) (reply.Made name) l = row_within h.roots m root l.0.0 l.0.1
-reply_within h m (call.New root fields) reply.Full l = row_within h.roots m root l.0 l.1
-reply_within h m (call.Num root x) (reply.Value v) l = row_within h.roots m root l.0.0 l.0.1
-reply_within h m (call.CopyRoot to from) (reply.Value v) l = row_within h.roots m to l.0.0 l.0.1
-reply_within h m (call.DropRoot root) reply.Done l = row_within h.roots m root l.0 l.1
-reply_within h m (call.Show root) (reply.Value v) l = row_within h.roots m root v l
-reply_within h m (call.Get to from field) (reply.Value v) l = row_within h.roots m to l.0.0 l.0.1
-reply_within h m (call.Put to field from) reply.Done l = row_within h.roots m from l.0.0 l.0.1
-reply_within h m (call.Get to from field) reply.NoRef l = row_within h.roots m to l.0.0 l.0.1
-reply_within h m (call.Put to field from) reply.NoRef l = row_within h.roots m from l.0.0 l.0.1
-reply_within h m (call.Get to from field) reply.NoField l = row_within h.roots m to l.0.0 l.0.1
-reply_within h m (call.Put to field from) reply.NoField l = row_within h.roots m from l.0.0 l.0.1
-reply_within h m call.Collect (reply.Cycle k) l = l.0
-reply_within h m call.Collect reply.Spent l = l.0
-reply_within h m c r l = absurd l
 
 none_at : (end : ℕ) (h : Heap) (p : Point) → IsLawful h p → length h.roots ≡ end → answer_at end p ≡ 0
 none_at end h (Did m c r) lawful rows =

@@ -21,6 +21,7 @@ use Rattle.mako_model.specs.Dead.{made_by}
 use Rattle.mako_model.proofs.Changes.{Change, Nothing, Snapped, Rooted, Written, New, change_of}
 use Rattle.mako_model.proofs.Lists.{cell}
 use Rattle.mako_pause.specs.Opening.{is_new}
+use Rattle.mako_state.proofs.Answered.{FollowsFrom, other_calls, own_calls, row_within, rows_kept}
 
 -- ---- the calls that made objects, each with its weight
 
@@ -60,14 +61,6 @@ weight_other weight first m c (Made name) other =
     ∙ sym (weight_there weight (first + 1) m c name (next_after first m other l))) (cases_lt m first)
 weight_other weight first m c r other = refl
 
-own_calls : (m n : ℕ) (c : Call) (r : Reply) (points : List Point) → n ≡ m
-    → calls_by m (Did n c r ∷ points) ≡ c ∷ calls_by m points
-own_calls m n c r points e = let is = eq-eqb n m e in rw is refl
-
-other_calls : (m n : ℕ) (c : Call) (r : Reply) (points : List Point) → (n ≡ m → ⊥)
-    → calls_by m (Did n c r ∷ points) ≡ calls_by m points
-other_calls m n c r points other = let is = ne_eqb n m other in rw is refl
-
 -- those of one mutator weigh no more than all of its answered calls
 one_mutator : (weight : Call → ℕ) (m : ℕ) (points : List Point)
     → weights weight m points ≤ sum_by weight (calls_by m points) + weights weight (m + 1) points
@@ -90,11 +83,6 @@ prefix_le : (weight : Call → ℕ) (calls program : List Call) → IsPrefix cal
 prefix_le weight calls program t =
     let e : sum_by weight program ≡ sum_by weight calls + sum_by weight t.0 =
     ap (sum_by weight) (sym t.1) ∙ sum_by-append weight calls t.0 in omega arith
-
--- the calls of the mutators from that one on are prefixes of the programs
-abbrev pub FollowsFrom : ℕ → List (List Call) → List Point → Type 0
-FollowsFrom first programs points = (i m : ℕ) (program : List Call) → m ≡ first + i
-    → slice_get programs i ≡ Some program → IsPrefix (calls_by m points) program
 
 follows_rest : (first : ℕ) (p : List Call) (programs : List (List Call)) (points : List Point)
     → FollowsFrom first (p ∷ programs) points → FollowsFrom (first + 1) programs points
@@ -121,20 +109,6 @@ all_mutators weight first end (p ∷ programs) points follows is =
     let all = all_programs weight p programs in omega arith
 
 -- ---- an object is made by a `new` of a mutator that has a program
-
-rows_kept : (h after : Heap) (made : List Name) → Change h after made → length after.roots ≡ length h.roots
-rows_kept h after made (Nothing e none) = ap (λ (s : Heap). length s.roots) e
-rows_kept h after made (Snapped e none) = ap (λ (s : Heap). length s.roots) e
-rows_kept h after made (Rooted m q v root hand e none) =
-    subst (λ (s : Heap). length s.roots ≡ length h.roots) (sym e) (length-set h.roots m _)
-rows_kept h after made (Written m q name fields i v refers hand e none) = ap (λ (s : Heap). length s.roots) e
-rows_kept h after made (New m q name fields root fresh e one) =
-    subst (λ (s : Heap). length s.roots ≡ length h.roots) (sym e) (length-set h.roots m _)
-
-row_within : (rows : List (List Value)) (m q : ℕ) (v : Value) → cell rows m q ≡ Some v → m < length rows
-row_within [] m q v e = absurd (none-some v e)
-row_within (row ∷ rows) zero q v e = omega arith
-row_within (row ∷ rows) (suc m) q v e = let l = row_within rows m q v e in omega arith
 
 lawful_new : (h : Heap) (m : ℕ) (c : Call) (name : Name) → IsLawful h (Did m c (Made name))
     → (root : ℕ) × (fields : ℕ) × (c ≡ call.New root fields) × (HasRoot h m root)

@@ -1,5 +1,5 @@
 -- Where all seats stand, each seat can make its step, and all stand after it.
-use Rattle.std.proofs.Common.{◌≡◌, ℕ, slice_get, Some, subst, refl}
+use Rattle.std.proofs.Common.{◌≡◌, ℕ, slice_get, Some, refl}
 use Rattle.mako_shape.specs.declared.numbers.Numbers.{Numbers}
 use Rattle.mako_step.specs.Machines.{CanStep, IsAct}
 use Rattle.mako_step.specs.declared.step.Step.{Step}
@@ -7,8 +7,6 @@ use Rattle.mako_step.specs.declared.step.Step.TheVariants.{Do, Ended as NoStep}
 use Rattle.mako_model.specs.Legal.{Facts}
 use Rattle.mako_server.specs.Serving as serving
 use Rattle.mako_server.specs.Serving.{Serving}
-use Rattle.mako_seat.specs.Seats.{next_of, Fits}
-use Rattle.mako_seat.specs.declared.seat.Seat.{Seat}
 use Rattle.mako_seat.specs.declared.seat.Seat.TheVariants.{Mutator, Server, Collector}
 use Rattle.mako_state.specs.CoreStates.{CoreState}
 use Rattle.mako_whole.specs.AllRuns.{scene_in}

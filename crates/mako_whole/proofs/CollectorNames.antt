@@ -10,7 +10,8 @@ use Rattle.mako_model.specs.declared.point.Point.{Point}
 use Rattle.mako_model.specs.Fronts.{calls_by}
 use Rattle.mako_model.specs.Heaps.{opening_roots}
 use Rattle.mako_model.specs.Legal.{Facts, opening_of}
-use Rattle.mako_state.proofs.Weights.{FollowsFrom, one_new, all_programs, all_mutators, none_from, made_few}
+use Rattle.mako_state.proofs.Answered.{FollowsFrom}
+use Rattle.mako_state.proofs.Weights.{one_new, all_programs, all_mutators, none_from, made_few}
 use Rattle.mako_joint.specs.Joints.{JointScene, Joint}
 use Rattle.mako_pause.specs.Opening.{is_new}
 use Rattle.mako_model.specs.Dead.{names_made}
