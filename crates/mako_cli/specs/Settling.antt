@@ -19,13 +19,15 @@ use Rattle.mako_script.specs.ScriptFacts.{facts_of}
 use Rattle.mako_gen.specs.Workloads.{IsWorkload}
 use Rattle.mako_replay.specs.Runs.{Going, after}
 use Rattle.mako_replay.specs.declared.order.Order.{Order}
+use Rattle.mako_replay.specs.declared.order.Order.TheVariants.{Seed}
 use Rattle.mako_command.specs.CommandLines.{Says, SayNothing}
 use Rattle.mako_cli.specs.Counts.{handled_text}
+use Rattle.mako_cli.specs.Loads.{AreOfMutators, summary_text}
 use Rattle.mako_command.specs.declared.line.CommandLine.{CommandLine}
-use Rattle.mako_command.specs.declared.line.CommandLine.TheVariants.{Replay, Gen, Count}
+use Rattle.mako_command.specs.declared.line.CommandLine.TheVariants.{Replay, Gen, Count, Load}
 use Rattle.mako_cli.specs.declared.ended.Ended.{Ended}
 use Rattle.mako_cli.specs.declared.settled.Settled.{Settled}
-use Rattle.mako_cli.specs.declared.settled.Settled.TheVariants.{Replayed, Generated, Counted, Usage, NoScript, ReadFault, Memory}
+use Rattle.mako_cli.specs.declared.settled.Settled.TheVariants.{Replayed, Generated, Counted, Loaded, Usage, NoScript, ReadFault, Memory}
 
 -- the greatest number of bytes of a script
 abbrev pub max_bytes : ℕ
@@ -41,6 +43,7 @@ abbrev pub status_of : Settled → ℕ
 status_of (Replayed script replayed) = replay_status replayed.finished
 status_of (Generated text) = 0
 status_of (Counted pieces) = 0
+status_of (Loaded number replayed) = replay_status replayed.finished
 status_of Usage = 1
 status_of (NoScript kind line) = 2
 status_of ReadFault = 3
@@ -51,6 +54,7 @@ abbrev pub text_of : Settled → List ℕ
 text_of (Replayed script replayed) = output_text (length script.programs) replayed.outcome.front replayed.finished
 text_of (Generated text) = text.items
 text_of (Counted pieces) = handled_text pieces
+text_of (Loaded number replayed) = summary_text number replayed.outcome.front replayed.finished
 text_of Usage = codes "usage\n"
 text_of (NoScript kind line) = fault_text kind line
 text_of ReadFault = codes "read fault\n"
@@ -61,6 +65,7 @@ abbrev pub front_of : Settled → Seen
 front_of (Replayed script replayed) = replayed.outcome.front
 front_of (Generated text) = record { history = []; finished = [] }
 front_of (Counted pieces) = record { history = []; finished = [] }
+front_of (Loaded number replayed) = replayed.outcome.front
 front_of Usage = record { history = []; finished = [] }
 front_of (NoScript kind line) = record { history = []; finished = [] }
 front_of ReadFault = record { history = []; finished = [] }
@@ -110,6 +115,7 @@ Settles order steps old new rose (Replayed script replayed) =
     IsRead old new script × IsFrontOf order steps script replayed.finished replayed.outcome.front
 Settles order steps old new rose (Generated text) = ⊥
 Settles order steps old new rose (Counted pieces) = ⊥
+Settles order steps old new rose (Loaded number replayed) = ⊥
 Settles order steps old new rose Usage = ⊥
 Settles order steps old new rose (NoScript kind line) = IsUnread old new kind line
 Settles order steps old new rose ReadFault = rose
@@ -122,6 +128,8 @@ IsTellable (Replayed script replayed) = outcomes.IsWhole replayed.outcome × out
     × FollowsPrograms (map (λ p. p.calls) script.programs) replayed.outcome.front.history
 IsTellable (Generated text) = Unit {0}
 IsTellable (Counted pieces) = Unit {0}
+IsTellable (Loaded number replayed) = outcomes.IsWhole replayed.outcome × outcomes.AreCyclesOfFront replayed.outcome
+    × AreOfMutators (length (outcomes.reply_lists replayed.outcome)) replayed.outcome.front.history
 IsTellable Usage = Unit {0}
 IsTellable (NoScript kind line) = Unit {0}
 IsTellable ReadFault = Unit {0}
@@ -155,6 +163,7 @@ abbrev pub Generates : ℕ → ℕ → Settled → Type 0
 Generates seed size (Replayed script replayed) = ⊥
 Generates seed size (Generated text) = IsGenerated seed size text.items
 Generates seed size (Counted pieces) = ⊥
+Generates seed size (Loaded number replayed) = ⊥
 Generates seed size Usage = ⊥
 Generates seed size (NoScript kind line) = ⊥
 Generates seed size ReadFault = ⊥
@@ -165,16 +174,38 @@ abbrev pub Counts : ℕ → Settled → Type 0
 Counts workers (Replayed script replayed) = ⊥
 Counts workers (Generated text) = ⊥
 Counts workers (Counted pieces) = pieces ≡ 16 * workers
+Counts workers (Loaded number replayed) = ⊥
 Counts workers Usage = ⊥
 Counts workers (NoScript kind line) = ⊥
 Counts workers ReadFault = ⊥
 Counts workers Memory = Unit {0}
+
+-- A workload that a number gives, with 500 commands drawn for each mutator, was replayed in the order of this number. The
+-- count of steps has a name, so that no proof counts them out.
+pub record IsReplayOf (number : ℕ) (finished : Bool) (front : Seen) : Type 0 where
+  pub script : ScriptView
+  pub made : IsWorkload number 500 script
+  pub steps : ℕ
+  pub given : steps ≡ 100000000
+  pub replayed : IsFrontOf (Seed number) steps script finished front
+
+-- what replaying the workload of a number comes to; want of memory is free
+abbrev pub Loads : ℕ → Settled → Type 0
+Loads number (Replayed script replayed) = ⊥
+Loads number (Generated text) = ⊥
+Loads number (Counted pieces) = ⊥
+Loads number (Loaded n replayed) = (n ≡ number) × IsReplayOf number replayed.finished replayed.outcome.front
+Loads number Usage = ⊥
+Loads number (NoScript kind line) = ⊥
+Loads number ReadFault = ⊥
+Loads number Memory = Unit {0}
 
 -- what a command comes to
 abbrev pub Does : CommandLine → Option (List ℕ) → Option (List ℕ) → Type 0 → Settled → Type 0
 Does (Replay order steps) old new rose settled = Settles order steps old new rose settled
 Does (Gen seed size) old new rose settled = Generates seed size settled
 Does (Count workers) old new rose settled = Counts workers settled
+Does (Load number) old new rose settled = Loads number settled
 
 -- What the words come to: what their command does, or usage where they say none. Want of memory is free.
 abbrev pub Commands : List (List ℕ) → Option (List ℕ) → Option (List ℕ) → Type 0 → Settled → Type 0
@@ -200,12 +231,18 @@ pub record IsHandled (workers : ℕ) (taken_old taken_new : Option (List ℕ)) (
   pub written : Appends taken_old taken_new (handled_text (16 * workers))
   pub empty : front ≡ record { history = []; finished = [] }
 
+-- The workload was replayed, to its end or not, and the summary of this front was written.
+pub record IsLoaded (number : ℕ) (finished : Bool) (taken_old taken_new : Option (List ℕ)) (front : Seen) : Type 0 where
+  pub run : IsReplayOf number finished front
+  pub written : Appends taken_old taken_new (summary_text number front finished)
+
 -- a command was done
 abbrev pub IsDoneBy : CommandLine → Option (List ℕ) → Option (List ℕ) → Option (List ℕ) → Option (List ℕ) → Seen → Type 0
 IsDoneBy (Replay order steps) old new taken_old taken_new front =
     HasOutput true order steps old new taken_old taken_new front
 IsDoneBy (Gen seed size) old new taken_old taken_new front = IsPrinted seed size taken_old taken_new front
 IsDoneBy (Count workers) old new taken_old taken_new front = IsHandled workers taken_old taken_new front
+IsDoneBy (Load number) old new taken_old taken_new front = IsLoaded number true taken_old taken_new front
 
 -- a command was left unfinished
 abbrev pub IsLeftBy : CommandLine → Option (List ℕ) → Option (List ℕ) → Option (List ℕ) → Option (List ℕ) → Seen → Type 0
@@ -213,6 +250,7 @@ IsLeftBy (Replay order steps) old new taken_old taken_new front =
     HasOutput false order steps old new taken_old taken_new front
 IsLeftBy (Gen seed size) old new taken_old taken_new front = ⊥
 IsLeftBy (Count workers) old new taken_old taken_new front = ⊥
+IsLeftBy (Load number) old new taken_old taken_new front = IsLoaded number false taken_old taken_new front
 
 -- Too many bytes were read, or those of no script, and the line of their fault was written.
 pub record IsToldUnread (old new taken_old taken_new : Option (List ℕ)) : Type 0 where
@@ -242,11 +280,19 @@ EndsCount workers taken_old taken_new ended =
     ((ended.status ≡ 0) × IsHandled workers taken_old taken_new ended.front)
     ⊎ ((ended.status ≡ 5) × Appends taken_old taken_new (codes "memory\n"))
 
+-- how the replay of a workload ends where the sink does not fail
+abbrev pub EndsLoad : ℕ → Option (List ℕ) → Option (List ℕ) → Ended → Type 0
+EndsLoad number taken_old taken_new ended =
+    ((ended.status ≡ 0) × IsLoaded number true taken_old taken_new ended.front)
+    ⊎ (((ended.status ≡ 6) × IsLoaded number false taken_old taken_new ended.front)
+    ⊎ ((ended.status ≡ 5) × Appends taken_old taken_new (codes "memory\n")))
+
 -- how a command ends where no stream fails
 abbrev pub EndsBy : CommandLine → Option (List ℕ) → Option (List ℕ) → Option (List ℕ) → Option (List ℕ) → Ended → Type 0
 EndsBy (Replay order steps) old new taken_old taken_new ended = EndsReplay order steps old new taken_old taken_new ended
 EndsBy (Gen seed size) old new taken_old taken_new ended = EndsGen seed size taken_old taken_new ended
 EndsBy (Count workers) old new taken_old taken_new ended = EndsCount workers taken_old taken_new ended
+EndsBy (Load number) old new taken_old taken_new ended = EndsLoad number taken_old taken_new ended
 
 -- How a call of the program ends where no stream fails: as its command does, with the line of usage where the words say none,
 -- or with that of want of memory.

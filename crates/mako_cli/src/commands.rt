@@ -13,6 +13,7 @@ ghost use Rattle.mako_cli.specs.declared.settled.Settled.{Settled};
 
 use crate::count::{count_top, handled_line};
 use crate::ended::Ended;
+use crate::load::{load_top, tell_summary};
 use crate::settled::Settled;
 use mako_command::{CommandLine, command_line};
 use mako_gen::make;
@@ -83,6 +84,7 @@ pub(crate) fn tell<K: Sink>(alloc: Global, sink: &mut K, settled: Settled) -> En
         Settled::Replayed(script, replayed) => tell_run(sink, &script, replayed),
         Settled::Generated(text) => tell_text(alloc, sink, &text),
         Settled::Counted(pieces) => tell_line(alloc, sink, &handled_line(pieces), Settled::DONE),
+        Settled::Loaded(number, replayed) => tell_summary(sink, number, replayed),
         Settled::Usage => tell_line(alloc, sink, b"usage\n", Settled::USAGE),
         Settled::NoScript { kind, line } => {
             tell_line(alloc, sink, &fault_line(kind, line), Settled::NO_SCRIPT)
@@ -243,6 +245,7 @@ pub fn top<R: Threads + Wait + Sync, S: Source, K: Sink>(
         Some(CommandLine::Replay { order, steps }) => replay_top(alloc, order, steps, source, sink),
         Some(CommandLine::Gen { seed, size }) => gen_top(alloc, seed, size, sink),
         Some(CommandLine::Count { workers }) => count_top(rt, alloc, workers, sink),
+        Some(CommandLine::Load { number }) => load_top(alloc, number, sink),
         None => tell(alloc, sink, Settled::Usage),
     }
 }

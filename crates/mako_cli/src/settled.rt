@@ -12,6 +12,8 @@ pub enum Settled {
     Generated(Vec<u8>),
     /// So many pieces of a ring of workers were handled.
     Counted(u64),
+    /// The workload of a number was replayed, to its end or as far as the steps went.
+    Loaded(u64, Replayed),
     /// The words of the command line are no command.
     Usage,
     /// The bytes are no script, or too many.

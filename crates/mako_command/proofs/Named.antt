@@ -15,7 +15,7 @@ use Rattle.clap.specs.declared.parser.matches.ArgMatches.TheViews.{out-ArgMatche
 use Rattle.clap.specs.declared.parser.matches.Found.{Found}
 use Rattle.clap.specs.declared.parser.matches.SubCommand.{SubCommand}
 use Rattle.clap.proofs.WalkLemmas.{first_value-rows}
-use Rattle.mako_command.specs.CommandLines.{Finds, IsReplay, IsGen, IsCount, Says, SayNothing}
+use Rattle.mako_command.specs.CommandLines.{Finds, IsReplay, IsGen, IsCount, IsLoad, Says, SayNothing}
 use Rattle.mako_command.specs.Tables.{IsPair, IsSingle, IsTaken, given, is_word, table}
 use Rattle.mako_command.specs.declared.line.CommandLine.{CommandLine}
 use Rattle.mako_command.proofs.Rows.{is_simple-table, is_simple_and_free-table, taken}
@@ -122,7 +122,10 @@ replay_given words n f named t = elim t [
   | inl p ↦ pair _ _ _ words n f (λ a b. refl) (λ a b. refl) p
   | inr rest ↦ elim rest [
     | inl p ↦ absurd (differ _ _ (sym named ∙ ap name_in p.taken_as) (λ e. omega (arith, e)))
-    | inr s ↦ absurd (differ _ _ (sym named ∙ ap name_in s.taken_as) (λ e. omega (arith, e)))
+    | inr singles ↦ elim singles [
+      | inl s ↦ absurd (differ _ _ (sym named ∙ ap name_in s.taken_as) (λ e. omega (arith, e)))
+      | inr s ↦ absurd (differ _ _ (sym named ∙ ap name_in s.taken_as) (λ e. omega (arith, e)))
+    ]
   ]
 ]
 
@@ -132,17 +135,36 @@ gen_given words n f named t = elim t [
   | inl p ↦ absurd (differ _ _ (sym named ∙ ap name_in p.taken_as) (λ e. omega (arith, e)))
   | inr rest ↦ elim rest [
     | inl p ↦ pair _ _ _ words n f (λ a b. refl) (λ a b. refl) p
-    | inr s ↦ absurd (differ _ _ (sym named ∙ ap name_in s.taken_as) (λ e. omega (arith, e)))
+    | inr singles ↦ elim singles [
+      | inl s ↦ absurd (differ _ _ (sym named ∙ ap name_in s.taken_as) (λ e. omega (arith, e)))
+      | inr s ↦ absurd (differ _ _ (sym named ∙ ap name_in s.taken_as) (λ e. omega (arith, e)))
+    ]
   ]
 ]
 
-pub count_given : (words : List Text) (n : Text) (f : Found) → (n ≡ codes "replay" → ⊥) → (n ≡ codes "gen" → ⊥) → IsTaken words (Some (n, rows_of f)) →
+pub count_given : (words : List Text) (n : Text) (f : Found) → n ≡ codes "count" → IsTaken words (Some (n, rows_of f)) →
     HasSingle (codes "count") (codes "workers") words f
-count_given words n f no_replay no_gen t = elim t [
+count_given words n f named t = elim t [
+  | inl p ↦ absurd (differ _ _ (sym named ∙ ap name_in p.taken_as) (λ e. omega (arith, e)))
+  | inr rest ↦ elim rest [
+    | inl p ↦ absurd (differ _ _ (sym named ∙ ap name_in p.taken_as) (λ e. omega (arith, e)))
+    | inr singles ↦ elim singles [
+      | inl s ↦ single _ _ words n f (λ a. refl) s
+      | inr s ↦ absurd (differ _ _ (sym named ∙ ap name_in s.taken_as) (λ e. omega (arith, e)))
+    ]
+  ]
+]
+
+pub load_given : (words : List Text) (n : Text) (f : Found) → (n ≡ codes "replay" → ⊥) → (n ≡ codes "gen" → ⊥) → (n ≡ codes "count" → ⊥) →
+    IsTaken words (Some (n, rows_of f)) → HasSingle (codes "load") (codes "number") words f
+load_given words n f no_replay no_gen no_count t = elim t [
   | inl p ↦ absurd (no_replay (ap name_in p.taken_as))
   | inr rest ↦ elim rest [
     | inl p ↦ absurd (no_gen (ap name_in p.taken_as))
-    | inr s ↦ single _ _ words n f (λ a. refl) s
+    | inr singles ↦ elim singles [
+      | inl s ↦ absurd (no_count (ap name_in s.taken_as))
+      | inr s ↦ single _ _ words n f (λ a. refl) s
+    ]
   ]
 ]
 
@@ -182,8 +204,19 @@ count_says words f first r has at_one found =
     (subst (λ (a : Text). Finds (Says (codes "count" ∷ a ∷ [])) r) one (go r found))
   where
     go : (r : Option CommandLine) → Finds (IsCount first) r → Finds (Says (codes "count" ∷ first ∷ [])) r
-    go (Some line) h = (refl, h)
-    go None h = λ line s. h line s.1
+    go (Some line) h = inl (refl, h)
+    go None h = λ line s. elim s [ inl p ↦ h line p.1 | inr p ↦ differ _ _ p.0 (λ e. omega (arith, e)) ]
+
+pub load_says : (words : List Text) (f : Found) (first : Text) (r : Option CommandLine) → HasSingle (codes "load") (codes "number") words f →
+    Some first ≡ first_value f (codes "number") → Finds (IsLoad first) r → Finds (Says words) r
+load_says words f first r has at_one found =
+    let one : first ≡ has.first = ap text_in (at_one ∙ has.first_is) in
+    subst (λ (ws : List Text). Finds (Says ws) r) (sym has.words_are)
+    (subst (λ (a : Text). Finds (Says (codes "load" ∷ a ∷ [])) r) one (go r found))
+  where
+    go : (r : Option CommandLine) → Finds (IsLoad first) r → Finds (Says (codes "load" ∷ first ∷ [])) r
+    go (Some line) h = inr (refl, h)
+    go None h = λ line s. elim s [ inl p ↦ differ _ _ p.0 (λ e. omega (arith, e)) | inr p ↦ h line p.1 ]
 
 -- an argument that was given is found
 pub not_missing : (f : Found) (id text : Text) → None ≡ first_value f id → first_value f id ≡ Some text → ⊥
@@ -192,4 +225,10 @@ not_missing f id text missing is = is_none text (missing ∙ is)
 -- ---- which matches are no commands
 
 pub not_taken : (words : List Text) → IsTaken words None → ⊥
-not_taken words t = elim t [ inl p ↦ is_none _ p.taken_as | inr rest ↦ elim rest [ inl p ↦ is_none _ p.taken_as | inr s ↦ is_none _ s.taken_as ] ]
+not_taken words t = elim t [
+  | inl p ↦ is_none _ p.taken_as
+  | inr rest ↦ elim rest [
+    | inl p ↦ is_none _ p.taken_as
+    | inr singles ↦ elim singles [ inl s ↦ is_none _ s.taken_as | inr s ↦ is_none _ s.taken_as ]
+  ]
+]

@@ -77,12 +77,22 @@ count_rows : (first : Text) → IsPlain first →
 unfolding clap_on_literals
 count_rows first p = rw (p.no_dashes, p.no_long, p.no_short) refl
 
+pub load_taken : (first : Text) → IsPlain first → fault_of table (codes "load" ∷ first ∷ []) ≡ []
+unfolding clap_on_literals
+load_taken first p = rw (p.no_dashes, p.no_long, p.no_short) refl
+
+load_rows : (first : Text) → IsPlain first →
+    subcommand_of table (codes "load" ∷ first ∷ []) ≡ Some (codes "load", given (codes "number") first ∷ [])
+unfolding clap_on_literals
+load_rows first p = rw (p.no_dashes, p.no_long, p.no_short) refl
+
 -- ---- words that are refused
 
 other_refused : (name : Text) (rest : List Text) → IsPlain name → bytes_eq (codes "replay") name ≡ false → bytes_eq (codes "gen") name ≡ false →
-    bytes_eq (codes "count") name ≡ false → fault_of table (name ∷ rest) ≡ kind.UnknownArgument ∷ kind.InvalidSubcommand ∷ []
+    bytes_eq (codes "count") name ≡ false → bytes_eq (codes "load") name ≡ false →
+    fault_of table (name ∷ rest) ≡ kind.UnknownArgument ∷ kind.InvalidSubcommand ∷ []
 unfolding clap_on_literals
-other_refused name rest p r g c = rw (r, g, c, p.no_dashes, p.no_long, p.no_short) refl
+other_refused name rest p r g c l = rw (r, g, c, l, p.no_dashes, p.no_long, p.no_short) refl
 
 replay_alone : fault_of table (codes "replay" ∷ []) ≡ kind.MissingRequiredArgument ∷ []
 unfolding clap_on_literals
@@ -154,6 +164,24 @@ count_long first second rest p q =
       q.no_short,
     ) refl
 
+load_alone : fault_of table (codes "load" ∷ []) ≡ kind.MissingRequiredArgument ∷ []
+unfolding clap_on_literals
+load_alone = refl
+
+load_long : (first second : Text) (rest : List Text) → IsPlain first → IsPlain second → fault_of table (codes "load" ∷ first ∷ second ∷ rest) ≡ kind.UnknownArgument ∷ []
+unfolding clap_on_literals
+load_long first second rest p q =
+    rw (
+      stopped_walk [] (names_of (built table)) (codes "load") (first ∷ second ∷ []) rest,
+      stopped_fault (built table).top (names_of (built table)) (codes "load") (first ∷ second ∷ []) rest,
+      p.no_dashes,
+      p.no_long,
+      p.no_short,
+      q.no_dashes,
+      q.no_long,
+      q.no_short,
+    ) refl
+
 -- ---- all words
 
 fails : {k : ErrorKind} {ks words : Kinds} → words ≡ k ∷ ks → words ≡ [] → ⊥
@@ -194,23 +222,34 @@ after_count (first ∷ []) plain none = record { first = first; words_are = refl
 after_count (first ∷ second ∷ rest) plain none =
     absurd (fails (count_long first second rest (plain 0 first (omega arith)) (plain 1 first (omega arith))) none)
 
+after_load : (words : List Text) → All IsPlain words → fault_of table (codes "load" ∷ words) ≡ [] →
+    IsSingle (codes "load") (codes "number") (codes "load" ∷ words) (subcommand_of table (codes "load" ∷ words))
+after_load [] plain none = absurd (fails load_alone none)
+after_load (first ∷ []) plain none = record { first = first; words_are = refl; taken_as = load_rows first (plain 0 first (omega arith)) }
+after_load (first ∷ second ∷ rest) plain none =
+    absurd (fails (load_long first second rest (plain 0 first (omega arith)) (plain 1 first (omega arith))) none)
+
 -- the name decides
 named : (name : Text) (rest : List Text) → IsPlain name → All IsPlain rest → fault_of table (name ∷ rest) ≡ [] →
-    (r g c : Bool) → bytes_eq (codes "replay") name ≡ r → bytes_eq (codes "gen") name ≡ g → bytes_eq (codes "count") name ≡ c →
+    (r g c l : Bool) → bytes_eq (codes "replay") name ≡ r → bytes_eq (codes "gen") name ≡ g → bytes_eq (codes "count") name ≡ c → bytes_eq (codes "load") name ≡ l →
     IsTaken (name ∷ rest) (subcommand_of table (name ∷ rest))
-named name rest p plain none true g c is_replay is_gen is_count =
+named name rest p plain none true g c l is_replay is_gen is_count is_load =
     let same : codes "replay" ≡ name = (bytes_eq-Decides (codes "replay") name).0 is_replay in
     subst (λ (n : Text). fault_of table (n ∷ rest) ≡ [] → IsTaken (n ∷ rest) (subcommand_of table (n ∷ rest))) same (λ e. inl (after_replay rest plain e)) none
-named name rest p plain none false true c is_replay is_gen is_count =
+named name rest p plain none false true c l is_replay is_gen is_count is_load =
     let same : codes "gen" ≡ name = (bytes_eq-Decides (codes "gen") name).0 is_gen in
     subst (λ (n : Text). fault_of table (n ∷ rest) ≡ [] → IsTaken (n ∷ rest) (subcommand_of table (n ∷ rest))) same (λ e. inr (inl (after_gen rest plain e))) none
-named name rest p plain none false false true is_replay is_gen is_count =
+named name rest p plain none false false true l is_replay is_gen is_count is_load =
     let same : codes "count" ≡ name = (bytes_eq-Decides (codes "count") name).0 is_count in
-    subst (λ (n : Text). fault_of table (n ∷ rest) ≡ [] → IsTaken (n ∷ rest) (subcommand_of table (n ∷ rest))) same (λ e. inr (inr (after_count rest plain e))) none
-named name rest p plain none false false false is_replay is_gen is_count = absurd (fails (other_refused name rest p is_replay is_gen is_count) none)
+    subst (λ (n : Text). fault_of table (n ∷ rest) ≡ [] → IsTaken (n ∷ rest) (subcommand_of table (n ∷ rest))) same (λ e. inr (inr (inl (after_count rest plain e)))) none
+named name rest p plain none false false false true is_replay is_gen is_count is_load =
+    let same : codes "load" ≡ name = (bytes_eq-Decides (codes "load") name).0 is_load in
+    subst (λ (n : Text). fault_of table (n ∷ rest) ≡ [] → IsTaken (n ∷ rest) (subcommand_of table (n ∷ rest))) same (λ e. inr (inr (inr (after_load rest plain e)))) none
+named name rest p plain none false false false false is_replay is_gen is_count is_load =
+    absurd (fails (other_refused name rest p is_replay is_gen is_count is_load) none)
 
 -- words without a fault are taken as a command
 pub taken : (words : List Text) → All IsPlain words → fault_of table words ≡ [] → IsTaken words (subcommand_of table words)
 taken [] plain none = absurd (fails no_words none)
 taken (name ∷ rest) plain none =
-    named name rest (plain 0 name (omega arith)) (λ k d l. plain (suc k) d (omega arith)) none _ _ _ refl refl refl
+    named name rest (plain 0 name (omega arith)) (λ k d l. plain (suc k) d (omega arith)) none _ _ _ _ refl refl refl refl

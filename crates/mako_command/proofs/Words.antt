@@ -11,13 +11,13 @@ use Rattle.std.proofs.lemmas.Str.Parse.{IsNumeralModel, numerals_by_fold}
 use Rattle.std.proofs.lemmas.List.Sums.{AllPass-from_list_all}
 use Rattle.clap.specs.Faults.{fault_of}
 use Rattle.clap.specs.Walk.{Text}
-use Rattle.mako_command.specs.CommandLines.{Says, SayNothing, IsReplay, IsGen, IsCount, IsOrder, IsNumber, max_seed}
+use Rattle.mako_command.specs.CommandLines.{Says, SayNothing, IsReplay, IsGen, IsCount, IsLoad, IsOrder, IsNumber, max_seed}
 use Rattle.mako_command.specs.Tables.{is_plain, is_word, table}
 use Rattle.mako_replay.specs.declared.order.Order.{Order}
 use Rattle.mako_replay.specs.declared.order.Order.TheVariants.{Turns, Seed}
 use Rattle.mako_command.specs.declared.line.CommandLine.{CommandLine}
-use Rattle.mako_command.specs.declared.line.CommandLine.TheVariants.{Replay, Gen, Count}
-use Rattle.mako_command.proofs.Rows.{IsPlain, replay_taken, gen_taken, count_taken}
+use Rattle.mako_command.specs.declared.line.CommandLine.TheVariants.{Replay, Gen, Count, Load}
+use Rattle.mako_command.proofs.Rows.{IsPlain, replay_taken, gen_taken, count_taken, load_taken}
 
 -- a byte of a word is no hyphen
 not_hyphen : (b : ℕ) → is_plain b ≡ true → (b == 45) ≡ false
@@ -84,16 +84,25 @@ replay_words : (first second : Text) (line : CommandLine) → IsReplay first sec
 replay_words first second (Replay order steps) h = (order_word first order h.0, number_word 0 1000000000 second steps (omega arith) h.1)
 replay_words first second (Gen seed size) h = absurd h
 replay_words first second (Count workers) h = absurd h
+replay_words first second (Load number) h = absurd h
 
 gen_words : (first second : Text) (line : CommandLine) → IsGen first second line → (is_word first ≡ true) × (is_word second ≡ true)
 gen_words first second (Replay order steps) h = absurd h
 gen_words first second (Gen seed size) h = (number_word 0 max_seed first seed (omega arith) h.0, number_word 1 4096 second size (omega arith) h.1)
 gen_words first second (Count workers) h = absurd h
+gen_words first second (Load number) h = absurd h
 
 count_words : (first : Text) (line : CommandLine) → IsCount first line → is_word first ≡ true
 count_words first (Replay order steps) h = absurd h
 count_words first (Gen seed size) h = absurd h
 count_words first (Count workers) h = number_word 1 64 first workers (omega arith) h
+count_words first (Load number) h = absurd h
+
+load_words : (first : Text) (line : CommandLine) → IsLoad first line → is_word first ≡ true
+load_words first (Replay order steps) h = absurd h
+load_words first (Gen seed size) h = absurd h
+load_words first (Count workers) h = absurd h
+load_words first (Load number) h = number_word 0 max_seed first number (omega arith) h
 
 abbrev IsTakenWhole : List Text → Type 0
 IsTakenWhole words = (list_all is_word words ≡ true) × (fault_of table words ≡ [])
@@ -101,9 +110,12 @@ IsTakenWhole words = (list_all is_word words ≡ true) × (fault_of table words 
 pub said_words : (words : List Text) (line : CommandLine) → Says words line → IsTakenWhole words
 said_words [] line h = absurd h
 said_words (name ∷ []) line h = absurd h
-said_words (name ∷ first ∷ []) line h =
-    let p = count_words first line h.1 in
-    subst (λ (n : Text). IsTakenWhole (n ∷ first ∷ [])) (sym h.0) (and_from _ _ p refl, count_taken first (plain_word first p))
+said_words (name ∷ first ∷ []) line h = elim h [
+  | inl c ↦ let p = count_words first line c.1 in
+      subst (λ (n : Text). IsTakenWhole (n ∷ first ∷ [])) (sym c.0) (and_from _ _ p refl, count_taken first (plain_word first p))
+  | inr l ↦ let p = load_words first line l.1 in
+      subst (λ (n : Text). IsTakenWhole (n ∷ first ∷ [])) (sym l.0) (and_from _ _ p refl, load_taken first (plain_word first p))
+]
 said_words (name ∷ first ∷ second ∷ []) line h = elim h [
   | inl r ↦ let p = replay_words first second line r.1 in
       subst (λ (n : Text). IsTakenWhole (n ∷ first ∷ second ∷ [])) (sym r.0)

@@ -4,7 +4,7 @@ use Rattle.std.specs.Fmt.{decimal}
 use Rattle.mako_replay.specs.declared.order.Order.{Order}
 use Rattle.mako_replay.specs.declared.order.Order.TheVariants.{Turns, Seed}
 use Rattle.mako_command.specs.declared.line.CommandLine.{CommandLine}
-use Rattle.mako_command.specs.declared.line.CommandLine.TheVariants.{Replay, Gen, Count}
+use Rattle.mako_command.specs.declared.line.CommandLine.TheVariants.{Replay, Gen, Count, Load}
 
 -- what was looked for was found, or there is none
 abbrev pub Finds : {A : Type 0} → (A → Type 0) → Option A → Type 0
@@ -35,9 +35,14 @@ abbrev pub IsCount : List ℕ → CommandLine → Type 0
 IsCount first (Count workers) = IsNumber 1 64 first workers
 IsCount first _ = ⊥
 
+abbrev pub IsLoad : List ℕ → CommandLine → Type 0
+IsLoad first (Load number) = IsNumber 0 max_seed first number
+IsLoad first _ = ⊥
+
 -- the words say this command
 abbrev pub Says : List (List ℕ) → CommandLine → Type 0
-Says (name ∷ first ∷ []) line = (name ≡ codes "count") × IsCount first line
+Says (name ∷ first ∷ []) line =
+    ((name ≡ codes "count") × IsCount first line) ⊎ ((name ≡ codes "load") × IsLoad first line)
 Says (name ∷ first ∷ second ∷ []) line =
     ((name ≡ codes "replay") × IsReplay first second line) ⊎ ((name ≡ codes "gen") × IsGen first second line)
 Says _ line = ⊥

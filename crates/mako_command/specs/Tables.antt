@@ -37,6 +37,7 @@ table = record {
   subs = command (codes "replay") (codes "order" ∷ codes "steps" ∷ [])
       ∷ command (codes "gen") (codes "seed" ∷ codes "size" ∷ [])
       ∷ command (codes "count") (codes "workers" ∷ [])
+      ∷ command (codes "load") (codes "number" ∷ [])
       ∷ [];
 }
 
@@ -59,7 +60,8 @@ pub record IsSingle (name one : Text) (words : List Text) (taken : Option (Text 
 
 abbrev pub IsTaken : List Text → Option (Text × List Row) → Type 0
 IsTaken words taken = IsPair (codes "replay") (codes "order") (codes "steps") words taken
-    ⊎ (IsPair (codes "gen") (codes "seed") (codes "size") words taken ⊎ IsSingle (codes "count") (codes "workers") words taken)
+    ⊎ (IsPair (codes "gen") (codes "seed") (codes "size") words taken
+    ⊎ (IsSingle (codes "count") (codes "workers") words taken ⊎ IsSingle (codes "load") (codes "number") words taken))
 
 -- the words were taken as a command of the table, or they say none
 abbrev pub IsMatched : List Text → Option ArgMatches → Type 0

@@ -5,7 +5,7 @@ ghost use Rattle.std.specs.List.{list_all};
 ghost use Rattle.clap.specs.Words.{app_of, found_of, rows_of, shape_of};
 ghost use Rattle.clap.specs.declared.builder.command.Command.TheViews.{out-Command};
 ghost use Rattle.clap.specs.Walk.{texts};
-ghost use Rattle.mako_command.specs.CommandLines.{Finds, IsCount, IsGen, IsNumber, IsOrder, IsReplay, Says};
+ghost use Rattle.mako_command.specs.CommandLines.{Finds, IsCount, IsGen, IsLoad, IsNumber, IsOrder, IsReplay, Says};
 ghost use Rattle.mako_command.specs.Tables as tables;
 ghost use Rattle.mako_command.specs.Tables.{IsMatched, IsTaken};
 
@@ -25,6 +25,8 @@ pub enum CommandLine {
     Gen { seed: u64, size: u32 },
     /// Counts the pieces of a ring of so many workers on threads.
     Count { workers: u32 },
+    /// Replays the workload of a number in the order of the same number, and prints a summary.
+    Load { number: u64 },
 }
 
 /// The most bytes of a word.
@@ -86,7 +88,8 @@ fn table<'a>(alloc: Global) -> Result<Command<'a>, AllocError>
         .subcommand_required(true)
         .subcommand(command(alloc, "replay", &["order", "steps"])?)?
         .subcommand(command(alloc, "gen", &["seed", "size"])?)?
-        .subcommand(command(alloc, "count", &["workers"])?)
+        .subcommand(command(alloc, "count", &["workers"])?)?
+        .subcommand(command(alloc, "load", &["number"])?)
 }
 
 /// The words as the table takes them, if they are those of one of its commands.
@@ -173,6 +176,16 @@ fn count(first: &str) -> Option<CommandLine>
     }
 }
 
+/// The load with this argument.
+fn load(first: &str) -> Option<CommandLine>
+    ensures { Finds (IsLoad first.now) result }
+{
+    match number(0, u64::MAX, first) {
+        Some(number) => Some(CommandLine::Load { number }),
+        None => None,
+    }
+}
+
 /// The command of this name with these arguments.
 fn named(name: &str, matches: &ArgMatches) -> Option<CommandLine>
     ensures { (words : List (List ℕ)) → IsTaken words (Some (name.now, rows_of (found_of matches.now))) → Finds (Says words) result }
@@ -183,7 +196,10 @@ fn named(name: &str, matches: &ArgMatches) -> Option<CommandLine>
     if name == "gen" {
         return generation(matches.get_str("seed")?, matches.get_str("size")?);
     }
-    count(matches.get_str("workers")?)
+    if name == "count" {
+        return count(matches.get_str("workers")?);
+    }
+    load(matches.get_str("number")?)
 }
 
 /// The command that the words say, if they say one.

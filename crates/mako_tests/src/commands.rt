@@ -1,6 +1,6 @@
 //! The commands, over streams in memory.
 
-use mako_cli::{gen_top, replay_top, top};
+use mako_cli::{gen_top, load_top, replay_top, top};
 use mako_io::{MemSink, MemSource, SoundSink, SoundSource};
 use mako_replay::Order;
 use std::alloc::{AllocError, Global};
@@ -124,6 +124,32 @@ fn reports_a_write_fault_of_a_workload(rt: HostRuntime) -> Result<(), Fail> {
 }
 
 #[test]
+fn sums_up_a_workload(rt: HostRuntime) -> Result<(), Fail> {
+    let alloc = rt.alloc();
+    let command = words(alloc, &["load", "1"])?;
+    let mut source = SoundSource::new(Vec::new(alloc));
+    let mut sink = SoundSink::new(alloc, 100)?;
+    let ended = top(&rt, alloc, &command, &mut source, &mut sink);
+    assert_eq!(rt; ended.status, 0);
+    assert_eq!(rt;
+        sink.bytes(),
+        b"load 1\ncommands 2024\ncycles 11\nfreed 469\nend\n".as_slice()
+    );
+    Ok(())
+}
+
+#[test]
+fn reports_a_write_fault_of_a_summary(rt: HostRuntime) -> Result<(), Fail> {
+    let alloc = rt.alloc();
+    let fails = Vec::from_slice(alloc, &[3])?;
+    let mut sink = MemSink::new(alloc, 100, fails)?;
+    let ended = load_top(alloc, 1, &mut sink);
+    assert_eq!(rt; ended.status, 4);
+    assert_eq!(rt; sink.bytes(), b"load 1\ncommands 2024\n".as_slice());
+    Ok(())
+}
+
+#[test]
 fn counts_by_words(rt: HostRuntime) -> Result<(), Fail> {
     let alloc = rt.alloc();
     let command = words(alloc, &["count", "3"])?;
@@ -138,7 +164,7 @@ fn counts_by_words(rt: HostRuntime) -> Result<(), Fail> {
 #[test]
 fn refuses_words(rt: HostRuntime) -> Result<(), Fail> {
     let alloc = rt.alloc();
-    let cases: [&[&str]; 15] = [
+    let cases: [&[&str]; 19] = [
         &["replay", "turns", "1000000001"],
         &["replay", "18446744073709551616", "5"],
         &["replay", "turns", "+5"],
@@ -148,6 +174,10 @@ fn refuses_words(rt: HostRuntime) -> Result<(), Fail> {
         &["count", "0"],
         &["count", "65"],
         &["count", "3", "4"],
+        &["load"],
+        &["load", "01"],
+        &["load", "1", "2"],
+        &["load", "18446744073709551616"],
         &["replay", "fast", "5"],
         &["replay", "turns"],
         &["replay", "turns", "05"],

@@ -25,4 +25,7 @@ returns c =
     c.in_ok-subcommand.ensures.shape c.in_ok-command.ensures.local ∙ ap₂ with_subcommand set-4 c.in_ok-command.ensures.shape in
     let with-2 : app_of c.in_ok-subcommand-2.field-0 ≡ with_subcommand (with_subcommand plain (command (codes "replay") (codes "order" ∷ codes "steps" ∷ []))) (command (codes "gen") (codes "seed" ∷ codes "size" ∷ [])) =
     c.in_ok-subcommand-2.ensures.shape c.in_ok-command-2.ensures.local ∙ ap₂ with_subcommand with-1 c.in_ok-command-2.ensures.shape in
-    IfOk-weaker c.subcommand-3.result _ _ (λ made adds. adds.shape c.in_ok-command-3.ensures.local ∙ ap₂ with_subcommand with-2 c.in_ok-command-3.ensures.shape) c.subcommand-3.ensures
+    let with-3 : app_of c.in_ok-subcommand-3.field-0 ≡ with_subcommand (with_subcommand (with_subcommand plain (command (codes "replay") (codes "order" ∷ codes "steps" ∷ [])))
+    (command (codes "gen") (codes "seed" ∷ codes "size" ∷ []))) (command (codes "count") (codes "workers" ∷ [])) =
+    c.in_ok-subcommand-3.ensures.shape c.in_ok-command-3.ensures.local ∙ ap₂ with_subcommand with-2 c.in_ok-command-3.ensures.shape in
+    IfOk-weaker c.subcommand-4.result _ _ (λ made adds. adds.shape c.in_ok-command-4.ensures.local ∙ ap₂ with_subcommand with-3 c.in_ok-command-4.ensures.shape) c.subcommand-4.ensures
