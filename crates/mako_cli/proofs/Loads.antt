@@ -24,58 +24,25 @@ use Rattle.mako_model.specs.Heaps.{Heap, opening_roots}
 use Rattle.mako_model.specs.Lawful.{IsLawfulReply, IsLawful, heap_after}
 use Rattle.mako_model.specs.Legal.{Facts, AreLawful, IsLegal, opening_of}
 use Rattle.mako_model.specs.Outcomes.{IsWhole, reply_lists}
-use Rattle.mako_model.proofs.Changes.{Change, Nothing, Snapped, Rooted, Written, New, change_of}
+use Rattle.mako_model.proofs.Changes.{change_of}
 use Rattle.mako_script.specs.Outputs.{last_line}
+use Rattle.mako_state.proofs.Answered.{reply_within, rows_kept}
 use Rattle.mako_cli.specs.Loads.{AreOfMutators, count_line, is_answer, summary_text}
 
 -- ---- a legal history has answers of the script's mutators alone
 
-cell_within : (rows : List (List Value)) (m q : ℕ) (v : Value) →
-    slice_get (get_or rows m []) q ≡ Some v → m < length rows
-cell_within [] m q v here = absurd (none-some v here)
-cell_within (row ∷ rows) zero q v here = omega arith
-cell_within (row ∷ rows) (suc m) q v here = let l = cell_within rows m q v here in omega (arith, l)
-
-answers_within : (h : Heap) (m : ℕ) (c : Call) (r : Reply) → IsLawfulReply h m c r → m < length h.roots
-answers_within h m (call.New root fields) (reply.Made name) l = cell_within h.roots m root l.0.0 l.0.1
-answers_within h m (call.New root fields) reply.Full l = cell_within h.roots m root l.0 l.1
-answers_within h m (call.Num root x) (reply.Value v) l = cell_within h.roots m root l.0.0 l.0.1
-answers_within h m (call.CopyRoot to from) (reply.Value v) l = cell_within h.roots m to l.0.0 l.0.1
-answers_within h m (call.DropRoot root) reply.Done l = cell_within h.roots m root l.0 l.1
-answers_within h m (call.Show root) (reply.Value v) l = cell_within h.roots m root v l
-answers_within h m (call.Get to from field) (reply.Value v) l = cell_within h.roots m to l.0.0 l.0.1
-answers_within h m (call.Put to field from) reply.Done l = cell_within h.roots m from l.0.0 l.0.1
-answers_within h m (call.Get to from field) reply.NoRef l = cell_within h.roots m to l.0.0 l.0.1
-answers_within h m (call.Put to field from) reply.NoRef l = cell_within h.roots m from l.0.0 l.0.1
-answers_within h m (call.Get to from field) reply.NoField l = cell_within h.roots m to l.0.0 l.0.1
-answers_within h m (call.Put to field from) reply.NoField l = cell_within h.roots m from l.0.0 l.0.1
-answers_within h m call.Collect (reply.Cycle k) l = l.0
-answers_within h m call.Collect reply.Spent l = l.0
-answers_within h m c r l = absurd l
-
-rows_changed : (h after : Heap) (made : List Name) → Change h after made →
-    length after.roots ≡ length h.roots
-rows_changed h after made (Nothing e none) = ap (λ (g : Heap). length g.roots) e
-rows_changed h after made (Snapped e none) = ap (λ (g : Heap). length g.roots) e
-rows_changed h after made (Rooted m q v root hand e none) =
-    ap (λ (g : Heap). length g.roots) e ∙ length-set h.roots m _
-rows_changed h after made (Written m q name fields i v refers hand e none) =
-    ap (λ (g : Heap). length g.roots) e
-rows_changed h after made (New m q name fields root fresh e one) =
-    ap (λ (g : Heap). length g.roots) e ∙ length-set h.roots m _
-
-rows_kept : (h : Heap) (p : Point) → IsLawful h p → length (heap_after h p).roots ≡ length h.roots
-rows_kept h p lawful = rows_changed h (heap_after h p) _ (change_of h p lawful)
+rows_after : (h : Heap) (p : Point) → IsLawful h p → length (heap_after h p).roots ≡ length h.roots
+rows_after h p lawful = rows_kept h (heap_after h p) _ (change_of h p lawful)
 
 lawful_within : (h : Heap) (count : ℕ) (points : List Point) → length h.roots ≡ count → AreLawful h points →
     AreOfMutators count points
 lawful_within h count [] rows all = tt
 lawful_within h count (Did m c r ∷ points) rows all = (
-  subst (λ (n : ℕ). m < n) rows (answers_within h m c r all.0),
-  lawful_within (heap_after h (Did m c r)) count points (rows_kept h (Did m c r) all.0 ∙ rows) all.1,
+  subst (λ (n : ℕ). m < n) rows (reply_within h m c r all.0),
+  lawful_within (heap_after h (Did m c r)) count points (rows_after h (Did m c r) all.0 ∙ rows) all.1,
 )
 lawful_within h count (Snap cycle ∷ points) rows all =
-    lawful_within (heap_after h (Snap cycle)) count points (rows_kept h (Snap cycle) all.0 ∙ rows) all.1
+    lawful_within (heap_after h (Snap cycle)) count points (rows_after h (Snap cycle) all.0 ∙ rows) all.1
 
 pub legal_within : (w : Facts) (history : List Point) → IsLegal w history → AreOfMutators (length w.programs) history
 legal_within w history legal =

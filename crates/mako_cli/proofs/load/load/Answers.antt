@@ -21,7 +21,7 @@ returns c =
           steps = 100000000;
           given = refl;
           replayed = front_of_replay replayed.finished (Seed c.args.number) 100000000 replayed.steps_made script
-              replayed.outcome.front ran.run ran.made ran.ends ran.finished ran.answers ran.end ran.cycles;
+              replayed.outcome.front ran.run ran.made ran.ends ran.finished ran.answers ran.end;
         },
       );
       tellable = (
