@@ -1,27 +1,23 @@
 -- What a summary counts: each answered command once, in the list of its mutator's replies.
 use Rattle.std.proofs.Common.{◌≡◌, ℕ, zero, suc, ◌+◌, ◌<◌, ◌≤◌, ◌==◌, ⊎_elim, Bool, true, false, cond, refl, sym, ap}
-use Rattle.std.proofs.Common.{List, [], ◌∷◌, length, take, get_or, slice_get, Some, sum_by, subst, ◌∙◌, arith, add-one}
-use Rattle.std.proofs.Common.{append_assoc, length-set}
+use Rattle.std.proofs.Common.{List, [], ◌∷◌, length, take, slice_get, Some, sum_by, subst, ◌∙◌, arith, add-one}
+use Rattle.std.proofs.Common.{append_assoc}
 use Rattle.std.specs.List.{count_by}
 use Rattle.std.proofs.Math.Seq.{take-length}
 use Rattle.std.proofs.lemmas.Bool.{eq-eqb, ne_eqb}
 use Rattle.std.proofs.lemmas.Bool.Decides.{eqb_tells}
 use Rattle.std.proofs.lemmas.List.{length-replicate}
 use Rattle.std.proofs.lemmas.List.Sums.{sum_by-cons, sum_by_more}
-use Rattle.std.proofs.lemmas.Option.{none-some, get_or_from_slice_get}
+use Rattle.std.proofs.lemmas.Option.{get_or_from_slice_get}
 use Rattle.std.specs.Prelude.{◌++◌, codes}
-use Rattle.mako_words.specs.declared.name.Name.{Name}
-use Rattle.mako_words.specs.declared.value.Value.{Value}
 use Rattle.mako_model.specs.declared.call.Call.{Call}
-use Rattle.mako_model.specs.declared.call.Call.TheVariants as call
 use Rattle.mako_model.specs.declared.reply.Reply.{Reply}
-use Rattle.mako_model.specs.declared.reply.Reply.TheVariants as reply
 use Rattle.mako_model.specs.declared.point.Point.{Point}
 use Rattle.mako_model.specs.declared.point.Point.TheVariants.{Did, Snap}
 use Rattle.mako_model.specs.declared.outcome.Outcome.{Outcome}
 use Rattle.mako_model.specs.Fronts.{Seen, replies_to}
 use Rattle.mako_model.specs.Heaps.{Heap, opening_roots}
-use Rattle.mako_model.specs.Lawful.{IsLawfulReply, IsLawful, heap_after}
+use Rattle.mako_model.specs.Lawful.{IsLawful, heap_after}
 use Rattle.mako_model.specs.Legal.{Facts, AreLawful, IsLegal, opening_of}
 use Rattle.mako_model.specs.Outcomes.{IsWhole, reply_lists}
 use Rattle.mako_model.proofs.Changes.{change_of}
