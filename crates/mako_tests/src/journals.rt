@@ -7,7 +7,7 @@ use mako_judge::{Setup, Verdict, judge};
 use mako_model::{Immortal, Point, reach};
 use mako_script::{Script, parse};
 use mako_step::FlatWords;
-use mako_words::Name;
+use mako_words::{Memory, Name};
 use std::alloc::Global;
 use std::test::Fail;
 
@@ -36,8 +36,8 @@ const OF_TWO_TABLETS: [&[u8]; 3] = [
     b"mako 1\nservers 2\ntablets 1\nentries 6\nwords 16\nspare 1\nring 1\nroots 11\ncycles 10\ngens 8\nboard 1\nmutator\nnew a 1\nnew b 1\nnew c 1\nnew d 1\nnew e 1\nnew f 1\nnew g 1\nnew h 1\nnew i 1\nnew j 1\nput a 0 f\nput f 0 b\nput b 0 g\nput g 0 c\nput c 0 h\nput h 0 d\nput d 0 i\nput i 0 e\nput e 0 j\ndrop b\ndrop c\ndrop d\ndrop e\ndrop f\ndrop g\ndrop h\ndrop i\ndrop j\ncollect\nend\n",
 ];
 
-fn script_of(alloc: Global, text: &[u8]) -> Result<Script, Fail> {
-    parse(alloc, text).map_err(|_| Fail::new())
+fn script_of(alloc: Global, text: &[u8]) -> Result<Script, Memory> {
+    parse(alloc, text).map_err(|_| Memory)
 }
 
 /// Steps all seats in rounds.
