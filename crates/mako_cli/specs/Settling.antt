@@ -72,7 +72,7 @@ front_of ReadFault = record { history = []; finished = [] }
 front_of Memory = record { history = []; finished = [] }
 
 -- the bytes are all that the source had, where it tells them, and are not too many
-pub record IsWhole (old new : Option (List ℕ)) (bytes : List ℕ) : Type 0 where
+pub record AreAllBytes (old new : Option (List ℕ)) (bytes : List ℕ) : Type 0 where
   pub few : length bytes ≤ max_bytes
   pub all : IfSome old (λ left. bytes ≡ left)
   pub ended : IfSome old (λ left. new ≡ Some [])
@@ -80,7 +80,7 @@ pub record IsWhole (old new : Option (List ℕ)) (bytes : List ℕ) : Type 0 whe
 -- the bytes are those of the script
 pub record IsRead (old new : Option (List ℕ)) (script : ScriptView) : Type 0 where
   pub bytes : List ℕ
-  pub whole : IsWhole old new bytes
+  pub whole : AreAllBytes old new bytes
   pub spelled : IsScript bytes script
 
 -- every mutator is at its end, or one is not, and all given steps were made
@@ -102,7 +102,7 @@ pub record IsFrontOf (order : Order) (steps : ℕ) (script : ScriptView) (finish
 -- the bytes have this fault, or there are too many
 pub record HasFault (old new : Option (List ℕ)) (kind : Kind) (line : ℕ) : Type 0 where
   pub bytes : List ℕ
-  pub whole : IsWhole old new bytes
+  pub whole : AreAllBytes old new bytes
   pub refused : IsRefused bytes kind line
 
 abbrev pub IsUnread : Option (List ℕ) → Option (List ℕ) → Kind → ℕ → Type 0
