@@ -16,7 +16,7 @@ use Rattle.mako_seat.specs.declared.seat.Seat.TheVariants.{Mutator, Server, Coll
 use Rattle.mako_state.specs.CoreStates.{CoreState}
 use Rattle.mako_whole.specs.AllRuns.{scene_in}
 use Rattle.mako_whole.specs.AllStanding.{SeatsStand}
-use Rattle.mako_whole.specs.Seats.{SeatSits}
+use Rattle.mako_sitting.specs.Seats.{SeatSits}
 use Rattle.mako_whole.proofs.AllStandingSteps.{standing_answers, standing_answers_to_end}
 use Rattle.mako_core.specs.Cores.{cycles_kept, cycles_in}
 use Rattle.mako_core.specs.Endings.{replies_kept, replies_in, EndsWithCollector, AllAtEnd}

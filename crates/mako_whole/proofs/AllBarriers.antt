@@ -15,13 +15,13 @@ use Rattle.mako_seat.specs.declared.seat.Seat.TheVariants.{Server, Collector}
 use Rattle.mako_state.proofs.OpeningWords.{start_words}
 use Rattle.mako_tracing.specs.Laws.{words_next, ServerStands}
 use Rattle.mako_collecting.specs.Steps as collector
-use Rattle.mako_whole.specs.Seats.{AllSit, ServerSits, CollectorSits}
-use Rattle.mako_whole.specs.ServerSteps.{stage_after}
-use Rattle.mako_whole.specs.CollectorGoing.{BarriersHold}
+use Rattle.mako_sitting.specs.Seats.{AllSit, ServerSits, CollectorSits}
+use Rattle.mako_sitting_servers.specs.ServerSteps.{stage_after}
+use Rattle.mako_sitting_collector.specs.CollectorGoing.{BarriersHold}
 use Rattle.mako_whole.specs.AllBarriers.{OpeningsHoldBarriers, ServersHoldBarriers, CollectorsHoldBarriers}
 use Rattle.mako_whole.proofs.AllBarriersCollector.{AreLeftOrEmpty, barriers_left}
-use Rattle.mako_whole.proofs.CollectorGoingBarriers.{emptying_leaves_names}
-use Rattle.mako_whole.proofs.ServerFrames.{words_left}
+use Rattle.mako_sitting_collector.proofs.CollectorGoingBarriers.{emptying_leaves_names}
+use Rattle.mako_sitting_servers.proofs.ServerFrames.{words_left}
 
 -- at the start all slots are empty
 pub openings_hold_barriers : OpeningsHoldBarriers

@@ -27,14 +27,14 @@ use Rattle.mako_seat.specs.declared.seat.Seat.{Seat}
 use Rattle.mako_seat.specs.declared.seat.Seat.TheVariants.{Mutator}
 use Rattle.mako_mutating.specs.Mutators.{stepped}
 use Rattle.mako_making.proofs.Tasks.{only_asks}
-use Rattle.mako_whole.specs.Seats.{AllSit, MutatorSits}
-use Rattle.mako_whole.specs.CollectorGoing.{BarriersHold}
+use Rattle.mako_sitting.specs.Seats.{AllSit, MutatorSits}
+use Rattle.mako_sitting_collector.specs.CollectorGoing.{BarriersHold}
 use Rattle.mako_whole.specs.AllBarriers.{MutatorsHoldBarriers}
-use Rattle.mako_whole.proofs.CollectorGoingBarriers.{emptying_leaves_names, puts_leave_names}
-use Rattle.mako_whole.proofs.MutatorBarriers as storing
-use Rattle.mako_whole.proofs.MutatorBeside.{leaves}
-use Rattle.mako_whole.proofs.MutatorQuiet.{attempt_leaves, wait_leaves, end_words}
-use Rattle.mako_whole.proofs.MutatorWords.{StoresBarrier}
+use Rattle.mako_sitting_collector.proofs.CollectorGoingBarriers.{emptying_leaves_names, puts_leave_names}
+use Rattle.mako_sitting_mutators.proofs.MutatorBarriers as storing
+use Rattle.mako_sitting_mutators.proofs.MutatorBeside.{leaves}
+use Rattle.mako_sitting_mutators.proofs.MutatorQuiet.{attempt_leaves, wait_leaves, end_words}
+use Rattle.mako_sitting_mutators.proofs.MutatorWords.{StoresBarrier}
 
 module _ (n : Numbers) (w : Facts) (s : JointScene) (seats : List Seat) (m : ℕ) (d : Driving)
     (all : AllSit n w s seats) (here : slice_get seats m ≡ Some (Mutator d)) (act : IsAct (drivers.next_of d))

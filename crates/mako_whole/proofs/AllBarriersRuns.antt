@@ -14,7 +14,7 @@ use Rattle.mako_state.specs.CoreStates.{CoreState, made, stepped_by}
 use Rattle.mako_collecting.specs.Steps.{stepped}
 use Rattle.mako_whole.specs.AllBarriers.{StepsHoldBarriers}
 use Rattle.mako_whole.specs.AllRuns.{SeatsSit, scene_in}
-use Rattle.mako_whole.specs.CollectorGoing.{BarriersHold}
+use Rattle.mako_sitting_collector.specs.CollectorGoing.{BarriersHold}
 use Rattle.mako_whole.proofs.AllBarriers.{collectors_hold_barriers, left}
 use Rattle.mako_whole.proofs.AllBarriersMutator.{mutators_hold_barriers}
 

@@ -23,18 +23,18 @@ use Rattle.mako_pause.specs.declared.stage.CollectStage.TheVariants.{Idle, Pausi
 use Rattle.mako_seat.specs.declared.seat.Seat.TheVariants.{Collector}
 use Rattle.mako_state.specs.CoreStates.{CoreState, front_after, step_of}
 use Rattle.mako_clearing.specs.Hearing.{notice_server, with_hearing, with_finish, noticing, words_next, IsReading}
-use Rattle.mako_whole.specs.Seats.{AllSit}
+use Rattle.mako_sitting.specs.Seats.{AllSit}
 use Rattle.mako_whole.specs.AllRuns.{scene_in, SeatsSit}
-use Rattle.mako_whole.specs.CollectorGoing.{GoingNeeds}
-use Rattle.mako_whole.specs.CollectorFinishes.{FinishesOn}
-use Rattle.mako_whole.specs.CollectorHears.{HearsOn}
+use Rattle.mako_sitting_collector.specs.CollectorGoing.{GoingNeeds}
+use Rattle.mako_sitting_collector.specs.CollectorFinishes.{FinishesOn}
+use Rattle.mako_sitting_collector.specs.CollectorHears.{HearsOn}
 use Rattle.mako_whole.specs.AllCollecting.{FactsStand, FindingsFit, NoticeRuns}
 use Rattle.mako_whole.proofs.AllRuns.{collectors_run}
-use Rattle.mako_whole.proofs.CollectorFacets.{steps_add_no_facet}
-use Rattle.mako_whole.proofs.CollectorFinishes.{finish_keeps_all}
-use Rattle.mako_whole.proofs.CollectorGoing.{collectors_can_go}
-use Rattle.mako_whole.proofs.CollectorGoingBarriers.{looks_find_names}
-use Rattle.mako_whole.proofs.CollectorHears.{hearing_keeps_all}
+use Rattle.mako_sitting_collector.proofs.CollectorFacets.{steps_add_no_facet}
+use Rattle.mako_sitting_collector.proofs.CollectorFinishes.{finish_keeps_all}
+use Rattle.mako_sitting_collector.proofs.CollectorGoing.{collectors_can_go}
+use Rattle.mako_sitting_collector.proofs.CollectorGoingBarriers.{looks_find_names}
+use Rattle.mako_sitting_collector.proofs.CollectorHears.{hearing_keeps_all}
 
 -- ---- what it finds
 

@@ -29,28 +29,28 @@ use Rattle.mako_collecting.specs.Facets.{names_of}
 use Rattle.mako_collecting.specs.Roles.{ChoiceOf}
 use Rattle.mako_collecting.specs.Steps as collecting
 use Rattle.mako_collecting.specs.Steps.{stepped, polled, chosen, snapped, with_collector, collector_next, choice_begun}
-use Rattle.mako_whole.specs.Seats.{AllSit}
+use Rattle.mako_sitting.specs.Seats.{AllSit}
 use Rattle.mako_whole.specs.AllRuns.{scene_in, SeatsSit, CollectorCame}
-use Rattle.mako_whole.specs.CollectorChoices.{IsOfChoice}
-use Rattle.mako_whole.specs.CollectorFinishes.{FinishesOn}
-use Rattle.mako_whole.specs.CollectorGates.{IsGateStore}
-use Rattle.mako_whole.specs.CollectorHears.{HearsOn}
-use Rattle.mako_whole.specs.CollectorRounds.{IsRoundStore}
-use Rattle.mako_whole.specs.CollectorSnaps.{SeatsAreAll, snapshot_taken, storing}
-use Rattle.mako_whole.specs.CollectorSteps.{IsLook}
+use Rattle.mako_sitting_collector.specs.CollectorChoices.{IsOfChoice}
+use Rattle.mako_sitting_collector.specs.CollectorFinishes.{FinishesOn}
+use Rattle.mako_sitting_collector.specs.CollectorGates.{IsGateStore}
+use Rattle.mako_sitting_collector.specs.CollectorHears.{HearsOn}
+use Rattle.mako_sitting_collector.specs.CollectorRounds.{IsRoundStore}
+use Rattle.mako_sitting_collector.specs.CollectorSnaps.{SeatsAreAll, snapshot_taken, storing}
+use Rattle.mako_sitting_collector.specs.CollectorSteps.{IsLook}
 use Rattle.mako_whole.specs.AllCollecting.{FactsStand}
 use Rattle.mako_whole.specs.AllCollectingScenes.{IsChosenScene, CameTo, CollectorsCome}
 use Rattle.mako_whole.proofs.AllCollecting.{findings_fit}
 use Rattle.mako_whole.proofs.AllRunsCollector.{traces_are}
-use Rattle.mako_whole.proofs.CollectorChoices.{choices_keep_all}
-use Rattle.mako_whole.proofs.CollectorEvac.{evac_keeps_all}
-use Rattle.mako_whole.proofs.CollectorFacets.{steps_add_no_facet}
-use Rattle.mako_whole.proofs.CollectorFinishes.{finish_keeps_all}
-use Rattle.mako_whole.proofs.CollectorGates.{gates_keep_all, stops_keep_all}
-use Rattle.mako_whole.proofs.CollectorHears.{hearing_keeps_all}
-use Rattle.mako_whole.proofs.CollectorLooks.{looks_keep_all}
-use Rattle.mako_whole.proofs.CollectorRounds.{round_stores_keep_all, polls_keep_all}
-use Rattle.mako_whole.proofs.CollectorSnaps.{snapshots_keep_all}
+use Rattle.mako_sitting_collector.proofs.CollectorChoices.{choices_keep_all}
+use Rattle.mako_sitting_collector.proofs.CollectorEvac.{evac_keeps_all}
+use Rattle.mako_sitting_collector.proofs.CollectorFacets.{steps_add_no_facet}
+use Rattle.mako_sitting_collector.proofs.CollectorFinishes.{finish_keeps_all}
+use Rattle.mako_sitting_collector.proofs.CollectorGates.{gates_keep_all, stops_keep_all}
+use Rattle.mako_sitting_collector.proofs.CollectorHears.{hearing_keeps_all}
+use Rattle.mako_sitting_collector.proofs.CollectorLooks.{looks_keep_all}
+use Rattle.mako_sitting_collector.proofs.CollectorRounds.{round_stores_keep_all, polls_keep_all}
+use Rattle.mako_sitting_collector.proofs.CollectorSnaps.{snapshots_keep_all}
 
 -- the collector adds no facet behind those of the seats
 no_more : (n : Numbers) (s : JointScene) (words : List ℕ) (choice : Choice) (c : Collecting) → SeatsAreAll n s

@@ -11,7 +11,7 @@ use Rattle.mako_pause.specs.Collecting.{Collecting, next_of}
 use Rattle.mako_seat.specs.Seats.{fed, event_of}
 use Rattle.mako_seat.specs.declared.seat.Seat.TheVariants.{Collector}
 use Rattle.mako_state.specs.CoreStates.{CoreState, front_after, made, stepped_by, step_of}
-use Rattle.mako_whole.specs.Seats.{AllSit}
+use Rattle.mako_sitting.specs.Seats.{AllSit}
 use Rattle.mako_whole.specs.AllRuns.{scene_in, SeatsSit, CollectorCame}
 use Rattle.mako_whole.specs.AllCollectingScenes.{CameStand}
 

@@ -14,10 +14,10 @@ use Rattle.mako_pause.specs.declared.stage.CollectStage.TheVariants.{Idle, Pausi
 use Rattle.mako_seat.specs.declared.seat.Seat.TheVariants.{Collector}
 use Rattle.mako_state.specs.CoreStates.{CoreState, step_of}
 use Rattle.mako_whole.specs.AllRuns.{SeatsSit, CollectorIsAt}
-use Rattle.mako_whole.specs.CollectorChoices.{IsOfChoice}
-use Rattle.mako_whole.specs.CollectorGates.{IsGateStore}
-use Rattle.mako_whole.specs.CollectorRounds.{IsRoundStore}
-use Rattle.mako_whole.specs.CollectorSteps.{IsLook}
+use Rattle.mako_sitting_collector.specs.CollectorChoices.{IsOfChoice}
+use Rattle.mako_sitting_collector.specs.CollectorGates.{IsGateStore}
+use Rattle.mako_sitting_collector.specs.CollectorRounds.{IsRoundStore}
+use Rattle.mako_sitting_collector.specs.CollectorSteps.{IsLook}
 use Rattle.mako_whole.specs.AllCollecting.{FactsStand, CollectorsKeepSeats}
 use Rattle.mako_whole.proofs.AllCollecting.{findings_fit, notices_run}
 use Rattle.mako_whole.proofs.AllRuns.{step_sits}

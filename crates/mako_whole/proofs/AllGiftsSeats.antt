@@ -36,17 +36,17 @@ use Rattle.mako_collecting.specs.Roles.{ChoiceOf, role_of, roles_after}
 use Rattle.mako_collecting.specs.Steps.{collector_next, choice_begun}
 use Rattle.mako_collecting.proofs.LeavesKept.{steps_leave_kept}
 use Rattle.mako_collecting.proofs.Roles.{none_given}
-use Rattle.mako_whole.specs.Seats.{AllSit, CollectorSits}
+use Rattle.mako_sitting.specs.Seats.{AllSit, CollectorSits}
 use Rattle.mako_tracing.specs.Laws.{server_next}
-use Rattle.mako_whole.specs.MutatorSteps.{mutator_next}
-use Rattle.mako_whole.specs.ServerSteps.{stage_after}
-use Rattle.mako_whole.specs.CollectorSnaps.{storing}
-use Rattle.mako_whole.specs.Openings.{opening_scene}
+use Rattle.mako_sitting_mutators.specs.MutatorSteps.{mutator_next}
+use Rattle.mako_sitting_servers.specs.ServerSteps.{stage_after}
+use Rattle.mako_sitting_collector.specs.CollectorSnaps.{storing}
+use Rattle.mako_sitting.specs.Openings.{opening_scene}
 use Rattle.mako_whole.specs.AllGifts.{given_at, untold_in, RolesAreNext, GivesNone, NoticesFindGifts, OpeningsGiveNone, MutatorsKeepGifts, ServersKeepGifts, StepsKeepGifts, SnapshotsKeepGifts, PollsKeepGifts, ChoicesKeepGifts, HearingKeepsGifts, FinishKeepsGifts}
 use Rattle.mako_whole.proofs.AllGifts.{none_at, spare_soon, same_roles, others_keep, collector_keeps}
 use Rattle.mako_whole.proofs.AllGiftsCalm.{steps_are_calm}
 use Rattle.mako_whole.proofs.AllGiftsChoice.{one_more, told, soon_next}
-use Rattle.mako_whole.proofs.CollectorHeard.{hearing_leaves}
+use Rattle.mako_sitting_collector.proofs.CollectorHeard.{hearing_leaves}
 
 pub notices_find_gifts : NoticesFindGifts
 notices_find_gifts n w s seats i k stage gifts here r low =

@@ -24,13 +24,13 @@ use Rattle.mako_tracing.specs.Laws.{server_next}
 use Rattle.mako_collecting.specs.Steps.{words_next, collector_next}
 use Rattle.mako_writes.proofs.Mutators.{mutators_write}
 use Rattle.mako_whole.specs.AllHoused.{SeatIsHoused, AllHoused, OpeningsAreHoused, MutatorsLeaveHoused, ServersLeaveHoused, CollectorsStayHoused, AllHousedHaveSpares}
-use Rattle.mako_whole.specs.MutatorSteps.{mutator_next}
-use Rattle.mako_whole.specs.Seats.{AllSit, MutatorSits, ServerSits}
-use Rattle.mako_whole.specs.ServerSteps.{server_stepped}
+use Rattle.mako_sitting_mutators.specs.MutatorSteps.{mutator_next}
+use Rattle.mako_sitting.specs.Seats.{AllSit, MutatorSits, ServerSits}
+use Rattle.mako_sitting_servers.specs.ServerSteps.{server_stepped}
 use Rattle.mako_whole.proofs.AllHousedStages.{stays_housed}
 use Rattle.mako_whole.proofs.AllRuns.{words_are}
-use Rattle.mako_whole.proofs.CollectorHoused.{housed_have_spares}
-use Rattle.mako_whole.proofs.ServerFrames.{words_left}
+use Rattle.mako_sitting_collector.proofs.CollectorHoused.{housed_have_spares}
+use Rattle.mako_sitting_servers.proofs.ServerFrames.{words_left}
 
 -- ---- the start
 

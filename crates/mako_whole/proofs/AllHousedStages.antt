@@ -39,8 +39,8 @@ use Rattle.mako_pause.specs.declared.stage.CollectStage.TheVariants.{Idle, Pausi
 use Rattle.mako_collecting.specs.Laws.{Stands}
 use Rattle.mako_collecting.specs.Steps.{words_next, collector_next}
 use Rattle.mako_writes.proofs.Touching.{Leaves, looks, at_place}
-use Rattle.mako_whole.specs.CollectorHoused.{IsHoused}
-use Rattle.mako_whole.proofs.CollectorHousedSteps.{goes_on, choices_stay_housed}
+use Rattle.mako_sitting_collector.specs.CollectorHoused.{IsHoused}
+use Rattle.mako_sitting_collector.proofs.CollectorHousedSteps.{goes_on, choices_stay_housed}
 
 -- ---- homes stay
 

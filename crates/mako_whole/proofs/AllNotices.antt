@@ -18,10 +18,10 @@ use Rattle.mako_clearing.specs.Hearing.{NoticeKnows}
 use Rattle.mako_seat.specs.declared.seat.Seat.{Seat}
 use Rattle.mako_seat.specs.declared.seat.Seat.TheVariants.{Mutator, Collector}
 use Rattle.mako_state.proofs.OpeningSeats.{IsOpeningSeat, of_mutator, of_server, of_collector, seat_is}
-use Rattle.mako_whole.specs.Seats.{CollectorSits, AllSit}
-use Rattle.mako_whole.specs.MutatorSteps.{mutator_next}
+use Rattle.mako_sitting.specs.Seats.{CollectorSits, AllSit}
+use Rattle.mako_sitting_mutators.specs.MutatorSteps.{mutator_next}
 use Rattle.mako_whole.specs.AllNotices.{StageKnows, NoticesStand, OpeningNotices, MutatorNotices}
-use Rattle.mako_whole.proofs.MutatorBeside.{leaves}
+use Rattle.mako_sitting_mutators.proofs.MutatorBeside.{leaves}
 
 -- ---- a notice that was found
 

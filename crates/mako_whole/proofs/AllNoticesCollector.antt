@@ -29,8 +29,8 @@ use Rattle.mako_pause.specs.declared.stage.CollectStage.{CollectStage}
 use Rattle.mako_pause.specs.declared.stage.CollectStage.TheVariants.{Idle, Pausing, Forwarding, Barriers, Emptying, Polling, Choosing, Noticing, Ended}
 use Rattle.mako_seat.specs.declared.seat.Seat.{Seat}
 use Rattle.mako_seat.specs.declared.seat.Seat.TheVariants.{Collector}
-use Rattle.mako_whole.specs.Seats.{CollectorSits, AllSit}
-use Rattle.mako_whole.specs.CollectorSnaps.{storing, snapshot_taken}
+use Rattle.mako_sitting.specs.Seats.{CollectorSits, AllSit}
+use Rattle.mako_sitting_collector.specs.CollectorSnaps.{storing, snapshot_taken}
 use Rattle.mako_whole.specs.AllNotices.{StageKnows, NoticesStand, IsBesideNotices, StandsBeside, CollectorNotices, HearingNotices, FinishNotices}
 use Rattle.mako_whole.proofs.AllNotices.{same_collector, set_knows}
 

@@ -25,17 +25,17 @@ use Rattle.mako_tracing.proofs.Acts.{tracing_can_go, turns_can_go}
 use Rattle.mako_clearing.specs.ClearingFacets.{clearing_phase, clearing_ended}
 use Rattle.mako_clearing.specs.Clearing.{ClearingStands, evacuated}
 use Rattle.mako_clearing.proofs.Seated.{cycle_in, is_in_evac}
-use Rattle.mako_whole.specs.Seats.{StageSits, ServerSits, live_facet, AllSit}
-use Rattle.mako_whole.specs.ServerSteps.{stage_after}
+use Rattle.mako_sitting.specs.Seats.{StageSits, ServerSits, live_facet, AllSit}
+use Rattle.mako_sitting_servers.specs.ServerSteps.{stage_after}
 use Rattle.mako_whole.specs.AllNotices.{NoticesStand, ServerTells, ServerNotices}
 use Rattle.mako_whole.proofs.AllNotices.{NoticesStay, still_knows}
 use Rattle.mako_whole.proofs.AllNoticesSlots.{fresh_words}
-use Rattle.mako_whole.proofs.ServerClears.{works_there}
-use Rattle.mako_whole.proofs.ServerCounts.{low_counts}
-use Rattle.mako_whole.proofs.ServerEvacuates.{can, clears, evacuating}
-use Rattle.mako_whole.proofs.ServerReaders.{readers_match}
-use Rattle.mako_whole.proofs.ServerRests.{words_traced, words_turned}
-use Rattle.mako_whole.proofs.ServerSteps.{turning, tracing}
+use Rattle.mako_sitting_servers.proofs.ServerClears.{works_there}
+use Rattle.mako_sitting_servers.proofs.ServerCounts.{low_counts}
+use Rattle.mako_sitting_servers.proofs.ServerEvacuates.{can, clears, evacuating}
+use Rattle.mako_sitting_servers.proofs.ServerReaders.{readers_match}
+use Rattle.mako_sitting_servers.proofs.ServerRests.{words_traced, words_turned}
+use Rattle.mako_sitting_servers.proofs.ServerSteps.{turning, tracing}
 use Rattle.std.specs.Prelude.{map}
 
 not_collector : (v : Serving) (c : Collecting) → Server v ≢ Collector c

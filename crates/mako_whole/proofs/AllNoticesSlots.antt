@@ -23,7 +23,7 @@ use Rattle.mako_clearing.specs.Clearing.{FreeKnows, StageKnows}
 use Rattle.mako_writes.specs.Writes.{LeavesOthers}
 use Rattle.mako_writes.proofs.Copies.{copies}
 use Rattle.mako_writes.proofs.Touching.{Leaves, looks, at_place, ends}
-use Rattle.mako_whole.proofs.ServerPlaces.{own_tablet, own_entry}
+use Rattle.mako_sitting_servers.proofs.ServerPlaces.{own_tablet, own_entry}
 
 -- notices go into empty slots alone
 abbrev pub FreshWrites : Numbers → List ℕ → Place → Type 0

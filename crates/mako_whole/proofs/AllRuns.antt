@@ -10,8 +10,8 @@ use Rattle.mako_mutator.specs.Drivers as drivers
 use Rattle.mako_state.specs.Openings.{opening_seats}
 use Rattle.mako_tracing.specs.Laws.{server_next}
 use Rattle.mako_tracing.specs.ServerFacets.{server_trace}
-use Rattle.mako_whole.specs.CollectorSnaps.{SeatsAreAll}
-use Rattle.mako_whole.proofs.CollectorFacets.{steps_add_no_facet}
+use Rattle.mako_sitting_collector.specs.CollectorSnaps.{SeatsAreAll}
+use Rattle.mako_sitting_collector.proofs.CollectorFacets.{steps_add_no_facet}
 use Rattle.mako_shape.specs.declared.numbers.Numbers.{Numbers}
 use Rattle.mako_step.specs.Acts.{finds, words_stepped}
 use Rattle.mako_step.specs.declared.step.Step.{Step}
@@ -30,12 +30,12 @@ use Rattle.mako_seat.specs.Seats.{next_of, fed, event_of}
 use Rattle.mako_state.specs.CoreStates.{CoreState, got_by, front_after, made, stepped_by, step_of}
 use Rattle.mako_joint.specs.Joints.{JointScene}
 use Rattle.mako_mutating.specs.Mutators as mutating
-use Rattle.mako_whole.specs.Seats.{AllSit, SeatSits}
-use Rattle.mako_whole.specs.ServerSteps.{stage_after, server_stepped, ServerGoesOn}
+use Rattle.mako_sitting.specs.Seats.{AllSit, SeatSits}
+use Rattle.mako_sitting_servers.specs.ServerSteps.{stage_after, server_stepped, ServerGoesOn}
 use Rattle.mako_whole.specs.AllRuns.{scene_in, SeatsSit, MutatorRuns, ServerRuns, CollectorRuns}
-use Rattle.mako_whole.specs.Openings.{opening_scene, trace_facet, held_facet}
-use Rattle.mako_whole.proofs.MutatorSteps.{mutators_keep_all}
-use Rattle.mako_whole.proofs.ServerEvacuates.{servers_keep_all}
+use Rattle.mako_sitting.specs.Openings.{opening_scene, trace_facet, held_facet}
+use Rattle.mako_sitting_mutators.proofs.MutatorSteps.{mutators_keep_all}
+use Rattle.mako_sitting_servers.proofs.ServerEvacuates.{servers_keep_all}
 
 -- ---- a step
 

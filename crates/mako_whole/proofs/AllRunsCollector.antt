@@ -6,9 +6,9 @@ use Rattle.mako_ring.specs.TraceFacets as trace
 use Rattle.mako_layout.specs.StepParts.{collector_seat}
 use Rattle.mako_collecting.specs.Choosing.{choice_next}
 use Rattle.mako_collecting.specs.Facets.{names_of}
-use Rattle.mako_whole.specs.CollectorSnaps.{SeatsAreAll, snapshot_taken, storing}
-use Rattle.mako_whole.proofs.CollectorFacets.{steps_add_no_facet}
-use Rattle.mako_whole.proofs.CollectorSnaps.{snapshots_keep_all}
+use Rattle.mako_sitting_collector.specs.CollectorSnaps.{SeatsAreAll, snapshot_taken, storing}
+use Rattle.mako_sitting_collector.proofs.CollectorFacets.{steps_add_no_facet}
+use Rattle.mako_sitting_collector.proofs.CollectorSnaps.{snapshots_keep_all}
 use Rattle.mako_shape.specs.declared.numbers.Numbers.{Numbers}
 use Rattle.mako_model.specs.Legal.{Facts}
 use Rattle.mako_pause.specs.Collecting.{Collecting, Holdings, at, running, stage_event}
@@ -16,10 +16,10 @@ use Rattle.mako_pause.specs.declared.stage.IdleStage.TheVariants.{StoringStop}
 use Rattle.mako_pause.specs.declared.stage.PauseStage.TheVariants.{Draining, LoadingRoot, Shutting, StoringTrace, Opening}
 use Rattle.mako_pause.specs.declared.stage.ChoiceStage.TheVariants.{StoringEvac}
 use Rattle.mako_state.specs.CoreStates.{CoreState, front_after, step_of}
-use Rattle.mako_whole.specs.CollectorSteps.{IsLook}
-use Rattle.mako_whole.specs.CollectorRounds.{IsRoundStore}
-use Rattle.mako_whole.specs.CollectorChoices.{TracesAreOfSeats}
-use Rattle.mako_whole.specs.CollectorGates.{IsGateStore}
+use Rattle.mako_sitting_collector.specs.CollectorSteps.{IsLook}
+use Rattle.mako_sitting_collector.specs.CollectorRounds.{IsRoundStore}
+use Rattle.mako_sitting_collector.specs.CollectorChoices.{TracesAreOfSeats}
+use Rattle.mako_sitting_collector.specs.CollectorGates.{IsGateStore}
 use Rattle.mako_model.specs.declared.event.Event.TheVariants.{Nothing}
 use Rattle.mako_layout.specs.Facets.{Gift, Choice}
 use Rattle.mako_pause.specs.declared.stage.CollectStage.{CollectStage}
@@ -29,11 +29,11 @@ use Rattle.mako_collecting.specs.Roles.{ChoiceOf}
 use Rattle.mako_collecting.specs.Steps.{stepped, polled, chosen, snapped, with_collector, words_next, collector_next, choice_begun}
 use Rattle.mako_whole.specs.AllRuns.{scene_in, SeatsSit, LookRuns, RoundStoreRuns, PollRuns, ChoiceRuns, GateRuns, StopRuns, SnapshotRuns, EvacRuns}
 use Rattle.mako_whole.proofs.AllRuns.{collectors_run}
-use Rattle.mako_whole.proofs.CollectorChoices.{choices_keep_all}
-use Rattle.mako_whole.proofs.CollectorEvac.{evac_keeps_all}
-use Rattle.mako_whole.proofs.CollectorGates.{gates_keep_all, stops_keep_all}
-use Rattle.mako_whole.proofs.CollectorLooks.{looks_keep_all}
-use Rattle.mako_whole.proofs.CollectorRounds.{round_stores_keep_all, polls_keep_all}
+use Rattle.mako_sitting_collector.proofs.CollectorChoices.{choices_keep_all}
+use Rattle.mako_sitting_collector.proofs.CollectorEvac.{evac_keeps_all}
+use Rattle.mako_sitting_collector.proofs.CollectorGates.{gates_keep_all, stops_keep_all}
+use Rattle.mako_sitting_collector.proofs.CollectorLooks.{looks_keep_all}
+use Rattle.mako_sitting_collector.proofs.CollectorRounds.{round_stores_keep_all, polls_keep_all}
 
 -- ---- a look or a store into a ring tells nothing
 

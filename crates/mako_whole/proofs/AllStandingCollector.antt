@@ -32,33 +32,33 @@ use Rattle.mako_clearing.specs.Hearing as hearing
 use Rattle.mako_collecting.specs.Facets.{names_of}
 use Rattle.mako_collecting.specs.Roles.{ChoiceOf}
 use Rattle.mako_collecting.specs.Steps.{stepped, polled, chosen, collector_next}
-use Rattle.mako_whole.specs.Seats.{AllSit}
+use Rattle.mako_sitting.specs.Seats.{AllSit}
 use Rattle.mako_whole.specs.AllRuns.{scene_in, SeatsSit, CollectorCame}
 use Rattle.mako_whole.specs.AllCollecting.{FactsStand}
 use Rattle.mako_whole.specs.AllGifts.{GiftsAreNext, GivesNone}
 use Rattle.mako_whole.specs.AllNotices.{NoticesStand, StageKnows, StandsBeside, IsBesideNotices}
 use Rattle.mako_whole.specs.AllStanding.{SeatsStand, CollectorStands}
-use Rattle.mako_whole.specs.CollectorChoices.{IsOfChoice, TracesAreOfSeats}
-use Rattle.mako_whole.specs.CollectorFinishes.{FinishesOn}
-use Rattle.mako_whole.specs.CollectorGates.{IsGateStore}
-use Rattle.mako_whole.specs.CollectorHears.{HearsOn}
-use Rattle.mako_whole.specs.CollectorRounds.{IsRoundStore}
-use Rattle.mako_whole.specs.CollectorSnaps.{snapshot_taken, storing}
-use Rattle.mako_whole.specs.CollectorSteps.{IsLook}
+use Rattle.mako_sitting_collector.specs.CollectorChoices.{IsOfChoice, TracesAreOfSeats}
+use Rattle.mako_sitting_collector.specs.CollectorFinishes.{FinishesOn}
+use Rattle.mako_sitting_collector.specs.CollectorGates.{IsGateStore}
+use Rattle.mako_sitting_collector.specs.CollectorHears.{HearsOn}
+use Rattle.mako_sitting_collector.specs.CollectorRounds.{IsRoundStore}
+use Rattle.mako_sitting_collector.specs.CollectorSnaps.{snapshot_taken, storing}
+use Rattle.mako_sitting_collector.specs.CollectorSteps.{IsLook}
 use Rattle.mako_whole.proofs.AllBarriers.{collectors_hold_barriers}
 use Rattle.mako_whole.proofs.AllCollecting.{findings_fit}
 use Rattle.mako_whole.proofs.AllGiftsSeats.{notices_find_gifts, steps_keep_gifts, snapshots_keep_gifts, polls_keep_gifts, choices_keep_gifts, hearing_keeps_gifts, finish_keeps_gifts}
 use Rattle.mako_whole.proofs.AllHoused.{collectors_stay_housed, all_housed_have_spares}
 use Rattle.mako_whole.proofs.AllNoticesCollector.{collector_notices, hearing_notices, finish_notices}
-use Rattle.mako_whole.proofs.CollectorChoices.{choices_keep_all}
-use Rattle.mako_whole.proofs.CollectorEvac.{evac_keeps_all}
-use Rattle.mako_whole.proofs.CollectorFacets.{steps_add_no_facet}
-use Rattle.mako_whole.proofs.CollectorFinishes.{finish_keeps_all}
-use Rattle.mako_whole.proofs.CollectorGates.{gates_keep_all, stops_keep_all}
-use Rattle.mako_whole.proofs.CollectorHears.{hearing_keeps_all}
-use Rattle.mako_whole.proofs.CollectorLooks.{looks_keep_all}
-use Rattle.mako_whole.proofs.CollectorRounds.{round_stores_keep_all, polls_keep_all}
-use Rattle.mako_whole.proofs.CollectorSnaps.{snapshots_keep_all}
+use Rattle.mako_sitting_collector.proofs.CollectorChoices.{choices_keep_all}
+use Rattle.mako_sitting_collector.proofs.CollectorEvac.{evac_keeps_all}
+use Rattle.mako_sitting_collector.proofs.CollectorFacets.{steps_add_no_facet}
+use Rattle.mako_sitting_collector.proofs.CollectorFinishes.{finish_keeps_all}
+use Rattle.mako_sitting_collector.proofs.CollectorGates.{gates_keep_all, stops_keep_all}
+use Rattle.mako_sitting_collector.proofs.CollectorHears.{hearing_keeps_all}
+use Rattle.mako_sitting_collector.proofs.CollectorLooks.{looks_keep_all}
+use Rattle.mako_sitting_collector.proofs.CollectorRounds.{round_stores_keep_all, polls_keep_all}
+use Rattle.mako_sitting_collector.proofs.CollectorSnaps.{snapshots_keep_all}
 
 -- ---- a step
 

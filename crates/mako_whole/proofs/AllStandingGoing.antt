@@ -14,8 +14,8 @@ use Rattle.mako_whole.specs.AllStanding.{SeatsStand, StepsStand, StepsCanGo}
 use Rattle.mako_whole.proofs.AllCollecting.{can_at}
 use Rattle.mako_whole.proofs.AllStandingCollector.{sits, facts, collector_stands}
 use Rattle.mako_whole.proofs.AllStandingSteps.{seat_stands}
-use Rattle.mako_whole.proofs.MutatorTurns.{mutators_can_go}
-use Rattle.mako_whole.proofs.ServerEvacuates.{servers_keep_all}
+use Rattle.mako_sitting_mutators.proofs.MutatorTurns.{mutators_can_go}
+use Rattle.mako_sitting_servers.proofs.ServerEvacuates.{servers_keep_all}
 
 pub steps_stand : StepsStand
 steps_stand n w st i stands = seat_stands collector_stands n w st stands i (slice_get st.seats i) refl

@@ -34,16 +34,16 @@ use Rattle.mako_state.specs.Openings.{opening_seats, opening_core}
 use Rattle.mako_state.specs.Runs.{Reached}
 use Rattle.mako_state.specs.Runs.Reached.{Starts, Steps}
 use Rattle.mako_joint.specs.Joints.{JointScene}
-use Rattle.mako_whole.specs.Seats.{AllSit, SeatSits}
-use Rattle.mako_whole.specs.ServerSteps.{stage_after, server_stepped}
+use Rattle.mako_sitting.specs.Seats.{AllSit, SeatSits}
+use Rattle.mako_sitting_servers.specs.ServerSteps.{stage_after, server_stepped}
 use Rattle.mako_whole.specs.AllRuns.{scene_in}
 use Rattle.mako_whole.specs.AllGifts.{GiftsAreNext}
 use Rattle.mako_whole.specs.AllHoused.{AllHoused}
 use Rattle.mako_whole.specs.AllNotices.{NoticesStand, ServerTells}
 use Rattle.mako_whole.specs.AllStanding.{SeatsStand, CollectorStands, AllRunsStand}
-use Rattle.mako_whole.specs.CollectorGoing.{BarriersHold}
-use Rattle.mako_whole.specs.CollectorSnaps.{SeatsAreAll}
-use Rattle.mako_whole.specs.Openings.{opening_scene, trace_facet, held_facet}
+use Rattle.mako_sitting_collector.specs.CollectorGoing.{BarriersHold}
+use Rattle.mako_sitting_collector.specs.CollectorSnaps.{SeatsAreAll}
+use Rattle.mako_sitting.specs.Openings.{opening_scene, trace_facet, held_facet}
 use Rattle.mako_whole.proofs.AllBarriers.{openings_hold_barriers, servers_hold_barriers}
 use Rattle.mako_whole.proofs.AllBarriersMutator.{mutators_hold_barriers}
 use Rattle.mako_whole.proofs.AllGiftsSeats.{openings_give_none, mutators_keep_gifts, servers_keep_gifts}
@@ -51,10 +51,10 @@ use Rattle.mako_whole.proofs.AllHoused.{openings_are_housed, mutators_leave_hous
 use Rattle.mako_whole.proofs.AllNotices.{opening_notices, mutator_notices}
 use Rattle.mako_whole.proofs.AllNoticesServers.{server_notices}
 use Rattle.mako_whole.proofs.AllRuns.{words_are}
-use Rattle.mako_whole.proofs.CollectorFacets.{steps_add_no_facet}
-use Rattle.mako_whole.proofs.MutatorSteps.{mutators_keep_all}
-use Rattle.mako_whole.proofs.OpeningSits.{openings_sit}
-use Rattle.mako_whole.proofs.Telling.{fronts_answer, fronts_answer_to_end, freed_are_those, replies_are_told}
+use Rattle.mako_sitting_collector.proofs.CollectorFacets.{steps_add_no_facet}
+use Rattle.mako_sitting_mutators.proofs.MutatorSteps.{mutators_keep_all}
+use Rattle.mako_sitting.proofs.OpeningSits.{openings_sit}
+use Rattle.mako_sitting.proofs.Telling.{fronts_answer, fronts_answer_to_end, freed_are_those, replies_are_told}
 
 -- ---- a step
 

@@ -16,10 +16,10 @@ use Rattle.mako_state.specs.CoreStates.{CoreState, step_of}
 use Rattle.mako_mutating.specs.Mutators.{stepped}
 use Rattle.mako_collecting.specs.Steps.{words_next}
 use Rattle.mako_whole.specs.AllRuns.{SeatsSit}
-use Rattle.mako_whole.specs.CollectorGoing.{BarriersHold}
-use Rattle.mako_whole.specs.Openings.{opening_scene}
-use Rattle.mako_whole.specs.Seats.{AllSit}
-use Rattle.mako_whole.specs.ServerSteps.{server_stepped}
+use Rattle.mako_sitting_collector.specs.CollectorGoing.{BarriersHold}
+use Rattle.mako_sitting.specs.Openings.{opening_scene}
+use Rattle.mako_sitting.specs.Seats.{AllSit}
+use Rattle.mako_sitting_servers.specs.ServerSteps.{server_stepped}
 
 -- before the first step of a script
 abbrev pub OpeningsHoldBarriers : Type 0

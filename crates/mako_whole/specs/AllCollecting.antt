@@ -14,8 +14,8 @@ use Rattle.mako_seat.specs.declared.seat.Seat.TheVariants.{Collector}
 use Rattle.mako_state.specs.CoreStates.{CoreState, step_of}
 use Rattle.mako_joint.specs.Joints.{JointFacets}
 use Rattle.mako_whole.specs.AllRuns.{scene_in, SeatsSit}
-use Rattle.mako_whole.specs.CollectorGoing.{BarriersHold}
-use Rattle.mako_whole.specs.CollectorHears.{ReadAreHeard, GivenAreNext}
+use Rattle.mako_sitting_collector.specs.CollectorGoing.{BarriersHold}
+use Rattle.mako_sitting_collector.specs.CollectorHears.{ReadAreHeard, GivenAreNext}
 
 -- Each barrier slot has a name or nothing. At its notices the word that the collector has found stands in its slot yet,
 -- nothing is left of the servers that it has read, and the regions given up get spare with the next cycle; in its

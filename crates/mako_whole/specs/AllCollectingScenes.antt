@@ -22,9 +22,9 @@ use Rattle.mako_collecting.specs.Roles.{ChoiceOf}
 use Rattle.mako_collecting.specs.Steps.{stepped, polled, chosen}
 use Rattle.mako_whole.specs.AllCollecting.{FactsStand}
 use Rattle.mako_whole.specs.AllRuns.{scene_in, SeatsSit, CollectorCame}
-use Rattle.mako_whole.specs.CollectorFinishes.{FinishesOn}
-use Rattle.mako_whole.specs.CollectorHears.{HearsOn}
-use Rattle.mako_whole.specs.CollectorSnaps.{snapshot_taken}
+use Rattle.mako_sitting_collector.specs.CollectorFinishes.{FinishesOn}
+use Rattle.mako_sitting_collector.specs.CollectorHears.{HearsOn}
+use Rattle.mako_sitting_collector.specs.CollectorSnaps.{snapshot_taken}
 
 -- ---- the scene after its step
 

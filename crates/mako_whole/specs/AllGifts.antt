@@ -31,12 +31,12 @@ use Rattle.mako_tracing.specs.Laws.{server_next}
 use Rattle.mako_clearing.specs.Hearing.{noticing, hears_next, with_hearing, with_finish, IsReading}
 use Rattle.mako_collecting.specs.Roles.{role_of, ChoiceOf}
 use Rattle.mako_collecting.specs.Steps.{collector_next, stepped, polled, chosen}
-use Rattle.mako_whole.specs.Seats.{AllSit}
-use Rattle.mako_whole.specs.MutatorSteps.{mutator_next}
-use Rattle.mako_whole.specs.ServerSteps.{server_stepped}
-use Rattle.mako_whole.specs.CollectorSnaps.{storing, snapshot_taken}
-use Rattle.mako_whole.specs.CollectorHears.{GivenAreNext}
-use Rattle.mako_whole.specs.Openings.{opening_scene}
+use Rattle.mako_sitting.specs.Seats.{AllSit}
+use Rattle.mako_sitting_mutators.specs.MutatorSteps.{mutator_next}
+use Rattle.mako_sitting_servers.specs.ServerSteps.{server_stepped}
+use Rattle.mako_sitting_collector.specs.CollectorSnaps.{storing, snapshot_taken}
+use Rattle.mako_sitting_collector.specs.CollectorHears.{GivenAreNext}
+use Rattle.mako_sitting.specs.Openings.{opening_scene}
 
 -- ---- the relation
 

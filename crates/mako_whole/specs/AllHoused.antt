@@ -18,11 +18,11 @@ use Rattle.mako_mutating.specs.Mutators.{stepped}
 use Rattle.mako_tracing.specs.Laws.{server_next}
 use Rattle.mako_collecting.specs.Roles.{HasSpare}
 use Rattle.mako_collecting.specs.Steps.{words_next, collector_next}
-use Rattle.mako_whole.specs.CollectorHoused.{IsHoused}
-use Rattle.mako_whole.specs.MutatorSteps.{mutator_next}
-use Rattle.mako_whole.specs.Openings.{opening_scene}
-use Rattle.mako_whole.specs.Seats.{AllSit}
-use Rattle.mako_whole.specs.ServerSteps.{server_stepped}
+use Rattle.mako_sitting_collector.specs.CollectorHoused.{IsHoused}
+use Rattle.mako_sitting_mutators.specs.MutatorSteps.{mutator_next}
+use Rattle.mako_sitting.specs.Openings.{opening_scene}
+use Rattle.mako_sitting.specs.Seats.{AllSit}
+use Rattle.mako_sitting_servers.specs.ServerSteps.{server_stepped}
 
 -- nothing is asked of the other seats
 abbrev pub SeatIsHoused : Numbers → List ℕ → Seat → Type 0

@@ -23,12 +23,12 @@ use Rattle.mako_clearing.specs.Hearing.{notice_server, NoticeKnows, with_hearing
 use Rattle.mako_seat.specs.declared.seat.Seat.{Seat}
 use Rattle.mako_seat.specs.declared.seat.Seat.TheVariants.{Mutator, Server, Collector}
 use Rattle.mako_state.specs.Openings.{opening_seats}
-use Rattle.mako_whole.specs.Seats.{AllSit}
-use Rattle.mako_whole.specs.MutatorSteps.{mutator_next}
-use Rattle.mako_whole.specs.ServerSteps.{server_stepped, ServerGoesOn}
-use Rattle.mako_whole.specs.CollectorHears.{ReadAreHeard, HearsOn}
-use Rattle.mako_whole.specs.CollectorSnaps.{storing, snapshot_taken}
-use Rattle.mako_whole.specs.Openings.{opening_scene}
+use Rattle.mako_sitting.specs.Seats.{AllSit}
+use Rattle.mako_sitting_mutators.specs.MutatorSteps.{mutator_next}
+use Rattle.mako_sitting_servers.specs.ServerSteps.{server_stepped, ServerGoesOn}
+use Rattle.mako_sitting_collector.specs.CollectorHears.{ReadAreHeard, HearsOn}
+use Rattle.mako_sitting_collector.specs.CollectorSnaps.{storing, snapshot_taken}
+use Rattle.mako_sitting.specs.Openings.{opening_scene}
 
 -- ---- what stands
 

@@ -18,12 +18,12 @@ use Rattle.mako_seat.specs.declared.seat.Seat.{Seat}
 use Rattle.mako_seat.specs.declared.seat.Seat.TheVariants.{Mutator, Server, Collector}
 use Rattle.mako_state.specs.CoreStates.{CoreState, front_after, step_of}
 use Rattle.mako_joint.specs.Joints.{JointFacets, JointScene}
-use Rattle.mako_whole.specs.Seats.{AllSit}
-use Rattle.mako_whole.specs.CollectorSteps.{IsLook}
-use Rattle.mako_whole.specs.CollectorRounds.{IsRoundStore}
-use Rattle.mako_whole.specs.CollectorChoices.{IsOfChoice}
-use Rattle.mako_whole.specs.CollectorGates.{IsGateStore}
-use Rattle.mako_whole.specs.CollectorSnaps.{SeatsAreAll}
+use Rattle.mako_sitting.specs.Seats.{AllSit}
+use Rattle.mako_sitting_collector.specs.CollectorSteps.{IsLook}
+use Rattle.mako_sitting_collector.specs.CollectorRounds.{IsRoundStore}
+use Rattle.mako_sitting_collector.specs.CollectorChoices.{IsOfChoice}
+use Rattle.mako_sitting_collector.specs.CollectorGates.{IsGateStore}
+use Rattle.mako_sitting_collector.specs.CollectorSnaps.{SeatsAreAll}
 
 -- ---- states
 

@@ -19,13 +19,13 @@ use Rattle.mako_state.specs.CoreStates.{CoreState, step_of}
 use Rattle.mako_state.specs.Openings.{opening_core}
 use Rattle.mako_state.specs.Runs.{Reached}
 use Rattle.mako_joint.specs.Joints.{JointFacets}
-use Rattle.mako_whole.specs.Seats.{AllSit}
+use Rattle.mako_sitting.specs.Seats.{AllSit}
 use Rattle.mako_whole.specs.AllRuns.{scene_in}
 use Rattle.mako_whole.specs.AllGifts.{GiftsAreNext}
 use Rattle.mako_whole.specs.AllHoused.{AllHoused}
 use Rattle.mako_whole.specs.AllNotices.{NoticesStand}
-use Rattle.mako_whole.specs.CollectorGoing.{BarriersHold}
-use Rattle.mako_whole.specs.CollectorSnaps.{SeatsAreAll}
+use Rattle.mako_sitting_collector.specs.CollectorGoing.{BarriersHold}
+use Rattle.mako_sitting_collector.specs.CollectorSnaps.{SeatsAreAll}
 
 -- There are facets with which all seats sit. No facet stands behind those of the seats; each barrier slot has a name or
 -- nothing; of the servers that the collector has read nothing is left, and the notice that it has found stands; it

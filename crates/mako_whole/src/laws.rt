@@ -1,138 +1,20 @@
-//! Laws of all seats. The functions do nothing; what they ensure is for contracts and proofs.
+//! Laws of runs. The functions do nothing; what they ensure is for contracts and proofs.
 
-ghost use Rattle.mako_whole.specs.AllBarriers.{CollectorsHoldBarriers, MutatorsHoldBarriers, OpeningsHoldBarriers, ServersHoldBarriers, StepsHoldBarriers};
+ghost use Rattle.mako_whole.specs.AllBarriers.{CollectorsHoldBarriers, MutatorsHoldBarriers, OpeningsHoldBarriers};
+ghost use Rattle.mako_whole.specs.AllBarriers.{ServersHoldBarriers, StepsHoldBarriers};
 ghost use Rattle.mako_whole.specs.AllCollecting.{CollectorsKeepSeats, FindingsFit, NoticeRuns};
 ghost use Rattle.mako_whole.specs.AllCollectingScenes.{CameStand, CollectorsCome};
-ghost use Rattle.mako_whole.specs.AllGifts.{ChoicesKeepGifts, FinishKeepsGifts, HearingKeepsGifts, MutatorsKeepGifts, NoticesFindGifts, OpeningsGiveNone, PollsKeepGifts, ServersKeepGifts, SnapshotsKeepGifts, StepsKeepGifts};
-ghost use Rattle.mako_whole.specs.AllHoused.{AllHousedHaveSpares, CollectorsStayHoused, MutatorsLeaveHoused, OpeningsAreHoused, ServersLeaveHoused};
-ghost use Rattle.mako_whole.specs.AllNotices.{CollectorNotices, FinishNotices, HearingNotices, MutatorNotices, OpeningNotices, ServerNotices};
-ghost use Rattle.mako_whole.specs.AllRuns.{ChoiceRuns, CollectorRuns, EvacRuns, GateRuns, LookRuns, MutatorRuns, PollRuns, RoundStoreRuns, ServerRuns, SnapshotRuns, StopRuns};
-ghost use Rattle.mako_whole.specs.AllStanding.{AllRunsStand, CollectorStands, OpeningsStand, RunsAnswer, RunsAnswerToEnd, RunsFree, RunsReply, StepsCanGo, StepsStand};
-ghost use Rattle.mako_whole.specs.CollectorChoices.{ChoicesKeepAll, EvacKeepsAll, TracesStayOfSeats};
-ghost use Rattle.mako_whole.specs.CollectorFinishes.{FinishKeepsAll};
-ghost use Rattle.mako_whole.specs.CollectorGates.{GatesKeepAll, StopsKeepAll};
-ghost use Rattle.mako_whole.specs.CollectorGoing.{CollectorsCanGo, EmptyingLeavesNames, LooksFindNames, PutsLeaveNames};
-ghost use Rattle.mako_whole.specs.CollectorHears.{HearingKeepsAll};
-ghost use Rattle.mako_whole.specs.CollectorHoused.{ChoicesStayHoused, HousedHaveSpares};
-ghost use Rattle.mako_whole.specs.CollectorRounds.{PollsKeepAll, RoundStoresKeepAll};
-ghost use Rattle.mako_whole.specs.CollectorSnaps.{SnapshotsKeepAll, SnapshotsKeepGroups, StepsAddNoFacet, TiesHoldAtSnapshots};
-ghost use Rattle.mako_whole.specs.CollectorSteps.{LooksKeepAll};
-ghost use Rattle.mako_whole.specs.MutatorSteps.{MutatorsCanGo, MutatorsKeepAll};
-ghost use Rattle.mako_whole.specs.Openings.{OpeningsSit};
-ghost use Rattle.mako_whole.specs.ServerSteps.{ServersKeepAll};
-ghost use Rattle.mako_whole.specs.Telling.{SittingAlone, SittingAnswer, SittingAnswerToEnd, SittingApart, SittingEpochs, SittingFreed, SittingMarks, SittingMayWrite, SittingOneWriter, SittingRecords, SittingReplies};
-
-/// Each step of a server keeps all groups and all seats: at its turn, in its tracing, and where it evacuates. Its act
-/// is of a word that there is, and finds what the machine can go on with.
-pub fn servers_keep_all()
-    ensures { ServersKeepAll }
-{}
-
-/// A mutator can make its next step (`go`), and the step keeps all groups and all seats (`keep`): in each call, with
-/// its barrier, its moves and its news, where it waits for a cycle, and at the end of its program.
-pub fn mutators_keep_all_seats()
-    ensures go { MutatorsCanGo }
-    ensures keep { MutatorsKeepAll }
-{}
-
-/// All seats sit after each look of the collector that is told here: where no cycle runs, at the demand and at the
-/// finished word; and in a cycle at a gate that it drains, a root, the head of a work ring, a barrier slot and a work
-/// slot, and in the choice a tablet's live word and its top.
-pub fn looks_keep_all_seats()
-    ensures { LooksKeepAll }
-{}
-
-/// Before the first step of any script all seats sit.
-pub fn openings_sit()
-    ensures { OpeningsSit }
-{}
-
-/// Where all seats sit, the front answers the script, to its end once each mutator is at its end; each mutator has the
-/// replies of the history; and each finished cycle freed exactly the names that died in it.
-pub fn fronts_tell()
-    ensures answers { SittingAnswer }
-    ensures end { SittingAnswerToEnd }
-    ensures replies { SittingReplies }
-    ensures freed { SittingFreed }
-{}
-
-/// Each taken entry has its record, and records of two entries share no word. While a server copies records of a
-/// tablet, nobody is admitted there; who writes records of a tablet may do so, and is one seat at most.
-pub fn records_tell()
-    ensures each { SittingRecords }
-    ensures apart { SittingApart }
-    ensures alone { SittingAlone }
-    ensures may { SittingMayWrite }
-    ensures one { SittingOneWriter }
-{}
-
-/// Where tracing is complete, the marked names are exactly the good ones; and while servers evacuate, a taken entry
-/// has the epoch of the cycle or its name is dead.
-pub fn marks_tell()
-    ensures marks { SittingMarks }
-    ensures epochs { SittingEpochs }
-{}
-
-/// While servers trace all seats sit after each store of the collector into a ring, of a pending name into a work ring
-/// and of 0 into the barrier slot in which it found one (`stores`); and after each step of its poll, also where
-/// completion is told and the choice begins (`polls`).
-pub fn rounds_keep_all_seats()
-    ensures stores { RoundStoresKeepAll }
-    ensures polls { PollsKeepAll }
-{}
-
-/// So do they after each step of the choice of tablets up to the store of Evac (`steps`): where live words, tops and
-/// homes are loaded, and where a chosen tablet gets another region. Where a home is loaded, the tablet's server has to
-/// have a spare region left; so it is where the collector has found each home as it stored it (`spares`), which these
-/// steps keep (`housed`). And so do they after the store of Evac, where live counts end, as long as facets of tracing
-/// are those of the seats alone (`evac`), as each step of the collector leaves them (`traces`).
-pub fn choices_keep_all_seats()
-    ensures steps { ChoicesKeepAll }
-    ensures spares { HousedHaveSpares }
-    ensures housed { ChoicesStayHoused }
-    ensures evac { EvacKeepsAll }
-    ensures traces { TracesStayOfSeats }
-{}
-
-/// All seats sit after each store of the collector at a gate (`gates`): where it shuts a gate for a pause, and where it
-/// opens one after the snapshot or after the store of Evac. So they do after the store of Stop (`stop`).
-pub fn gates_keep_all_seats()
-    ensures gates { GatesKeepAll }
-    ensures stop { StopsKeepAll }
-{}
-
-/// Where no facet stands behind those of the seats: at the store of Trace the facets of each seat are of one machine,
-/// roots stand in their words, and no name is to be used but those of roots (`ties`). So all groups hold after the
-/// store, with the snapshot (`groups`), and all seats sit (`seats`). No step adds such a facet (`facets`).
-pub fn snapshots_keep_seats()
-    ensures ties { TiesHoldAtSnapshots }
-    ensures groups { SnapshotsKeepGroups }
-    ensures seats { SnapshotsKeepAll }
-    ensures facets { StepsAddNoFacet }
-{}
-
-/// All seats sit after each step in which the collector looks at the notices of a server, or takes one: its act can
-/// step, and what it takes is gone from what the server has sent. The word that it found has to stand in its slot
-/// yet, as it does after the step. Where nothing is left of the servers that it has read, and the regions given up
-/// are those that get spare with the next cycle, it is so after the step too.
-pub fn notices_keep_all_seats()
-    ensures { HearingKeepsAll }
-{}
-
-/// All seats sit after the store of Idle, with which the collector finishes the cycle: all servers are at their
-/// turns, the regions that tablets gave up are spare, and nothing is left of what servers have sent. It asks that
-/// nothing is left of the servers that the collector has read, and that the regions given up are those that get spare
-/// with the next cycle.
-pub fn finished_cycles_keep_all_seats()
-    ensures { FinishKeepsAll }
-{}
-
-/// The collector can make its next step: its act is of a word that there is, and finds what the machine can go on with.
-/// It asks that the barrier slot that it looks at has a name or nothing, and that the notice that it has found still
-/// stands in its slot.
-pub fn collectors_can_go()
-    ensures { CollectorsCanGo }
-{}
+ghost use Rattle.mako_whole.specs.AllGifts.{ChoicesKeepGifts, FinishKeepsGifts, HearingKeepsGifts, MutatorsKeepGifts};
+ghost use Rattle.mako_whole.specs.AllGifts.{NoticesFindGifts, OpeningsGiveNone, PollsKeepGifts, ServersKeepGifts};
+ghost use Rattle.mako_whole.specs.AllGifts.{SnapshotsKeepGifts, StepsKeepGifts};
+ghost use Rattle.mako_whole.specs.AllHoused.{AllHousedHaveSpares, CollectorsStayHoused, MutatorsLeaveHoused};
+ghost use Rattle.mako_whole.specs.AllHoused.{OpeningsAreHoused, ServersLeaveHoused};
+ghost use Rattle.mako_whole.specs.AllNotices.{CollectorNotices, FinishNotices, HearingNotices, MutatorNotices};
+ghost use Rattle.mako_whole.specs.AllNotices.{OpeningNotices, ServerNotices};
+ghost use Rattle.mako_whole.specs.AllRuns.{ChoiceRuns, CollectorRuns, EvacRuns, GateRuns, LookRuns, MutatorRuns};
+ghost use Rattle.mako_whole.specs.AllRuns.{PollRuns, RoundStoreRuns, ServerRuns, SnapshotRuns, StopRuns};
+ghost use Rattle.mako_whole.specs.AllStanding.{AllRunsStand, CollectorStands, OpeningsStand, RunsAnswer};
+ghost use Rattle.mako_whole.specs.AllStanding.{RunsAnswerToEnd, RunsFree, RunsReply, StepsCanGo, StepsStand};
 
 /// There are facets with which all seats sit in the state of a core after the step of a mutator (`mutators`) and of a
 /// server (`servers`), where there were before it; so it is after a step of the collector where its law gives all seats
@@ -169,14 +51,6 @@ pub fn collectors_keep_seats()
     ensures keep { CollectorsKeepSeats }
     ensures scenes { CollectorsCome }
     ensures stand { CameStand }
-{}
-
-/// Where each barrier slot has a name or nothing, the collector's look at one finds what it can go on with (`looks`).
-/// So it stays where slots are left or emptied (`emptied`), and where a name is stored into one (`put`).
-pub fn barriers_have_names()
-    ensures looks { LooksFindNames }
-    ensures emptied { EmptyingLeavesNames }
-    ensures put { PutsLeaveNames }
 {}
 
 /// Each barrier slot has a name or nothing: before the first step of any script (`openings`), and, where it is so and

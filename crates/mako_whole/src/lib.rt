@@ -1,4 +1,4 @@
-//! All seats in one state: what stands of every machine and of all words, while cycles run.
+//! All seats over runs of a core: what stands at the start, what each step of each seat keeps, and what that tells.
 #![tactic(auto)]
 
 pub mod laws;

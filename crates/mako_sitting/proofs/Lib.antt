@@ -1,0 +1,3 @@
+pub mod OpeningGroups
+pub mod OpeningSits
+pub mod Telling

@@ -1,0 +1,10 @@
+pub mod CollectorChoices
+pub mod CollectorFinishes
+pub mod CollectorGates
+pub mod CollectorGoing
+pub mod CollectorHears
+pub mod CollectorHoused
+pub mod CollectorLeaves
+pub mod CollectorRounds
+pub mod CollectorSnaps
+pub mod CollectorSteps

@@ -1,0 +1,14 @@
+pub mod MutatorBarriers
+pub mod MutatorBeside
+pub mod MutatorEnds
+pub mod MutatorEntries
+pub mod MutatorFinds
+pub mod MutatorHeld
+pub mod MutatorLeaves
+pub mod MutatorMarks
+pub mod MutatorPuts
+pub mod MutatorQuiet
+pub mod MutatorRings
+pub mod MutatorSteps
+pub mod MutatorTurns
+pub mod MutatorWords

@@ -1,0 +1,12 @@
+pub mod ServerAll
+pub mod ServerBeside
+pub mod ServerClears
+pub mod ServerCollector
+pub mod ServerCounts
+pub mod ServerEvacuates
+pub mod ServerFindings
+pub mod ServerFrames
+pub mod ServerPlaces
+pub mod ServerReaders
+pub mod ServerRests
+pub mod ServerSteps

@@ -1,5 +1,0 @@
-use Rattle.mako_whole.proofs.CollectorLooks.{looks_keep_all}
-use Rattle.mako_whole.proofs.laws.looks_keep_all_seats.Goals as goal
-
-pub returns : goal.returns
-returns c = looks_keep_all

@@ -1,5 +1,0 @@
-use Rattle.mako_whole.proofs.CollectorHears.{hearing_keeps_all}
-use Rattle.mako_whole.proofs.laws.notices_keep_all_seats.Goals as goal
-
-pub returns : goal.returns
-returns c = hearing_keeps_all

@@ -1,5 +1,0 @@
-use Rattle.mako_whole.proofs.OpeningSits.{openings_sit}
-use Rattle.mako_whole.proofs.laws.openings_sit.Goals as goal
-
-pub returns : goal.returns
-returns c = openings_sit

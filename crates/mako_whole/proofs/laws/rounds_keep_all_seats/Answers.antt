@@ -1,8 +1,0 @@
-use Rattle.mako_whole.proofs.CollectorRounds.{round_stores_keep_all, polls_keep_all}
-use Rattle.mako_whole.proofs.laws.rounds_keep_all_seats.Goals as goal
-
-pub returns-clause-stores : goal.returns-clause-stores
-returns-clause-stores c = round_stores_keep_all
-
-pub returns-clause-polls : goal.returns-clause-polls
-returns-clause-polls c = polls_keep_all

@@ -1,5 +1,0 @@
-use Rattle.mako_whole.proofs.ServerEvacuates.{servers_keep_all}
-use Rattle.mako_whole.proofs.laws.servers_keep_all.Goals as goal
-
-pub returns : goal.returns
-returns c = servers_keep_all
