@@ -1,5 +1,6 @@
 -- What steps of others leave to a server that evacuates.
-use Rattle.std.proofs.Common.{◌≡◌, ◌≢◌, ℕ, ◌+◌, ◌*◌, ◌<◌, ◌≤◌, ◌⊎◌, inl, inr, ⊎_elim, Bool, List, ◌++◌, set, sym, ap, subst, refl, ◌∙◌, arith}
+use Rattle.std.proofs.Common.{◌≡◌, ◌≢◌, ℕ, ◌+◌, ◌*◌, ◌<◌, ◌≤◌, ◌⊎◌, inl, inr, ⊎_elim, Bool, List, ◌++◌, set, sym, ap}
+use Rattle.std.proofs.Common.{subst, refl, ◌∙◌, arith}
 use Rattle.std.proofs.lemmas.Bool.{cases_lt}
 use Rattle.mako_words.specs.declared.name.Name.{Name}
 use Rattle.mako_words.specs.declared.entry_word.EntryWord.{EntryWord}
@@ -12,18 +13,23 @@ use Rattle.mako_words.specs.declared.notice_word.NoticeWord.TheVariants.{Freed}
 use Rattle.mako_step.specs.Acts.{words_stepped}
 use Rattle.mako_gate.specs.Bits.{shut_bit}
 use Rattle.mako_record.specs.declared.copier.CopyStage.{CopyStage}
-use Rattle.mako_record.specs.declared.copier.CopyStage.TheVariants.{LoadingTop, LoadingHeader, StoringHeader, LoadingField, StoringField, StoringEntry, RaisingTop, Ended as CopyEnded}
+use Rattle.mako_record.specs.declared.copier.CopyStage.TheVariants.{LoadingTop, LoadingHeader, StoringHeader}
+use Rattle.mako_record.specs.declared.copier.CopyStage.TheVariants.{LoadingField, StoringField, StoringEntry}
+use Rattle.mako_record.specs.declared.copier.CopyStage.TheVariants.{RaisingTop, Ended as CopyEnded}
 use Rattle.mako_record.specs.Copying as copying
 use Rattle.mako_record.specs.Copying.{Copying as Copy, copied_to}
 use Rattle.mako_evac.specs.declared.stage.EvacStage.{EvacStage}
 use Rattle.mako_evac.specs.declared.stage.EvacStage.TheVariants.{Evacuating, Freeing, AwaitingEnd, TellingEnd, Ended}
-use Rattle.mako_evac.specs.declared.tablet.TabletStage.TheVariants.{LoadingLeaving, Shutting, Draining, LoadingHome, LoadingEntry, Copying, Clearing, Reopening}
+use Rattle.mako_evac.specs.declared.tablet.TabletStage.TheVariants.{LoadingLeaving, Shutting, Draining, LoadingHome}
+use Rattle.mako_evac.specs.declared.tablet.TabletStage.TheVariants.{LoadingEntry, Copying, Clearing, Reopening}
 use Rattle.mako_evac.specs.declared.freeing.FreeStage.TheVariants.{Loading, Storing, Awaiting, Telling}
 use Rattle.mako_evac.specs.Freeing.{free_word, name_of}
 use Rattle.mako_shape.specs.Belongings.{tablet_of_entry}
 use Rattle.mako_shape.proofs.BelongingLaws.{belongings_in_range, word_after}
 use Rattle.mako_state.proofs.Words.{load_back}
-use Rattle.mako_shape.specs.Places.{Place, phase, demand, finished, mutator_gate, root, barrier, flags, work, ghost, notice, tablet_gate, turn, home, top, leaving, live, entry, region_word, index, Within, word_at}
+use Rattle.mako_shape.specs.Places.{Place, phase, demand, finished, mutator_gate, root, barrier, flags, work, ghost}
+use Rattle.mako_shape.specs.Places.{notice, tablet_gate, turn, home, top, leaving, live, entry, region_word, index}
+use Rattle.mako_shape.specs.Places.{Within, word_at}
 use Rattle.mako_shape.proofs.PlaceLaws.{word_other}
 use Rattle.mako_model.specs.Legal.{Facts, state_of}
 use Rattle.mako_model.proofs.Lists.{get_set_other}

@@ -1,5 +1,6 @@
 -- The collector finishes the cycle.
-use Rattle.std.proofs.Common.{◌≡◌, ℕ, ◌+◌, ◌*◌, ◌/◌, ◌%◌, ◌<◌, ◌≤◌, ◌^◌, ⊎_elim, Bool, true, List, length, map, set, slice_get, Some, option_map, sym, ap, subst, refl, ◌∙◌, arith, mul_assoc}
+use Rattle.std.proofs.Common.{◌≡◌, ℕ, ◌+◌, ◌*◌, ◌/◌, ◌%◌, ◌<◌, ◌≤◌, ◌^◌, ⊎_elim, Bool, true, List, length, map, set}
+use Rattle.std.proofs.Common.{slice_get, Some, option_map, sym, ap, subst, refl, ◌∙◌, arith, mul_assoc}
 use Rattle.std.proofs.lemmas.List.{length-map}
 use Rattle.std.proofs.lemmas.Option.{same_Some, slice_get_within, slice_get-map}
 use Rattle.mako_words.specs.declared.name.Name.{Name}
@@ -32,7 +33,8 @@ use Rattle.mako_layout.proofs.EachStep.{each_step_keeps}
 use Rattle.mako_pause.specs.Collecting.{Holdings, running}
 use Rattle.mako_pause.specs.declared.stage.NoticeStage.TheVariants.{StoringIdle}
 use Rattle.mako_phases.specs.Facets as phases
-use Rattle.mako_phases.specs.Facets.{Part, evacuating, ServerStage, PhaseFacet, mutating, serving, collecting, server, role_of, cycle_during}
+use Rattle.mako_phases.specs.Facets.{Part, evacuating, ServerStage, PhaseFacet, mutating, serving, collecting, server}
+use Rattle.mako_phases.specs.Facets.{role_of, cycle_during}
 use Rattle.mako_phases.specs.Steps as steps
 use Rattle.mako_phases.proofs.AllPhases.{phase_kept}
 use Rattle.mako_phases.proofs.Frames.{get_unmap, the_words}

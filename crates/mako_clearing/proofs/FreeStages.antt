@@ -1,5 +1,6 @@
 -- What is owed by the stages of a server past its tablets.
-use Rattle.std.proofs.Common.{◌≡◌, ◌≢◌, ℕ, ◌+◌, ◌-◌, ◌*◌, ◌<◌, ◌≤◌, ◌==◌, ◌&&◌, ◌⊎◌, inl, inr, Bool, true, false, not, List, [], set, slice_get, Some, sym, ap, subst, refl, ◌∙◌, arith, mul_assoc, add-mul}
+use Rattle.std.proofs.Common.{◌≡◌, ◌≢◌, ℕ, ◌+◌, ◌-◌, ◌*◌, ◌<◌, ◌≤◌, ◌==◌, ◌&&◌, ◌⊎◌, inl, inr, Bool, true, false, not}
+use Rattle.std.proofs.Common.{List, [], set, slice_get, Some, sym, ap, subst, refl, ◌∙◌, arith, mul_assoc, add-mul}
 use Rattle.mako_words.specs.declared.name.Name.{Name}
 use Rattle.mako_words.specs.declared.phase_word.PhaseWord.TheVariants.{Evac}
 use Rattle.mako_shape.specs.declared.numbers.Numbers.{Numbers}
@@ -31,7 +32,8 @@ use Rattle.mako_shades.proofs.Lists.{set_again}
 use Rattle.mako_joint.specs.Joints.{JointScene, names_in, layout_in, polls_in, phases_in, Joint}
 use Rattle.mako_joint.proofs.EachKind.{polls_stay}
 use Rattle.mako_joint.proofs.Pauses.{gates_drain}
-use Rattle.mako_clearing.specs.ClearingFacets.{server_seat, place_of, free_through, free_carries, stage_phase, stage_ended, stage_watch, stage_work, stage_through}
+use Rattle.mako_clearing.specs.ClearingFacets.{server_seat, place_of, free_through, free_carries, stage_phase}
+use Rattle.mako_clearing.specs.ClearingFacets.{stage_ended, stage_watch, stage_work, stage_through}
 use Rattle.mako_clearing.specs.Notices.{SendingStands}
 use Rattle.mako_clearing.specs.Clearing.{FreeKnows, ClearingStands, ClearingGoesOn}
 use Rattle.mako_clearing.proofs.Seated.{phase_is_evac, Owed, owner, Laid, laid_state}

@@ -1,5 +1,6 @@
 -- A server frees the entries of dead objects.
-use Rattle.std.proofs.Common.{◌≡◌, ◌≢◌, ℕ, ◌+◌, ◌≤◌, ◌⊎◌, Bool, true, false, List, [], ◌∷◌, ◌++◌, set, Some, sym, ap, subst, refl, ◌∙◌, arith}
+use Rattle.std.proofs.Common.{◌≡◌, ◌≢◌, ℕ, ◌+◌, ◌≤◌, ◌⊎◌, Bool, true, false, List, [], ◌∷◌, ◌++◌, set, Some, sym, ap}
+use Rattle.std.proofs.Common.{subst, refl, ◌∙◌, arith}
 use Rattle.std.proofs.lemmas.List.{append-nil}
 use Rattle.mako_words.specs.declared.name.Name.{Name}
 use Rattle.mako_words.specs.Entries.{entry_at}
@@ -32,7 +33,8 @@ use Rattle.mako_clearing.specs.Clearing.{IsDue, ClearingStands, ReadersMatch, Cl
 use Rattle.mako_clearing.proofs.Seated.{is_in_evac, Owed, owner}
 use Rattle.mako_clearing.proofs.Rings.{sending_stays}
 use Rattle.mako_clearing.proofs.Stages.{at_stage, Goes, loads, sends_none, known, sent_stays, finish, index_in}
-use Rattle.mako_clearing.proofs.FreeStages.{entry_is, place_below, dead_is, live_is, has_next, OwedFreeing, still, entry_next, to_free, order_as, layout_as}
+use Rattle.mako_clearing.proofs.FreeStages.{entry_is, place_below, dead_is, live_is, has_next, OwedFreeing, still}
+use Rattle.mako_clearing.proofs.FreeStages.{entry_next, to_free, order_as, layout_as}
 
 module _ (n : Numbers) (w : Facts) (s : JointScene) (server cycle ended : ℕ) (laden : Bool) (taker : ℕ)
     (j : Joint n w s) (at : ℕ) (sent : List Name) where

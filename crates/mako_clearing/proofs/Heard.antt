@@ -17,7 +17,8 @@ use Rattle.mako_layout.specs.StepParts.{collector_seat}
 use Rattle.mako_phases.specs.Facets.{Part, evacuating, IsInPause, PhaseFacet, mutating, collecting}
 use Rattle.mako_phases.specs.Orders.{PhaseOrder}
 use Rattle.mako_phases.proofs.Says.{part_phase}
-use Rattle.mako_joint.specs.Joints.{JointScene, layout_in, polls_in, TracksFit, IsClearing, GatesMatch, ChoiceFits, Joint}
+use Rattle.mako_joint.specs.Joints.{JointScene, layout_in, polls_in, TracksFit, IsClearing, GatesMatch, ChoiceFits}
+use Rattle.mako_joint.specs.Joints.{Joint}
 
 evac_choice : (c d told heard : ℕ) (k : Choice) → ChoiceFits (evacuating c told) k → ChoiceFits (evacuating d heard) k
 evac_choice c d told heard (rests_with spare) fits = absurd fits

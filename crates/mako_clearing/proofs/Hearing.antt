@@ -1,5 +1,7 @@
 -- The collector takes the notices of a server.
-use Rattle.std.proofs.Common.{◌≡◌, ◌≢◌, ℕ, suc, ◌+◌, ◌<◌, ◌≤◌, inl, inr, ⊎_elim, if◌then◌else◌, Bool, false, List, [], ◌∷◌, ◌++◌, length, set, slice_get, slice_index, sum_by, Some, sym, ap, subst, refl, ◌∙◌, arith, eq-eqb}
+use Rattle.std.proofs.Common.{◌≡◌, ◌≢◌, ℕ, suc, ◌+◌, ◌<◌, ◌≤◌, inl, inr, ⊎_elim, if◌then◌else◌, Bool, false, List, []}
+use Rattle.std.proofs.Common.{◌∷◌, ◌++◌, length, set, slice_get, slice_index, sum_by, Some, sym, ap, subst, refl, ◌∙◌}
+use Rattle.std.proofs.Common.{arith, eq-eqb}
 use Rattle.std.proofs.lemmas.List.{get_or-set_same, length-set, length_push}
 use Rattle.std.proofs.lemmas.List.Elements.{All-set}
 use Rattle.std.proofs.lemmas.Bool.{cases_eq, ne_eqb}
@@ -24,7 +26,8 @@ use Rattle.mako_shades.proofs.Lists.{set_again}
 use Rattle.mako_pause.specs.Collecting.{Holdings, running, NoticedFits}
 use Rattle.mako_pause.specs.Keeping.{IsKeptKnown, NoticeIsKnown}
 use Rattle.mako_pause.specs.declared.stage.NoticeStage.{NoticeStage}
-use Rattle.mako_pause.specs.declared.stage.NoticeStage.TheVariants.{Looking as NoticeLook, Clearing as NoticeClear, StoringIdle}
+use Rattle.mako_pause.specs.declared.stage.NoticeStage.TheVariants.{Looking as NoticeLook, Clearing as NoticeClear}
+use Rattle.mako_pause.specs.declared.stage.NoticeStage.TheVariants.{StoringIdle}
 use Rattle.mako_evac.proofs.Bounds.{after_below}
 use Rattle.mako_layout.specs.Evacuations.{Evacuation as Layout}
 use Rattle.mako_layout.specs.StepParts.{collector_seat}
@@ -37,7 +40,9 @@ use Rattle.mako_joint.specs.Joints.{JointScene, layout_in, polls_in, phases_in, 
 use Rattle.mako_joint.proofs.EachKind.{polls_stay}
 use Rattle.mako_joint.proofs.Pauses.{gates_drain}
 use Rattle.mako_clearing.specs.Notices.{RingTells}
-use Rattle.mako_clearing.specs.Hearing.{notice_server, notice_part, notice_gathers, HearingStands, IsSender, NoticeKnows, with_hearing, noticing, words_next, hears_next, HearingGoesOn, IsReading, KeepsLists, HearingKeeps}
+use Rattle.mako_clearing.specs.Hearing.{notice_server, notice_part, notice_gathers, HearingStands, IsSender}
+use Rattle.mako_clearing.specs.Hearing.{NoticeKnows, with_hearing, noticing, words_next, hears_next, HearingGoesOn}
+use Rattle.mako_clearing.specs.Hearing.{IsReading, KeepsLists, HearingKeeps}
 use Rattle.mako_clearing.proofs.Rings.{Ends, taken, taken_words}
 use Rattle.mako_clearing.proofs.Stages.{phase_stays, names_else, layout_else, index_in}
 use Rattle.mako_clearing.proofs.Rooms.{freed_are_few}

@@ -1,5 +1,6 @@
 -- What the collector's steps at notices leave to servers that evacuate.
-use Rattle.std.proofs.Common.{◌≡◌, ◌≢◌, ℕ, ◌*◌, ◌<◌, ◌⊎◌, inl, inr, ⊎_elim, List, set, slice_index, sym, ap, subst, refl, ◌∙◌, arith}
+use Rattle.std.proofs.Common.{◌≡◌, ◌≢◌, ℕ, ◌*◌, ◌<◌, ◌⊎◌, inl, inr, ⊎_elim, List, set, slice_index, sym, ap, subst}
+use Rattle.std.proofs.Common.{refl, ◌∙◌, arith}
 use Rattle.std.proofs.lemmas.Bool.{cases_eq}
 use Rattle.mako_words.specs.declared.name.Name.{Name}
 use Rattle.mako_shape.specs.declared.numbers.Numbers.{Numbers}
@@ -12,7 +13,8 @@ use Rattle.mako_evac.specs.Evacuating.{Evacuation, IsKnown}
 use Rattle.mako_evac.proofs.Bounds.{entry_within}
 use Rattle.mako_pause.specs.Collecting.{Holdings}
 use Rattle.mako_pause.specs.declared.stage.NoticeStage.{NoticeStage}
-use Rattle.mako_pause.specs.declared.stage.NoticeStage.TheVariants.{Looking as NoticeLook, Clearing as NoticeClear, StoringIdle}
+use Rattle.mako_pause.specs.declared.stage.NoticeStage.TheVariants.{Looking as NoticeLook, Clearing as NoticeClear}
+use Rattle.mako_pause.specs.declared.stage.NoticeStage.TheVariants.{StoringIdle}
 use Rattle.mako_state.proofs.Words.{load_back}
 use Rattle.mako_joint.specs.Joints.{JointScene, Joint}
 use Rattle.mako_clearing.specs.ClearingFacets.{stage_carries}

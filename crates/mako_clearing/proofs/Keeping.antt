@@ -8,19 +8,22 @@ use Rattle.mako_evac.specs.declared.stage.EvacStage.{EvacStage}
 use Rattle.mako_evac.specs.declared.stage.EvacStage.TheVariants.{Evacuating, Freeing, AwaitingEnd, TellingEnd, Ended}
 use Rattle.mako_evac.specs.declared.freeing.FreeStage.TheVariants.{Loading, Storing, Awaiting, Telling}
 use Rattle.mako_evac.specs.declared.tablet.TabletStage.{TabletStage}
-use Rattle.mako_evac.specs.declared.tablet.TabletStage.TheVariants.{LoadingLeaving, Shutting, Draining, LoadingHome, LoadingEntry, Copying, Clearing, Reopening}
+use Rattle.mako_evac.specs.declared.tablet.TabletStage.TheVariants.{LoadingLeaving, Shutting, Draining, LoadingHome}
+use Rattle.mako_evac.specs.declared.tablet.TabletStage.TheVariants.{LoadingEntry, Copying, Clearing, Reopening}
 use Rattle.mako_record.specs.declared.copier.CopyStage.{CopyStage}
 use Rattle.mako_record.specs.declared.copier.CopyStage.TheVariants as copy
 use Rattle.mako_record.specs.Copying.{Copying as Copy}
 use Rattle.mako_words.specs.declared.entry_word.EntryWord.{EntryWord}
 use Rattle.mako_evac.specs.Evacuating.{next_of}
 use Rattle.mako_joint.specs.Joints.{JointScene, Joint}
-use Rattle.mako_clearing.specs.Clearing.{ClearingStands, ReadersMatch, ObjectsAreSmall, ClearingGoesOn, IsFreeing, FreeingKeeps, IsAtTablet, TabletsKeep}
+use Rattle.mako_clearing.specs.Clearing.{ClearingStands, ReadersMatch, ObjectsAreSmall, ClearingGoesOn, IsFreeing}
+use Rattle.mako_clearing.specs.Clearing.{FreeingKeeps, IsAtTablet, TabletsKeep}
 use Rattle.mako_clearing.proofs.Freeing.{loading_kept, storing_kept}
 use Rattle.mako_clearing.proofs.Telling.{awaiting_kept, awaiting_end_kept, telling_kept, telling_end_kept}
 use Rattle.mako_clearing.proofs.Tablets.{leaving_loaded, gate_shut, gate_looked, gate_reopened}
 use Rattle.mako_clearing.proofs.Records.{home_loaded, entry_loaded, leaving_cleared}
-use Rattle.mako_clearing.proofs.Copies.{copier, copies, top_loaded, header_loaded, field_loaded, header_stored, field_stored}
+use Rattle.mako_clearing.proofs.Copies.{copier, copies, top_loaded, header_loaded, field_loaded, header_stored}
+use Rattle.mako_clearing.proofs.Copies.{field_stored}
 use Rattle.mako_clearing.proofs.CopyEnds.{entry_stored, top_raised}
 use Rattle.mako_clearing.proofs.Stages.{at_stage}
 

@@ -1,5 +1,6 @@
 -- A server goes over the entries of a tablet.
-use Rattle.std.proofs.Common.{◌≡◌, ℕ, ◌+◌, ◌-◌, ◌*◌, ◌<◌, ◌≤◌, ◌==◌, ◌&&◌, Bool, true, false, not, List, set, Some, sym, ap, subst, refl, ◌∙◌, arith, nat_lt}
+use Rattle.std.proofs.Common.{◌≡◌, ℕ, ◌+◌, ◌-◌, ◌*◌, ◌<◌, ◌≤◌, ◌==◌, ◌&&◌, Bool, true, false, not, List, set, Some, sym}
+use Rattle.std.proofs.Common.{ap, subst, refl, ◌∙◌, arith, nat_lt}
 use Rattle.mako_words.specs.declared.name.Name.{Name}
 use Rattle.mako_words.specs.declared.entry_word.EntryWord.{EntryWord}
 use Rattle.mako_words.specs.declared.phase_word.PhaseWord.TheVariants.{Evac}
@@ -20,7 +21,8 @@ use Rattle.mako_evac.specs.declared.owner.Owner.{Owner}
 use Rattle.mako_evac.specs.declared.stage.EvacStage.{EvacStage}
 use Rattle.mako_evac.specs.declared.stage.EvacStage.TheVariants.{Evacuating}
 use Rattle.mako_evac.specs.declared.tablet.TabletStage.{TabletStage}
-use Rattle.mako_evac.specs.declared.tablet.TabletStage.TheVariants.{LoadingHome, LoadingEntry, Copying, Clearing, Reopening}
+use Rattle.mako_evac.specs.declared.tablet.TabletStage.TheVariants.{LoadingHome, LoadingEntry, Copying, Clearing}
+use Rattle.mako_evac.specs.declared.tablet.TabletStage.TheVariants.{Reopening}
 use Rattle.mako_evac.specs.Owners.{first_entry, is_left, IsEntryOf}
 use Rattle.mako_evac.specs.Passing.{at_record}
 use Rattle.mako_evac.proofs.Bounds.{record_within}
@@ -40,7 +42,8 @@ use Rattle.mako_clearing.specs.ClearingFacets.{server_seat, tablet_watch, tablet
 use Rattle.mako_clearing.specs.Clearing.{ClearingStands, ClearingGoesOn}
 use Rattle.mako_clearing.proofs.Seated.{Laid, laid_state, laid, seated, work_moved, words_moved, gate_moved, owner}
 use Rattle.mako_clearing.proofs.Stages.{at_stage, Goes, loads, sends_none, finish, index_in}
-use Rattle.mako_clearing.proofs.Tablets.{behind_is, tablet_is, OwedHere, to_stage, tablet_in, evac_is, seat_here, still, stored_here}
+use Rattle.mako_clearing.proofs.Tablets.{behind_is, tablet_is, OwedHere, to_stage, tablet_in, evac_is, seat_here, still}
+use Rattle.mako_clearing.proofs.Tablets.{stored_here}
 
 -- ---- what a test of an entry means
 

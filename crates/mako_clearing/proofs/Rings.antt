@@ -1,5 +1,6 @@
 -- A notice ring through the steps of its server, of the collector and of others.
-use Rattle.std.proofs.Common.{◌≡◌, ◌≢◌, ℕ, ◌+◌, ◌%◌, ◌<◌, ◌⊎◌, inl, inr, ⊎_elim, if◌then◌else◌, Bool, true, false, List, [], ◌∷◌, ◌++◌, length, set, sym, ap, subst, refl, ◌∙◌, arith}
+use Rattle.std.proofs.Common.{◌≡◌, ◌≢◌, ℕ, ◌+◌, ◌%◌, ◌<◌, ◌⊎◌, inl, inr, ⊎_elim, if◌then◌else◌, Bool, true, false, List}
+use Rattle.std.proofs.Common.{[], ◌∷◌, ◌++◌, length, set, sym, ap, subst, refl, ◌∙◌, arith}
 use Rattle.std.proofs.Math.Nat.{mod-eq_of_lt}
 use Rattle.std.proofs.lemmas.List.{append-nil, map-append}
 use Rattle.std.proofs.lemmas.List.Elements.{Contains-push_cases}
@@ -14,7 +15,8 @@ use Rattle.mako_shape.proofs.PlaceLaws.{word_same, word_other}
 use Rattle.mako_step.proofs.Cases.{by_eq}
 use Rattle.mako_phases.proofs.Members.{first_in, later_in}
 use Rattle.mako_ring.specs.Contents.{content, OthersEmpty, NextPlace, SlotWritten, after_place}
-use Rattle.mako_ring.proofs.Contents.{Holds, content_holds, holds_content, holds_others, put_appends, take_removes_the_first}
+use Rattle.mako_ring.proofs.Contents.{Holds, content_holds, holds_content, holds_others, put_appends}
+use Rattle.mako_ring.proofs.Contents.{take_removes_the_first}
 use Rattle.mako_ring.proofs.Turns.{place_below, full_turn}
 use Rattle.mako_evac.proofs.Bounds.{after_below}
 use Rattle.mako_clearing.specs.Notices.{notice_slots, freed_words, end_words, RingTells, SameNotices, SendingStays}

@@ -1,5 +1,6 @@
 -- The groups put together for a step of a server that evacuates: each is told at the server's seat.
-use Rattle.std.proofs.Common.{◌≡◌, ◌≢◌, ℕ, ◌+◌, ◌<◌, ◌≤◌, ◌⊎◌, inl, inr, ⊎_elim, Bool, List, set, slice_get, Some, sym, ap, subst, refl, ◌∙◌, arith}
+use Rattle.std.proofs.Common.{◌≡◌, ◌≢◌, ℕ, ◌+◌, ◌<◌, ◌≤◌, ◌⊎◌, inl, inr, ⊎_elim, Bool, List, set, slice_get, Some, sym}
+use Rattle.std.proofs.Common.{ap, subst, refl, ◌∙◌, arith}
 use Rattle.std.proofs.lemmas.Bool.{cases_lt}
 use Rattle.std.proofs.lemmas.List.{set-set}
 use Rattle.std.proofs.lemmas.Option.{same_Some}
@@ -21,7 +22,8 @@ use Rattle.mako_words.specs.declared.entry_word.EntryWord.{EntryWord}
 use Rattle.mako_evac.specs.declared.owner.Owner.{Owner}
 use Rattle.mako_evac.specs.declared.stage.EvacStage.{EvacStage}
 use Rattle.mako_evac.specs.declared.stage.EvacStage.TheVariants.{Evacuating, Freeing, AwaitingEnd, TellingEnd, Ended}
-use Rattle.mako_evac.specs.declared.tablet.TabletStage.TheVariants.{LoadingLeaving, Shutting, Draining, LoadingHome, LoadingEntry, Copying, Clearing, Reopening}
+use Rattle.mako_evac.specs.declared.tablet.TabletStage.TheVariants.{LoadingLeaving, Shutting, Draining, LoadingHome}
+use Rattle.mako_evac.specs.declared.tablet.TabletStage.TheVariants.{LoadingEntry, Copying, Clearing, Reopening}
 use Rattle.mako_evac.specs.Evacuating.{Evacuation}
 use Rattle.mako_layout.specs.Facets.{Work, Choice, rests_with, chooses, has_chosen, debt_of, settled}
 use Rattle.mako_layout.specs.Evacuations.{State, Evacuation as Layout, Seat}
@@ -29,13 +31,17 @@ use Rattle.mako_layout.specs.Beside.{IsReading}
 use Rattle.mako_layout.specs.Steps.{Step}
 use Rattle.mako_layout.specs.StepParts.{at_gate, at_work}
 use Rattle.mako_layout.proofs.EachStep.{each_step_keeps}
-use Rattle.mako_phases.specs.Facets.{Part, idle, pausing, rooting, tracing, choosing, evacuating, stopped, ServerStage, clearing, freeing, resting, working, gone, PhaseFacet, mutating, serving, collecting, Admission, phase_during}
+use Rattle.mako_phases.specs.Facets.{Part, idle, pausing, rooting, tracing, choosing, evacuating, stopped, ServerStage}
+use Rattle.mako_phases.specs.Facets.{clearing, freeing, resting, working, gone, PhaseFacet, mutating, serving}
+use Rattle.mako_phases.specs.Facets.{collecting, Admission, phase_during}
 use Rattle.mako_phases.specs.Orders.{PhaseOrder, ServerFits}
 use Rattle.mako_phases.proofs.Says.{part_phase}
 use Rattle.mako_state.specs.Works.{copy_work}
-use Rattle.mako_joint.specs.Joints.{JointScene, trace_in, layout_in, polls_in, TracksFit, IsClearing, IsOutsideWith, HasDrainedAll, GatesMatch, ChoiceFits, Joint}
+use Rattle.mako_joint.specs.Joints.{JointScene, trace_in, layout_in, polls_in, TracksFit, IsClearing, IsOutsideWith}
+use Rattle.mako_joint.specs.Joints.{HasDrainedAll, GatesMatch, ChoiceFits, Joint}
 use Rattle.mako_joint.proofs.EachKind.{works_held}
-use Rattle.mako_clearing.specs.ClearingFacets.{server_seat, stage_phase, stage_ended, stage_watch, stage_work, stage_through}
+use Rattle.mako_clearing.specs.ClearingFacets.{server_seat, stage_phase, stage_ended, stage_watch, stage_work}
+use Rattle.mako_clearing.specs.ClearingFacets.{stage_through}
 use Rattle.mako_clearing.specs.Clearing.{with_evacuation}
 
 -- ---- of the facets

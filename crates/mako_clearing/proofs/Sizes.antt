@@ -1,5 +1,6 @@
 -- A point leaves each object its number of fields.
-use Rattle.std.proofs.Common.{◌≡◌, ⊎_elim, List, length, set, replicate, Some, None, sym, ap, subst, refl, ◌∙◌, length-set}
+use Rattle.std.proofs.Common.{◌≡◌, ⊎_elim, List, length, set, replicate, Some, None, sym, ap, subst, refl, ◌∙◌}
+use Rattle.std.proofs.Common.{length-set}
 use Rattle.std.proofs.lemmas.Option.{same_Some, none-some}
 use Rattle.mako_words.specs.declared.name.Name.{Name}
 use Rattle.mako_words.specs.declared.value.Value.{Value}

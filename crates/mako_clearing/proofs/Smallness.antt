@@ -1,5 +1,7 @@
 -- Objects are small, since programs ask for small ones.
-use Rattle.std.proofs.Common.{◌≡◌, ℕ, zero, suc, ◌+◌, ◌<◌, ◌≤◌, ⊎_elim, List, [], ◌∷◌, ◌++◌, length, get_or, set, replicate, slice_get, Contains, Some, sym, ap, subst, refl, arith, eq-eqb, ne_eqb, length-set}
+use Rattle.std.proofs.Common.{◌≡◌, ℕ, zero, suc, ◌+◌, ◌<◌, ◌≤◌, ⊎_elim, List, [], ◌∷◌, ◌++◌, length, get_or, set}
+use Rattle.std.proofs.Common.{replicate, slice_get, Contains, Some, sym, ap, subst, refl, arith, eq-eqb, ne_eqb}
+use Rattle.std.proofs.Common.{length-set}
 use Rattle.std.specs.FinMap as map
 use Rattle.std.specs.List.{fold}
 use Rattle.std.proofs.lemmas.Bool.{cases_eq, cases_lt}

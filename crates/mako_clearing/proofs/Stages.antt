@@ -32,7 +32,8 @@ use Rattle.mako_phases.specs.Facets.{serving}
 use Rattle.mako_phases.specs.Orders.{PhaseOrder}
 use Rattle.mako_state.proofs.Words.{load_back, sets_words}
 use Rattle.mako_joint.specs.Joints.{JointScene, names_in, layout_in, Joint}
-use Rattle.mako_clearing.specs.ClearingFacets.{server_seat, stage_phase, stage_ended, stage_watch, stage_work, stage_through, stage_carries, stage_sends}
+use Rattle.mako_clearing.specs.ClearingFacets.{server_seat, stage_phase, stage_ended, stage_watch, stage_work}
+use Rattle.mako_clearing.specs.ClearingFacets.{stage_through, stage_carries, stage_sends}
 use Rattle.mako_clearing.specs.Notices.{SendingStands}
 use Rattle.mako_clearing.specs.Clearing.{StageKnows, tells_end, ClearingStands, with_evacuation, ClearingGoesOn}
 use Rattle.mako_clearing.proofs.Seated.{server_known, Works, Owed, joined, to_stage, owner}

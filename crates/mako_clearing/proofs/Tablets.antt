@@ -1,6 +1,7 @@
 -- The stages of a server at a tablet, but for the copies.
 use Rattle.std.specs.Prelude.{bit_or, bit_and}
-use Rattle.std.proofs.Common.{◌≡◌, ◌≢◌, ℕ, ◌+◌, ◌-◌, ◌*◌, ◌<◌, ◌≤◌, inl, Bool, false, if◌then◌else◌, List, [], set, sym, ap, subst, refl, ◌∙◌, arith, eq-eqb, add-mul}
+use Rattle.std.proofs.Common.{◌≡◌, ◌≢◌, ℕ, ◌+◌, ◌-◌, ◌*◌, ◌<◌, ◌≤◌, inl, Bool, false, if◌then◌else◌, List, [], set, sym}
+use Rattle.std.proofs.Common.{ap, subst, refl, ◌∙◌, arith, eq-eqb, add-mul}
 use Rattle.std.proofs.lemmas.Bool.{ne_eqb}
 use Rattle.mako_words.specs.declared.name.Name.{Name}
 use Rattle.mako_words.specs.declared.phase_word.PhaseWord.TheVariants.{Evac}
@@ -28,7 +29,8 @@ use Rattle.mako_evac.specs.declared.owner.Owner.{Owner}
 use Rattle.mako_evac.specs.declared.stage.EvacStage.{EvacStage}
 use Rattle.mako_evac.specs.declared.stage.EvacStage.TheVariants.{Evacuating, Freeing}
 use Rattle.mako_evac.specs.declared.tablet.TabletStage.{TabletStage}
-use Rattle.mako_evac.specs.declared.tablet.TabletStage.TheVariants.{LoadingLeaving, Shutting, Draining, LoadingHome, Reopening}
+use Rattle.mako_evac.specs.declared.tablet.TabletStage.TheVariants.{LoadingLeaving, Shutting, Draining, LoadingHome}
+use Rattle.mako_evac.specs.declared.tablet.TabletStage.TheVariants.{Reopening}
 use Rattle.mako_evac.specs.declared.freeing.FreeStage.TheVariants.{Loading}
 use Rattle.mako_evac.specs.Owners.{first_tablet, tablets_end, first_entry, IsOwnTablet}
 use Rattle.mako_evac.specs.Passing.{at_tablet}
@@ -54,7 +56,8 @@ use Rattle.mako_clearing.specs.Notices.{SendingStands, SameNotices}
 use Rattle.mako_clearing.specs.Clearing.{TabletKnows, ClearingStands, ClearingGoesOn, with_evacuation}
 use Rattle.mako_clearing.proofs.Seated.{Laid, laid, seated, gate_moved, owner, phase_is_evac, is_settled}
 use Rattle.mako_clearing.proofs.Rings.{sending_stays}
-use Rattle.mako_clearing.proofs.Stages.{at_stage, Goes, loads, sends_none, known, names_stay, order_stays, finish, phase_stays, names_else, index_in}
+use Rattle.mako_clearing.proofs.Stages.{at_stage, Goes, loads, sends_none, known, names_stay, order_stays, finish}
+use Rattle.mako_clearing.proofs.Stages.{phase_stays, names_else, index_in}
 
 -- ---- tablets and their entries
 

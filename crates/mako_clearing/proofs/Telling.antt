@@ -30,7 +30,8 @@ use Rattle.mako_clearing.specs.ClearingFacets.{server_seat, place_of}
 use Rattle.mako_clearing.specs.Clearing.{ClearingStands, ClearingGoesOn}
 use Rattle.mako_clearing.proofs.Seated.{phase_is_evac, Owed, owner}
 use Rattle.mako_clearing.proofs.Rings.{name_put, end_put}
-use Rattle.mako_clearing.proofs.Stages.{at_stage, Goes, loads, sends_none, known, finish, phase_stays, names_else, layout_else, index_in}
+use Rattle.mako_clearing.proofs.Stages.{at_stage, Goes, loads, sends_none, known, finish, phase_stays, names_else}
+use Rattle.mako_clearing.proofs.Stages.{layout_else, index_in}
 use Rattle.mako_clearing.proofs.FreeStages.{OwedFreeing, still, noticed, entry_next, to_free, names_as, layout_as}
 
 module _ (n : Numbers) (w : Facts) (s : JointScene) (server cycle ended : ℕ) (laden : Bool) (taker : ℕ)

@@ -24,7 +24,8 @@ use Rattle.mako_evac.specs.Evacuating.{Evacuation, next_of, fed, Fits, IsKnown}
 use Rattle.mako_layout.specs.Evacuations.{slot_at}
 use Rattle.mako_phases.specs.Facets.{evacuating, serving, collecting}
 use Rattle.mako_joint.specs.Joints.{JointScene, layout_in, Joint}
-use Rattle.mako_clearing.specs.ClearingFacets.{server_seat, clearing_phase, clearing_ended, clearing_gate, clearing_work, clearing_through, stage_carries, stage_sends}
+use Rattle.mako_clearing.specs.ClearingFacets.{server_seat, clearing_phase, clearing_ended, clearing_gate}
+use Rattle.mako_clearing.specs.ClearingFacets.{clearing_work, clearing_through, stage_carries, stage_sends}
 use Rattle.mako_clearing.specs.Notices.{SendingStands}
 
 -- ---- what it keeps of itself and of words

@@ -1,5 +1,6 @@
 -- The collector takes the servers' notices, and finishes the cycle.
-use Rattle.std.specs.Prelude.{ℕ, Bool, false, ◌≡◌, ◌≢◌, ◌+◌, ◌<◌, ◌≤◌, List, [], ◌∷◌, ◌++◌, slice_get, slice_set, slice_index, length, Some}
+use Rattle.std.specs.Prelude.{ℕ, Bool, false, ◌≡◌, ◌≢◌, ◌+◌, ◌<◌, ◌≤◌, List, [], ◌∷◌, ◌++◌, slice_get, slice_set}
+use Rattle.std.specs.Prelude.{slice_index, length, Some}
 use Rattle.mako_words.specs.declared.name.Name.{Name}
 use Rattle.mako_words.specs.declared.notice_word.NoticeWord.TheVariants.{Freed, Done}
 use Rattle.mako_words.specs.Notices.{notice_at}
@@ -15,7 +16,8 @@ use Rattle.mako_names.specs.Notices.{Gathering}
 use Rattle.mako_pause.specs.Collecting.{Holdings, Collecting, running, at, next_of, fed, Fits}
 use Rattle.mako_pause.specs.Keeping.{IsKeptKnown, NoticeIsKnown}
 use Rattle.mako_pause.specs.declared.stage.NoticeStage.{NoticeStage}
-use Rattle.mako_pause.specs.declared.stage.NoticeStage.TheVariants.{Looking as NoticeLook, Clearing as NoticeClear, StoringIdle}
+use Rattle.mako_pause.specs.declared.stage.NoticeStage.TheVariants.{Looking as NoticeLook, Clearing as NoticeClear}
+use Rattle.mako_pause.specs.declared.stage.NoticeStage.TheVariants.{StoringIdle}
 use Rattle.mako_pause.specs.declared.stage.CollectStage.TheVariants.{Noticing}
 use Rattle.mako_layout.specs.Facets.{Gift, rests_with, has_chosen, times_in}
 use Rattle.mako_layout.specs.Evacuations.{layout}

@@ -1,5 +1,6 @@
 -- What a command comes to, from what was read, and what is told of it.
-use Rattle.std.specs.Prelude.{ℕ, ◌≡◌, ◌≤◌, ◌<◌, ◌*◌, ◌⊎◌, Bool, true, false, List, [], length, take, map, codes, Some, IfSome}
+use Rattle.std.specs.Prelude.{ℕ, ◌≡◌, ◌≤◌, ◌<◌, ◌*◌, ◌⊎◌, Bool, true, false, List, [], length, take, map, codes, Some}
+use Rattle.std.specs.Prelude.{IfSome}
 use Rattle.std.specs.declared.option.Option.{Option}
 use Rattle.std.specs.Io.KnownBytes.{Appends}
 use Rattle.mako_io.specs.Streams.{TakesMore}
@@ -27,7 +28,8 @@ use Rattle.mako_command.specs.declared.line.CommandLine.{CommandLine}
 use Rattle.mako_command.specs.declared.line.CommandLine.TheVariants.{Replay, Gen, Count, Load}
 use Rattle.mako_cli.specs.declared.ended.Ended.{Ended}
 use Rattle.mako_cli.specs.declared.settled.Settled.{Settled}
-use Rattle.mako_cli.specs.declared.settled.Settled.TheVariants.{Replayed, Generated, Counted, Loaded, Usage, NoScript, ReadFault, Memory}
+use Rattle.mako_cli.specs.declared.settled.Settled.TheVariants.{Replayed, Generated, Counted, Loaded, Usage, NoScript}
+use Rattle.mako_cli.specs.declared.settled.Settled.TheVariants.{ReadFault, Memory}
 
 -- the greatest number of bytes of a script
 abbrev pub max_bytes : ℕ
@@ -93,7 +95,8 @@ abbrev pub AnswersAs : Bool → Facts → Seen → Type 0
 AnswersAs true facts front = AnswersToEnd facts front
 AnswersAs false facts front = Answers facts front
 
--- The front is that of the script's run in this order with at most so many steps, which ended so. It answers the script.
+-- The front is that of the script's run in this order with at most so many steps, which ended so. It answers the
+-- script.
 pub record IsFrontOf (order : Order) (steps : ℕ) (script : ScriptView) (finished : Bool) (front : Seen) : Type 0 where
   pub run : front ≡ (after script order steps).state.front
   pub ending : EndsAs finished script steps (after script order steps)
@@ -121,7 +124,8 @@ Settles order steps old new rose (NoScript kind line) = IsUnread old new kind li
 Settles order steps old new rose ReadFault = rose
 Settles order steps old new rose Memory = Unit {0}
 
--- the outcome of a run has the replies and the cycles of its front, a list of replies for each program, and the front follows the programs
+-- the outcome of a run has the replies and the cycles of its front, a list of replies for each program, and the front
+-- follows the programs
 abbrev pub IsTellable : Settled → Type 0
 IsTellable (Replayed script replayed) = outcomes.IsWhole replayed.outcome × outcomes.AreCyclesOfFront replayed.outcome
     × (length (outcomes.reply_lists replayed.outcome) ≡ length script.programs)
@@ -180,7 +184,8 @@ Counts workers (NoScript kind line) = ⊥
 Counts workers ReadFault = ⊥
 Counts workers Memory = Unit {0}
 
--- A workload that a number gives, with 500 commands drawn for each mutator, was replayed in the order of this number. The
+-- A workload that a number gives, with 500 commands drawn for each mutator, was replayed in the order of this number.
+-- The
 -- count of steps has a name, so that no proof counts them out.
 pub record IsReplayOf (number : ℕ) (finished : Bool) (front : Seen) : Type 0 where
   pub script : ScriptView
@@ -213,7 +218,8 @@ Commands words old new rose settled = ((line : CommandLine) × Says words line �
     ⊎ ((SayNothing words × (settled ≡ Usage)) ⊎ (settled ≡ Memory))
 
 -- A script was read and replayed, to its end or not, and the output of this front was written.
-pub record HasOutput (finished : Bool) (order : Order) (steps : ℕ) (old new taken_old taken_new : Option (List ℕ)) (front : Seen) : Type 0 where
+pub record HasOutput (finished : Bool) (order : Order) (steps : ℕ) (old new taken_old taken_new : Option (List ℕ))
+    (front : Seen) : Type 0 where
   pub script : ScriptView
   pub read : IsRead old new script
   pub replayed : IsFrontOf order steps script finished front
@@ -237,7 +243,8 @@ pub record IsLoaded (number : ℕ) (finished : Bool) (taken_old taken_new : Opti
   pub written : Appends taken_old taken_new (summary_text number front finished)
 
 -- a command was done
-abbrev pub IsDoneBy : CommandLine → Option (List ℕ) → Option (List ℕ) → Option (List ℕ) → Option (List ℕ) → Seen → Type 0
+abbrev pub IsDoneBy : CommandLine → Option (List ℕ) → Option (List ℕ) → Option (List ℕ) → Option (List ℕ) → Seen
+    → Type 0
 IsDoneBy (Replay order steps) old new taken_old taken_new front =
     HasOutput true order steps old new taken_old taken_new front
 IsDoneBy (Gen seed size) old new taken_old taken_new front = IsPrinted seed size taken_old taken_new front
@@ -245,7 +252,8 @@ IsDoneBy (Count workers) old new taken_old taken_new front = IsHandled workers t
 IsDoneBy (Load number) old new taken_old taken_new front = IsLoaded number true taken_old taken_new front
 
 -- a command was left unfinished
-abbrev pub IsLeftBy : CommandLine → Option (List ℕ) → Option (List ℕ) → Option (List ℕ) → Option (List ℕ) → Seen → Type 0
+abbrev pub IsLeftBy : CommandLine → Option (List ℕ) → Option (List ℕ) → Option (List ℕ) → Option (List ℕ) → Seen
+    → Type 0
 IsLeftBy (Replay order steps) old new taken_old taken_new front =
     HasOutput false order steps old new taken_old taken_new front
 IsLeftBy (Gen seed size) old new taken_old taken_new front = ⊥
@@ -259,9 +267,11 @@ pub record IsToldUnread (old new taken_old taken_new : Option (List ℕ)) : Type
   pub unread : IsUnread old new kind line
   pub written : Appends taken_old taken_new (fault_text kind line)
 
--- How a replay ends where no stream fails: with its output, whole or unfinished, with the line of a fault, or with that of
+-- How a replay ends where no stream fails: with its output, whole or unfinished, with the line of a fault, or with that
+-- of
 -- want of memory.
-abbrev pub EndsReplay : Order → ℕ → Option (List ℕ) → Option (List ℕ) → Option (List ℕ) → Option (List ℕ) → Ended → Type 0
+abbrev pub EndsReplay : Order → ℕ → Option (List ℕ) → Option (List ℕ) → Option (List ℕ) → Option (List ℕ) → Ended
+    → Type 0
 EndsReplay order steps old new taken_old taken_new ended =
     ((ended.status ≡ 0) × HasOutput true order steps old new taken_old taken_new ended.front)
     ⊎ (((ended.status ≡ 6) × HasOutput false order steps old new taken_old taken_new ended.front)
@@ -294,9 +304,11 @@ EndsBy (Gen seed size) old new taken_old taken_new ended = EndsGen seed size tak
 EndsBy (Count workers) old new taken_old taken_new ended = EndsCount workers taken_old taken_new ended
 EndsBy (Load number) old new taken_old taken_new ended = EndsLoad number taken_old taken_new ended
 
--- How a call of the program ends where no stream fails: as its command does, with the line of usage where the words say none,
+-- How a call of the program ends where no stream fails: as its command does, with the line of usage where the words say
+-- none,
 -- or with that of want of memory.
-abbrev pub EndsWell : List (List ℕ) → Option (List ℕ) → Option (List ℕ) → Option (List ℕ) → Option (List ℕ) → Ended → Type 0
+abbrev pub EndsWell : List (List ℕ) → Option (List ℕ) → Option (List ℕ) → Option (List ℕ) → Option (List ℕ) → Ended
+    → Type 0
 EndsWell words old new taken_old taken_new ended =
     ((line : CommandLine) × Says words line × EndsBy line old new taken_old taken_new ended)
     ⊎ ((SayNothing words × (ended.status ≡ 1) × Appends taken_old taken_new (codes "usage\n"))

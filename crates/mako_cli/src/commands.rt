@@ -6,8 +6,10 @@ ghost use Rattle.mako_model.specs.Fronts.{FollowsPrograms};
 ghost use Rattle.mako_model.specs.Outcomes as outcomes;
 ghost use Rattle.mako_script.specs.Outputs.{output_text};
 ghost use Rattle.mako_command.specs.CommandLines.{SayNothing, Says};
-ghost use Rattle.mako_cli.specs.Settling.{Commands, EndsGen, EndsReplay, EndsWell, Generates, HasOutput, IsDoneBy, IsLeftBy};
-ghost use Rattle.mako_cli.specs.Settling.{IsPrinted, IsTellable, IsTold, IsToldUnread, IsWritten, Settles, replay_status};
+ghost use Rattle.mako_cli.specs.Settling.{Commands, EndsGen, EndsReplay, EndsWell, Generates, HasOutput, IsDoneBy};
+ghost use Rattle.mako_cli.specs.Settling.{IsLeftBy};
+ghost use Rattle.mako_cli.specs.Settling.{IsPrinted, IsTellable, IsTold, IsToldUnread, IsWritten, Settles};
+ghost use Rattle.mako_cli.specs.Settling.{replay_status};
 ghost use Rattle.mako_command.specs.declared.line.CommandLine.{CommandLine};
 ghost use Rattle.mako_cli.specs.declared.settled.Settled.{Settled};
 
@@ -60,7 +62,8 @@ fn settle<S: Source>(alloc: Global, order: Order, steps: u64, source: &mut S) ->
 
 /// Writes the one line of a command that carried out no script.
 fn tell_line<K: Sink>(alloc: Global, sink: &mut K, text: &[u8], status: u8) -> Ended
-    ensures written { IsWritten text.now status (K.taken sink.old) (K.taken sink.new) (Rose (K.faults sink.old) (K.faults sink.new)) result.status }
+    ensures written { IsWritten text.now status (K.taken sink.old) (K.taken sink.new)
+        (Rose (K.faults sink.old) (K.faults sink.new)) result.status }
     ensures front { result.front ≡ record { history = []; finished = [] } }
     ensures counted { K.faults sink.old ≤ K.faults sink.new }
 {
@@ -77,7 +80,8 @@ fn tell_line<K: Sink>(alloc: Global, sink: &mut K, text: &[u8], status: u8) -> E
 /// Writes the text of what a command came to.
 pub(crate) fn tell<K: Sink>(alloc: Global, sink: &mut K, settled: Settled) -> Ended
     requires { IsTellable settled }
-    ensures told { IsTold settled (K.taken sink.old) (K.taken sink.new) (Rose (K.faults sink.old) (K.faults sink.new)) result }
+    ensures told { IsTold settled (K.taken sink.old) (K.taken sink.new)
+        (Rose (K.faults sink.old) (K.faults sink.new)) result }
     ensures counted { K.faults sink.old ≤ K.faults sink.new }
 {
     match settled {
@@ -96,7 +100,8 @@ pub(crate) fn tell<K: Sink>(alloc: Global, sink: &mut K, settled: Settled) -> En
 
 /// Writes the lines of a text.
 fn tell_text<K: Sink>(alloc: Global, sink: &mut K, text: &[u8]) -> Ended
-    ensures written { IsWritten text.now 0 (K.taken sink.old) (K.taken sink.new) (Rose (K.faults sink.old) (K.faults sink.new)) result.status }
+    ensures written { IsWritten text.now 0 (K.taken sink.old) (K.taken sink.new)
+        (Rose (K.faults sink.old) (K.faults sink.new)) result.status }
     ensures front { result.front ≡ record { history = []; finished = [] } }
     ensures counted { K.faults sink.old ≤ K.faults sink.new }
 {
@@ -118,7 +123,8 @@ fn tell_run<K: Sink>(sink: &mut K, script: &Script, replayed: Replayed) -> Ended
     requires follows { FollowsPrograms (map (λ p. p.calls) script.now.programs) replayed.outcome.front.history }
     ensures front { result.front ≡ replayed.outcome.front }
     ensures told { IsWritten (output_text (length script.now.programs) replayed.outcome.front replayed.finished)
-        (replay_status replayed.finished) (K.taken sink.old) (K.taken sink.new) (Rose (K.faults sink.old) (K.faults sink.new)) result.status }
+        (replay_status replayed.finished) (K.taken sink.old) (K.taken sink.new)
+            (Rose (K.faults sink.old) (K.faults sink.new)) result.status }
     ensures counted { K.faults sink.old ≤ K.faults sink.new }
 {
     let Replayed {
@@ -142,8 +148,8 @@ fn tell_run<K: Sink>(sink: &mut K, script: &Script, replayed: Replayed) -> Ended
 }
 
 /// Reads a script from the source, carries it out in this order with at most so many atomic steps, and writes its
-/// output to the sink. The status is 0 where every mutator came to its end, and 6 where the steps were spent before. Want
-/// of memory, with status 5, comes only before the first step.
+/// output to the sink. The status is 0 where every mutator came to its end, and 6 where the steps were spent before.
+/// Want of memory, with status 5, comes only before the first step.
 pub fn replay_top<S: Source, K: Sink>(
     alloc: Global,
     order: Order,
@@ -154,20 +160,25 @@ pub fn replay_top<S: Source, K: Sink>(
     requires { steps ≤ 1000000000 }
     // Each status has its cause.
     ensures done { result.status ≡ 0 →
-        HasOutput true order steps (S.left source.old) (S.left source.new) (K.taken sink.old) (K.taken sink.new) result.front }
+        HasOutput true order steps (S.left source.old) (S.left source.new) (K.taken sink.old)
+            (K.taken sink.new) result.front }
     ensures unfinished { result.status ≡ 6 →
-        HasOutput false order steps (S.left source.old) (S.left source.new) (K.taken sink.old) (K.taken sink.new) result.front }
-    ensures refused { result.status ≡ 2 → IsToldUnread (S.left source.old) (S.left source.new) (K.taken sink.old) (K.taken sink.new) }
+        HasOutput false order steps (S.left source.old) (S.left source.new) (K.taken sink.old)
+            (K.taken sink.new) result.front }
+    ensures refused { result.status ≡ 2
+        → IsToldUnread (S.left source.old) (S.left source.new) (K.taken sink.old) (K.taken sink.new) }
     ensures read { result.status ≡ 3 → Rose (S.faults source.old) (S.faults source.new) }
     ensures write { result.status ≡ 4 → Rose (K.faults sink.old) (K.faults sink.new) }
 
     // And at the status of a write fault too the front is the one that another status would have.
     ensures settled { (settled : Settled)
-        × Settles order steps (S.left source.old) (S.left source.new) (Rose (S.faults source.old) (S.faults source.new)) settled
+        × Settles order steps (S.left source.old) (S.left source.new)
+            (Rose (S.faults source.old) (S.faults source.new)) settled
         × IsTold settled (K.taken sink.old) (K.taken sink.new) (Rose (K.faults sink.old) (K.faults sink.new)) result }
 
     // Where no stream fails, the status is 0, 6, 2 or 5, and its text was written.
-    ensures complete { ¬ Rose (S.faults source.old) (S.faults source.new) → ¬ Rose (K.faults sink.old) (K.faults sink.new) →
+    ensures complete { ¬ Rose (S.faults source.old) (S.faults source.new)
+        → ¬ Rose (K.faults sink.old) (K.faults sink.new) →
         EndsReplay order steps (S.left source.old) (S.left source.new) (K.taken sink.old) (K.taken sink.new) result }
 {
     let settled = settle(alloc, order, steps, source);
@@ -202,14 +213,15 @@ pub fn gen_top<K: Sink>(alloc: Global, seed: u64, size: u32, sink: &mut K) -> En
         × IsTold settled (K.taken sink.old) (K.taken sink.new) (Rose (K.faults sink.old) (K.faults sink.new)) result }
 
     // Where the sink does not fail, the status is 0 or 5, and its text was written.
-    ensures complete { ¬ Rose (K.faults sink.old) (K.faults sink.new) → EndsGen seed size (K.taken sink.old) (K.taken sink.new) result }
+    ensures complete { ¬ Rose (K.faults sink.old) (K.faults sink.new)
+        → EndsGen seed size (K.taken sink.old) (K.taken sink.new) result }
 {
     let settled = generate(alloc, seed, size);
     tell(alloc, sink, settled)
 }
 
-/// Carries out the command that the words of the command line say, over this source and this sink. A count waits for its
-/// threads, and may wait for ever; every other command returns.
+/// Carries out the command that the words of the command line say, over this source and this sink. A count waits for
+/// its threads, and may wait for ever; every other command returns.
 pub fn top<R: Threads + Wait + Sync, S: Source, K: Sink>(
     rt: &R,
     alloc: Global,
@@ -217,26 +229,33 @@ pub fn top<R: Threads + Wait + Sync, S: Source, K: Sink>(
     source: &mut S,
     sink: &mut K,
 ) -> Ended
-    // The words say no command exactly where the status is that of usage, or that of a write fault or of want of memory.
+    // The words say no command exactly where the status is that of usage, or that of a write fault or of want of
+    // memory.
     ensures usage { result.status ≡ 1 → SayNothing (map string_bytes words.now) }
-    ensures other { SayNothing (map string_bytes words.now) → (result.status ≡ 1) ⊎ ((result.status ≡ 4) ⊎ (result.status ≡ 5)) }
+    ensures other { SayNothing (map string_bytes words.now) → (result.status ≡ 1)
+        ⊎ ((result.status ≡ 4) ⊎ (result.status ≡ 5)) }
 
     // Each status has its cause.
     ensures done { result.status ≡ 0 → (line : CommandLine) × Says (map string_bytes words.now) line
         × IsDoneBy line (S.left source.old) (S.left source.new) (K.taken sink.old) (K.taken sink.new) result.front }
     ensures unfinished { result.status ≡ 6 → (line : CommandLine) × Says (map string_bytes words.now) line
         × IsLeftBy line (S.left source.old) (S.left source.new) (K.taken sink.old) (K.taken sink.new) result.front }
-    ensures refused { result.status ≡ 2 → IsToldUnread (S.left source.old) (S.left source.new) (K.taken sink.old) (K.taken sink.new) }
+    ensures refused { result.status ≡ 2
+        → IsToldUnread (S.left source.old) (S.left source.new) (K.taken sink.old) (K.taken sink.new) }
     ensures read { result.status ≡ 3 → Rose (S.faults source.old) (S.faults source.new) }
     ensures write { result.status ≡ 4 → Rose (K.faults sink.old) (K.faults sink.new) }
 
     // And at the status of a write fault too the front is the one that another status would have.
-    ensures settled { (settled : Settled) × Commands (map string_bytes words.now) (S.left source.old) (S.left source.new) (Rose (S.faults source.old) (S.faults source.new)) settled
+    ensures settled { (settled : Settled)
+        × Commands (map string_bytes words.now) (S.left source.old) (S.left source.new)
+        (Rose (S.faults source.old) (S.faults source.new)) settled
         × IsTold settled (K.taken sink.old) (K.taken sink.new) (Rose (K.faults sink.old) (K.faults sink.new)) result }
 
     // Where no stream fails, the status is 0, 1, 2, 5 or 6, and its text was written.
-    ensures complete { ¬ Rose (S.faults source.old) (S.faults source.new) → ¬ Rose (K.faults sink.old) (K.faults sink.new) →
-        EndsWell (map string_bytes words.now) (S.left source.old) (S.left source.new) (K.taken sink.old) (K.taken sink.new) result }
+    ensures complete { ¬ Rose (S.faults source.old) (S.faults source.new)
+        → ¬ Rose (K.faults sink.old) (K.faults sink.new) →
+        EndsWell (map string_bytes words.now) (S.left source.old) (S.left source.new) (K.taken sink.old)
+            (K.taken sink.new) result }
 {
     let Ok(line) = command_line(alloc, words) else {
         return tell(alloc, sink, Settled::Memory);

@@ -75,7 +75,8 @@ pub fn count_top<R: Threads + Wait + Sync, K: Sink>(
         × IsTold settled (K.taken sink.old) (K.taken sink.new) (Rose (K.faults sink.old) (K.faults sink.new)) result }
 
     // Where the sink does not fail, the status is 0 or 5, and its text was written.
-    ensures complete { ¬ Rose (K.faults sink.old) (K.faults sink.new) → EndsCount workers (K.taken sink.old) (K.taken sink.new) result }
+    ensures complete { ¬ Rose (K.faults sink.old) (K.faults sink.new)
+        → EndsCount workers (K.taken sink.old) (K.taken sink.new) result }
 {
     let settled = count(rt, alloc, workers);
     tell(alloc, sink, settled)

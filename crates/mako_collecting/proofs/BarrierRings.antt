@@ -1,12 +1,14 @@
 -- The barrier rings: what stays of them, and what a look and a take do.
-use Rattle.std.proofs.Common.{◌≡◌, ◌≢◌, ℕ, ◌+◌, ◌-◌, ◌%◌, ◌<◌, inl, inr, List, [], ◌∷◌, length, get_or, set, sym, ap, ◌∙◌, arith, ◌==◌, Bool, true, false, cond, refl}
+use Rattle.std.proofs.Common.{◌≡◌, ◌≢◌, ℕ, ◌+◌, ◌-◌, ◌%◌, ◌<◌, inl, inr, List, [], ◌∷◌, length, get_or, set, sym, ap}
+use Rattle.std.proofs.Common.{◌∙◌, arith, ◌==◌, Bool, true, false, cond, refl}
 use Rattle.std.proofs.lemmas.Bool.Decides.{nat_tests}
 use Rattle.std.proofs.lemmas.Bool.{cases_lt}
 use Rattle.mako_shape.specs.declared.numbers.Numbers.{Numbers}
 use Rattle.mako_shape.specs.Places.{Place, barrier, index, total, word_at}
 use Rattle.mako_shape.proofs.PlaceLaws.{word_same, word_other}
 use Rattle.mako_ring.specs.Contents.{content, OthersEmpty, NextPlace, after_place}
-use Rattle.mako_ring.proofs.Contents.{Holds, content_holds, holds_content, holds_others, take_removes_the_first, put_appends}
+use Rattle.mako_ring.proofs.Contents.{Holds, content_holds, holds_content, holds_others, take_removes_the_first}
+use Rattle.mako_ring.proofs.Contents.{put_appends}
 use Rattle.mako_ring.proofs.Turns.{turned, place_below, no_turn}
 use Rattle.mako_collecting.specs.Keeping.{BarrierRing}
 
@@ -108,7 +110,8 @@ pub ring_put : (n : Numbers) (words : List ℕ) (m at place word : ℕ) → leng
 ring_put n words m at place word size inside low few free some ring =
     let us : List ℕ = set words (index n (barrier m place)) word in
     let here : place % n.ring ≡ place = no_turn_at n.ring place few in
-    let t = put_appends n.ring (λ slot. word_at n words (barrier m slot)) (λ slot. word_at n us (barrier m slot)) at place
+    let t = put_appends n.ring (λ slot. word_at n words (barrier m slot))
+        (λ slot. word_at n us (barrier m slot)) at place
     word low ring.others ring.next (ap (λ (x : ℕ). word_at n words (barrier m x)) here ∙ free) some (
       ap (λ (x : ℕ). word_at n us (barrier m x)) here ∙ word_same n words (barrier m place) word size (inside, few),
       λ slot l other. word_other n words (barrier m place) (barrier m slot) word (inside, few) (inside, l)

@@ -1,5 +1,6 @@
 -- The collector chooses tablets, and gives each a region.
-use Rattle.std.proofs.Common.{◌≡◌, ◌≢◌, ℕ, suc, ◌+◌, ◌<◌, ◌≤◌, ◌==◌, nat_lt, Bool, true, false, cond, Some, List, [], ◌∷◌, ◌++◌, ◌*◌, length, set, get_or, slice_index, sym, ap, subst, refl, ◌∙◌, arith}
+use Rattle.std.proofs.Common.{◌≡◌, ◌≢◌, ℕ, suc, ◌+◌, ◌<◌, ◌≤◌, ◌==◌, nat_lt, Bool, true, false, cond, Some, List, []}
+use Rattle.std.proofs.Common.{◌∷◌, ◌++◌, ◌*◌, length, set, get_or, slice_index, sym, ap, subst, refl, ◌∙◌, arith}
 use Rattle.std.proofs.lemmas.List.Sums.{sum_by-cons}
 use Rattle.std.proofs.lemmas.Bool.Decides.{nat_tests}
 use Rattle.mako_shape.specs.declared.numbers.Numbers.{Numbers}
@@ -10,7 +11,8 @@ use Rattle.mako_names.specs.Uses.{IsNamePlace}
 use Rattle.mako_ring.specs.Facets.{IsPolled}
 use Rattle.mako_shades.specs.Holding.{IsTracePlace}
 use Rattle.mako_gate.specs.Changes.{Sets}
-use Rattle.mako_layout.specs.Facets.{Gift, Choice, chooses, settled, owes_home, owes_top, gift_of as gift_in, given_of, spare_of, times_in}
+use Rattle.mako_layout.specs.Facets.{Gift, Choice, chooses, settled, owes_home, owes_top, gift_of as gift_in, given_of}
+use Rattle.mako_layout.specs.Facets.{spare_of, times_in}
 use Rattle.mako_layout.specs.StepParts.{collector_seat}
 use Rattle.mako_layout.specs.Steps.{Step, store_leaving, store_home, zero_top}
 use Rattle.mako_layout.proofs.EachStep.{each_step_keeps}
@@ -21,16 +23,21 @@ use Rattle.mako_phases.specs.Steps.{PhaseOrderIn, IsPhaseWord}
 use Rattle.mako_phases.proofs.AllPhases.{phase_kept}
 use Rattle.mako_joint.specs.Joints.{JointScene, layout_in, phases_in, ChoiceFits, Joint}
 use Rattle.mako_joint.proofs.Pauses.{gates_drain, parts_pause, by_part}
-use Rattle.mako_pause.specs.Collecting.{Holdings, Collecting, running, chosen_tablet, live_words, after_tablet, servers_from, server_chosen, gifts_from, gift_of, spare_for}
+use Rattle.mako_pause.specs.Collecting.{Holdings, Collecting, running, chosen_tablet, live_words, after_tablet}
+use Rattle.mako_pause.specs.Collecting.{servers_from, server_chosen, gifts_from, gift_of, spare_for}
 use Rattle.mako_pause.specs.declared.stage.Gift.{Gift as Exchange}
 use Rattle.mako_pause.specs.declared.stage.ChoiceStage.{ChoiceStage}
-use Rattle.mako_pause.specs.declared.stage.ChoiceStage.TheVariants.{LoadingLive, LoadingTop, LoadingHome, StoringLeaving, StoringHome, StoringTop, StoringEvac}
+use Rattle.mako_pause.specs.declared.stage.ChoiceStage.TheVariants.{LoadingLive, LoadingTop, LoadingHome}
+use Rattle.mako_pause.specs.declared.stage.ChoiceStage.TheVariants.{StoringLeaving, StoringHome, StoringTop}
+use Rattle.mako_pause.specs.declared.stage.ChoiceStage.TheVariants.{StoringEvac}
 use Rattle.mako_pause.specs.declared.stage.CollectStage.TheVariants.{Choosing}
 use Rattle.mako_collecting.specs.Choosing.{choice_at, choice_next, without, MayGive}
-use Rattle.mako_collecting.specs.Facets.{names_of, part_of, chosen_below, watch_of, all_drained, ring_facet, IsCollector}
+use Rattle.mako_collecting.specs.Facets.{names_of, part_of, chosen_below, watch_of, all_drained, ring_facet}
+use Rattle.mako_collecting.specs.Facets.{IsCollector}
 use Rattle.mako_collecting.specs.Steps.{with_collector, collector_next, chosen}
 use Rattle.mako_collecting.proofs.Joined.{joined}
-use Rattle.mako_collecting.proofs.Stays.{tracks_as, layout_as, polls_as, order_as, sets, names_else, tracks_else, order_else, polls_else}
+use Rattle.mako_collecting.proofs.Stays.{tracks_as, layout_as, polls_as, order_as, sets, names_else, tracks_else}
+use Rattle.mako_collecting.proofs.Stays.{order_else, polls_else}
 use Rattle.mako_collecting.proofs.Moves.{stays, loads}
 use Rattle.mako_collecting.proofs.Idling.{either_way, not_below}
 
@@ -66,7 +73,8 @@ without_one r (x ∷ xs) some q = by_head (λ rest. without_one r xs rest q) (x 
 pub given_one : (t r u : ℕ) (given : List Gift)
     → gift_in (record { tablet = t; region = r } ∷ given) u ≡ gift_in given u + counted (t == u) (r + 1)
 given_one t r u given =
-    omega (arith, sum_by-cons (λ (g : Gift). counted (g.tablet == u) (g.region + 1)) (record { tablet = t; region = r }) given)
+    omega (arith, sum_by-cons (λ (g : Gift). counted (g.tablet == u) (g.region + 1)) (record { tablet = t;
+        region = r }) given)
 
 below_next : (chosen : List ℕ) (i : ℕ) → chosen_below chosen (i + 1) ≡ slice_index chosen i ∷ chosen_below chosen i
 unfolding chosen_below
@@ -85,7 +93,8 @@ pub record Chooses (n : Numbers) (k : Holdings) (left : List ℕ) (c : Collectin
   pub watch : watch_of n c ≡ all_drained n
   pub rings : ring_facet n c ≡ ring_facet n (record { kept = k; stage = Choosing StoringEvac })
 
-gifts_at : (n : Numbers) (k : Holdings) (i : ℕ) → i ≤ length k.chosen → Chooses n k (chosen_below k.chosen i) (gifts_from k i)
+gifts_at : (n : Numbers) (k : Holdings) (i : ℕ) → i ≤ length k.chosen
+    → Chooses n k (chosen_below k.chosen i) (gifts_from k i)
 gifts_at n k i few =
     either_way (Chooses n k (chosen_below k.chosen i)) (nat_lt i (length k.chosen))
     (record { kept = k; stage = Choosing (LoadingHome i) }) (record { kept = k; stage = Choosing StoringEvac })
@@ -216,7 +225,8 @@ module _ (w : Facts) (k : Holdings) (s : JointScene) (j : Joint k.shape w s) whe
         at.phase inside refl))
         (store_leaving (λ q. word_at n (set s.words (index n (leaving t)) (gift.former + 1)) q) t gift.region given
         (record { tablet = t; region = gift.former } ∷ given) spare (without gift.region spare)
-        (parts_pause n w s j (by_part n w s j phases.IsInPause (collector_seat n) (part_of n old) (names_of old) at.phase
+        (parts_pause n w s j
+            (by_part n w s j phases.IsInPause (collector_seat n) (part_of n old) (names_of old) at.phase
         tt)) begun inside may.region may.server (ap (λ x. gift_in (given_of x) t) begun ∙ may.first)
         (subst (λ (x : ℕ). 1 ≤ x) (sym (ap (λ x. times_in (spare_of x) gift.region) begun)) may.spares)
         (subst (λ (x : ℕ). Sets n (λ q. word_at n s.words q)
@@ -236,7 +246,8 @@ module _ (w : Facts) (k : Holdings) (s : JointScene) (j : Joint k.shape w s) whe
         refl refl refl
         (order_as n w s (here (StoringHome i gift)) c at (set s.words (index n (home t)) gift.region) choice refl refl
         (order_else n w s j (home t) gift.region inside (λ x. x)))
-        (store_home (λ q. word_at n (set s.words (index n (home t)) gift.region) q) t gift.region given spare inside owes
+        (store_home (λ q. word_at n (set s.words (index n (home t)) gift.region) q) t gift.region given spare inside
+            owes
         (sets n s.words (home t) gift.region j.names.hold.size inside)) tt
 
   -- the top of its new home

@@ -1,12 +1,14 @@
 -- Each step of the collector keeps what it keeps of itself.
-use Rattle.std.proofs.Common.{◌≡◌, ◌≢◌, ℕ, ◌+◌, ◌*◌, ◌%◌, ◌<◌, ◌==◌, nat_lt, ⊎_elim, true, false, cond, List, [], ◌∷◌, ◌++◌, slice_index, sym, subst, refl, ◌∙◌, arith}
+use Rattle.std.proofs.Common.{◌≡◌, ◌≢◌, ℕ, ◌+◌, ◌*◌, ◌%◌, ◌<◌, ◌==◌, nat_lt, ⊎_elim, true, false, cond, List, [], ◌∷◌}
+use Rattle.std.proofs.Common.{◌++◌, slice_index, sym, subst, refl, ◌∙◌, arith}
 use Rattle.std.proofs.lemmas.Nat.{mod_below}
 use Rattle.mako_words.specs.Gates.{count_of}
 use Rattle.mako_words.specs.Names.{name_at}
 use Rattle.mako_words.specs.Values.{value_at}
 use Rattle.mako_words.specs.declared.name.Name.{Name}
 use Rattle.mako_shape.specs.declared.numbers.Numbers.{Numbers}
-use Rattle.mako_shape.specs.Places.{Place, phase, demand, finished, mutator_gate, root, barrier, work, home, top, leaving, live, index, Within, word_at}
+use Rattle.mako_shape.specs.Places.{Place, phase, demand, finished, mutator_gate, root, barrier, work, home, top}
+use Rattle.mako_shape.specs.Places.{leaving, live, index, Within, word_at}
 use Rattle.mako_step.specs.Acts.{finds, words_stepped}
 use Rattle.mako_model.specs.Legal.{Facts}
 use Rattle.mako_model.proofs.Lists.{get_set_same}
@@ -21,21 +23,26 @@ use Rattle.mako_phases.specs.Facets as phases
 use Rattle.mako_phases.specs.Facets.{Part, PhaseFacet}
 use Rattle.mako_phases.specs.Orders.{PendingFits}
 use Rattle.mako_joint.specs.Joints.{JointScene, Joint}
-use Rattle.mako_pause.specs.Collecting.{Holdings, Collecting, window_of, set_window, forward, empty, barriers_from, paused, next_of, Fits, spare_for, chosen_tablet, names_of as names_loaded}
+use Rattle.mako_pause.specs.Collecting.{Holdings, Collecting, window_of, set_window, forward, empty, barriers_from}
+use Rattle.mako_pause.specs.Collecting.{paused, next_of, Fits, spare_for, chosen_tablet, names_of as names_loaded}
 use Rattle.mako_pause.specs.declared.stage.Pause.TheVariants.{Snapshot}
 use Rattle.mako_pause.specs.declared.stage.IdleStage.{IdleStage}
 use Rattle.mako_pause.specs.declared.stage.IdleStage.TheVariants.{LoadingDemand, LookingFinished, StoringStop}
 use Rattle.mako_pause.specs.declared.stage.PauseStage.{PauseStage}
-use Rattle.mako_pause.specs.declared.stage.PauseStage.TheVariants.{Shutting, Draining, LoadingRoot, StoringTrace, Opening}
+use Rattle.mako_pause.specs.declared.stage.PauseStage.TheVariants.{Shutting, Draining, LoadingRoot, StoringTrace}
+use Rattle.mako_pause.specs.declared.stage.PauseStage.TheVariants.{Opening}
 use Rattle.mako_pause.specs.declared.stage.ForwardStage.{ForwardStage}
 use Rattle.mako_pause.specs.declared.stage.ForwardStage.TheVariants.{Looking, Storing}
 use Rattle.mako_pause.specs.declared.stage.BarrierStage.{BarrierStage}
 use Rattle.mako_pause.specs.declared.stage.BarrierStage.TheVariants.{Loading, Clearing}
 use Rattle.mako_pause.specs.declared.stage.ChoiceStage.{ChoiceStage}
-use Rattle.mako_pause.specs.declared.stage.ChoiceStage.TheVariants.{LoadingLive, LoadingTop, LoadingHome, StoringLeaving, StoringHome, StoringTop, StoringEvac, Opening as Reopening}
+use Rattle.mako_pause.specs.declared.stage.ChoiceStage.TheVariants.{LoadingLive, LoadingTop, LoadingHome}
+use Rattle.mako_pause.specs.declared.stage.ChoiceStage.TheVariants.{StoringLeaving, StoringHome, StoringTop}
+use Rattle.mako_pause.specs.declared.stage.ChoiceStage.TheVariants.{StoringEvac, Opening as Reopening}
 use Rattle.mako_pause.specs.declared.stage.NoticeStage.TheVariants.{Looking as NoticeLook}
 use Rattle.mako_pause.specs.declared.stage.CollectStage.{CollectStage}
-use Rattle.mako_pause.specs.declared.stage.CollectStage.TheVariants.{Idle, Pausing, Forwarding, Barriers, Emptying, Polling, Choosing, Noticing, Ended}
+use Rattle.mako_pause.specs.declared.stage.CollectStage.TheVariants.{Idle, Pausing, Forwarding, Barriers, Emptying}
+use Rattle.mako_pause.specs.declared.stage.CollectStage.TheVariants.{Polling, Choosing, Noticing, Ended}
 use Rattle.mako_pause.proofs.Going.{stage_stands}
 use Rattle.mako_collecting.specs.Facets.{names_of, part_of, phase_facet, gate_facet, IsCollector}
 use Rattle.mako_collecting.specs.Keeping.{CollectorKeeps, PassedAreEmpty, BarrierRingsStand, SameBarriers}
@@ -43,7 +50,9 @@ use Rattle.mako_collecting.specs.Laws.{at, Stands, IsUpToEvac, SeatsStay, StepsK
 use Rattle.mako_collecting.specs.Steps.{words_next, collector_next}
 use Rattle.mako_collecting.proofs.Idling.{either_way, is_same, not_same}
 use Rattle.mako_collecting.proofs.Joined.{same_collector}
-use Rattle.mako_collecting.proofs.KeptOwn.{by_load, by_store, by_poll, rings_same, empty_same, Own, plain, forward_own, empty_own, barriers_own, polled_own, paused_own, roots_own, gifts_own, gift_own, tablets_own, one_passed, rings_taken}
+use Rattle.mako_collecting.proofs.KeptOwn.{by_load, by_store, by_poll, rings_same, empty_same, Own, plain, forward_own}
+use Rattle.mako_collecting.proofs.KeptOwn.{empty_own, barriers_own, polled_own, paused_own, roots_own, gifts_own}
+use Rattle.mako_collecting.proofs.KeptOwn.{gift_own, tablets_own, one_passed, rings_taken}
 
 pub seats_stay : SeatsStay
 seats_stay n s c next words choice here shape = record {
@@ -121,7 +130,8 @@ module _ (w : Facts) (s : JointScene) (places : ℕ → ℕ) (k : Holdings) wher
       (at k (Pausing (Draining pause m)))
       (cond (m + 1 == n.mutators) (paused k pause) (at k (Pausing (Draining pause (m + 1)))))
       (λ e. plain n us places (at k (Pausing (Draining pause m))) x.keeps.keeps refl rings)
-      (λ e. either_way (Own n us places) (m + 1 == n.mutators) (paused k pause) (at k (Pausing (Draining pause (m + 1))))
+      (λ e. either_way (Own n us places) (m + 1 == n.mutators) (paused k pause)
+          (at k (Pausing (Draining pause (m + 1))))
       (λ a. paused_own n us places k x.keeps.keeps.1 rings pause x.keeps.keeps.0)
       (λ a. plain n us places (at k (Pausing (Draining pause (m + 1)))) x.keeps.keeps refl rings))
   pause_own (LoadingRoot m q) x =
@@ -216,7 +226,8 @@ module _ (w : Facts) (s : JointScene) (places : ℕ → ℕ) (k : Holdings) wher
       (rings_after (Choosing (LoadingLive r place)) x (by_load n s.words (index n (live (r * n.tablets + place)))))
   choice_own (LoadingTop r place words) x =
       tablets_own n (words_next (at k (Choosing (LoadingTop r place words))) s.words) places
-      (record k { used = k.used ++ record { top = word_at n s.words (top (r * n.tablets + place)); live = words } ∷ [] })
+      (record k { used = k.used ++ record { top = word_at n s.words (top (r * n.tablets + place));
+          live = words } ∷ [] })
       r place
       (rings_after (Choosing (LoadingTop r place words)) x (by_load n s.words (index n (top (r * n.tablets + place)))))
   choice_own (LoadingHome i) x =

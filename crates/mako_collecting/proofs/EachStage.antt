@@ -10,19 +10,25 @@ use Rattle.mako_layout.specs.Facets.{Gift}
 use Rattle.mako_joint.specs.Joints.{JointScene, Joint}
 use Rattle.mako_pause.specs.Collecting.{Holdings, running, window_of}
 use Rattle.mako_pause.specs.declared.stage.PauseStage.{PauseStage}
-use Rattle.mako_pause.specs.declared.stage.PauseStage.TheVariants.{Shutting, Draining, LoadingRoot, StoringTrace, Opening}
+use Rattle.mako_pause.specs.declared.stage.PauseStage.TheVariants.{Shutting, Draining, LoadingRoot, StoringTrace}
+use Rattle.mako_pause.specs.declared.stage.PauseStage.TheVariants.{Opening}
 use Rattle.mako_pause.specs.declared.stage.ForwardStage.TheVariants.{Looking, Storing}
 use Rattle.mako_pause.specs.declared.stage.BarrierStage.TheVariants.{Loading, Clearing}
 use Rattle.mako_pause.specs.declared.stage.ChoiceStage.{ChoiceStage}
-use Rattle.mako_pause.specs.declared.stage.ChoiceStage.TheVariants.{LoadingLive, LoadingTop, LoadingHome, StoringLeaving, StoringHome, StoringTop, StoringEvac, Opening as Reopening}
+use Rattle.mako_pause.specs.declared.stage.ChoiceStage.TheVariants.{LoadingLive, LoadingTop, LoadingHome}
+use Rattle.mako_pause.specs.declared.stage.ChoiceStage.TheVariants.{StoringLeaving, StoringHome, StoringTop}
+use Rattle.mako_pause.specs.declared.stage.ChoiceStage.TheVariants.{StoringEvac, Opening as Reopening}
 use Rattle.mako_pause.specs.declared.stage.CollectStage.{CollectStage}
-use Rattle.mako_pause.specs.declared.stage.CollectStage.TheVariants.{Idle, Pausing, Forwarding, Barriers, Emptying, Polling, Choosing, Noticing, Ended}
+use Rattle.mako_pause.specs.declared.stage.CollectStage.TheVariants.{Idle, Pausing, Forwarding, Barriers, Emptying}
+use Rattle.mako_pause.specs.declared.stage.CollectStage.TheVariants.{Polling, Choosing, Noticing, Ended}
 use Rattle.mako_collecting.specs.Choosing.{choice_at}
 use Rattle.mako_collecting.specs.Facets.{IsCollector}
-use Rattle.mako_collecting.specs.Laws.{at, Stands, IdleStepsKeep, StoresNoPhase, PauseStepsKeep, SnapshotsKeep, IsInRound, RoundStepsKeep, PollStepsKeep, ChoiceMayGo, ChoiceStepsKeep}
+use Rattle.mako_collecting.specs.Laws.{at, Stands, IdleStepsKeep, StoresNoPhase, PauseStepsKeep, SnapshotsKeep}
+use Rattle.mako_collecting.specs.Laws.{IsInRound, RoundStepsKeep, PollStepsKeep, ChoiceMayGo, ChoiceStepsKeep}
 use Rattle.mako_collecting.specs.Steps.{with_collector, words_next, collector_next, stepped, snapped, polled, chosen}
 use Rattle.mako_collecting.specs.Ties.{ServersAreTied, RootsStand, BarriersAreEmpty}
-use Rattle.mako_collecting.proofs.Choosing.{live_loaded, top_loaded, home_loaded, leaving_stored, home_stored, top_stored}
+use Rattle.mako_collecting.proofs.Choosing.{live_loaded, top_loaded, home_loaded, leaving_stored, home_stored}
+use Rattle.mako_collecting.proofs.Choosing.{top_stored}
 use Rattle.mako_collecting.proofs.Emptying.{barrier_loaded, gathered, emptied}
 use Rattle.mako_collecting.proofs.Evacuating.{evacuates, reopens}
 use Rattle.mako_collecting.proofs.Forwarding.{looks, stores}
@@ -71,7 +77,8 @@ windows_after k size r windows low open_ =
 
 round_step : (w : Facts) (s : JointScene) (places : ℕ → ℕ) (k : Holdings) (stage : CollectStage) → IsInRound stage
     → Stands k.shape w s places (at k stage) → Joint k.shape w (stepped k.shape s (at k stage))
-round_step w s places k (Forwarding (Looking x)) is y = looks w k s y.joint y.known.windows_count x y.keeps.stage.1 y.seat
+round_step w s places k (Forwarding (Looking x)) is y =
+    looks w k s y.joint y.known.windows_count x y.keeps.stage.1 y.seat
 round_step w s places k (Forwarding (Storing x)) is y =
     stores w k s y.joint y.known.windows_count x y.keeps.stage.1.0 y.seat
 round_step w s places k (Barriers (Loading m)) is y =
@@ -104,7 +111,8 @@ poll_step w s places k x ties =
     let empty : k.gates_shut ≡ true → BarriersAreEmpty k.shape s.words =
     λ shut m slot within. x.keeps.empty shut m slot within.0 within.0 within.1 in
     let each = x.joint.script.shape.in_range.each in
-    subst (λ (h : Holdings). IsCollector k.shape s (at h Polling) → Joint k.shape w (polled k.shape s (at h Polling))) same
+    subst (λ (h : Holdings). IsCollector k.shape s (at h Polling)
+        → Joint k.shape w (polled k.shape s (at h Polling))) same
     (polls_on w k s x.joint (omega (arith, each)) ties empty k.poll.stage x.known.poll x.keeps.keeps.1) x.seat
 
 pub poll_steps_keep : PollStepsKeep
@@ -118,7 +126,8 @@ choice_step : (w : Facts) (s : JointScene) (places : ℕ → ℕ) (k : Holdings)
     → Stands k.shape w s places (at k (Choosing stage)) → (given : List Gift) (spare : List ℕ)
     → s.facets.choice ≡ choice_at k stage given spare → ChoiceMayGo k.shape s k stage given spare
     → Joint k.shape w (chosen k.shape s k stage given spare)
-choice_step w s places k (LoadingLive r place) x given spare is may = live_loaded w k s x.joint r place given spare is x.seat
+choice_step w s places k (LoadingLive r place) x given spare is may =
+    live_loaded w k s x.joint r place given spare is x.seat
 choice_step w s places k (LoadingTop r place words) x given spare is may =
     top_loaded w k s x.joint r place words given spare is x.seat
 choice_step w s places k (LoadingHome i) x given spare is may =
@@ -131,7 +140,8 @@ choice_step w s places k (StoringTop i) x given spare is may =
     top_stored w k s x.joint i given spare (x.known.chosen i 0 x.keeps.stage.1) x.keeps.stage.1 is x.seat
 choice_step w s places k StoringEvac x given spare is may = evacuates w k s x.joint x.seat may given spare is
 choice_step w s places k (Reopening m) x given spare is may =
-    subst (λ choice. Joint k.shape w (with_collector k.shape s (words_next (at k (Choosing (Reopening m))) s.words) choice
+    subst (λ choice. Joint k.shape w
+        (with_collector k.shape s (words_next (at k (Choosing (Reopening m))) s.words) choice
     (collector_next (at k (Choosing (Reopening m))) s.words))) is (reopens w k s x.joint m x.keeps.stage.1 x.seat)
 
 pub choice_steps_keep : ChoiceStepsKeep

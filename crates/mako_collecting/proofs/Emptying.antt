@@ -1,5 +1,7 @@
 -- The collector takes names out of the barrier rings, looks whether the work rings were emptied, and begins a poll.
-use Rattle.std.proofs.Common.{◌≡◌, ℕ, ◌+◌, ◌%◌, ◌<◌, ◌≤◌, ◌==◌, nat_lt, false, Option, Some, None, List, [], ◌∷◌, ◌++◌, All, length, position, set, slice_set, slice_index, slice_index_or, sym, ap, subst, refl, ◌∙◌, arith}
+use Rattle.std.proofs.Common.{◌≡◌, ℕ, ◌+◌, ◌%◌, ◌<◌, ◌≤◌, ◌==◌, nat_lt, false, Option, Some, None, List, [], ◌∷◌, ◌++◌}
+use Rattle.std.proofs.Common.{All, length, position, set, slice_set, slice_index, slice_index_or, sym, ap, subst, refl}
+use Rattle.std.proofs.Common.{◌∙◌, arith}
 use Rattle.std.proofs.lemmas.List.{length-set}
 use Rattle.std.proofs.lemmas.Bool.Decides.{nat_tests}
 use Rattle.std.proofs.lemmas.Grind.{common_steps}
@@ -28,7 +30,8 @@ use Rattle.mako_shades.proofs.Words.{no_zero_name}
 use Rattle.mako_layout.specs.StepParts.{collector_seat}
 use Rattle.mako_phases.specs.Facets as phases
 use Rattle.mako_joint.specs.Joints.{JointScene, trace_in, polls_in, ChoiceFits, Joint}
-use Rattle.mako_pause.specs.Collecting.{Holdings, Collecting, running, window_of, set_window, empty, empty_from, barriers_from}
+use Rattle.mako_pause.specs.Collecting.{Holdings, Collecting, running, window_of, set_window, empty, empty_from}
+use Rattle.mako_pause.specs.Collecting.{barriers_from}
 use Rattle.mako_pause.specs.declared.stage.ForwardStage.TheVariants.{Looking}
 use Rattle.mako_pause.specs.declared.stage.BarrierStage.{BarrierStage}
 use Rattle.mako_pause.specs.declared.stage.BarrierStage.TheVariants.{Loading, Clearing}
@@ -86,7 +89,8 @@ module _ (n : Numbers) (w : Facts) (s : JointScene) (j : Joint n w s) (old : Col
     (k : Holdings) (was : GoesOn n k old) (none : k.pending ≡ []) (count : length k.windows ≡ n.servers)
     (windows : All (IsWindow n.ring) k.windows)
     (rings : PollingStands n (record (polls_in n s) { collector = idle_ring n k })) where
-  pub goes_on : (c : Collecting) → GoesOn n k c → PollingStands n (polls_in n (with_collector n s s.words s.facets.choice c))
+  pub goes_on : (c : Collecting) → GoesOn n k c
+      → PollingStands n (polls_in n (with_collector n s s.words s.facets.choice c))
       → Joint n w (with_collector n s s.words s.facets.choice c)
   goes_on c is stands =
       joined n w s s.words s.facets.choice old c j at
@@ -122,11 +126,13 @@ module _ (w : Facts) (k : Holdings) (s : JointScene) (j : Joint k.shape w s) (no
   rings_here stage at = subst (λ q. PollingStands n (record (polls_in n s) { collector = q })) at.rings j.polls
 
   passes : (m : ℕ) → IsCollector n s (here (Loading m)) → length k.windows ≡ n.servers
-      → All (IsWindow n.ring) k.windows → Joint n w (with_collector n s s.words s.facets.choice (barriers_from k (m + 1)))
+      → All (IsWindow n.ring) k.windows
+          → Joint n w (with_collector n s s.words s.facets.choice (barriers_from k (m + 1)))
   passes m at count windows =
       either_way (λ c. Joint n w (with_collector n s s.words s.facets.choice c)) (m + 1 == n.mutators) (empty k)
       (here (Loading (m + 1)))
-      (λ e. empties_rings n w s j (here (Loading m)) at k (record { names = refl; part = refl; watch = refl }) none count
+      (λ e. empties_rings n w s j (here (Loading m)) at k (record { names = refl; part = refl;
+          watch = refl }) none count
       windows (rings_here (Loading m) at))
       (λ e. stays n w s j (here (Loading m)) at (here (Loading (m + 1))) refl refl refl refl)
 
@@ -188,7 +194,8 @@ module _ (w : Facts) (k : Holdings) (s : JointScene) (j : Joint k.shape w s) (no
   abbrev kept : Holdings
   kept = set_window k r (tail_up numbers.ring (window_of k r))
 
-  seen : word_at numbers s.words tail ≡ 0 → PollingStands numbers (record (polls_in numbers s) { collector = idle_ring numbers kept })
+  seen : word_at numbers s.words tail ≡ 0
+      → PollingStands numbers (record (polls_in numbers s) { collector = idle_ring numbers kept })
   seen empty_ =
       steps_hold numbers (record (polls_in numbers s) { collector = ring_facet numbers old })
       (record (polls_in numbers s) { collector = idle_ring numbers kept })
@@ -200,7 +207,8 @@ module _ (w : Facts) (k : Holdings) (s : JointScene) (j : Joint k.shape w s) (no
   pub emptied : Joint numbers w (stepped numbers s old)
   emptied =
       loads numbers w s (index numbers tail) s.facets.choice (collector_next old s.words)
-      (either_way (λ c. Joint numbers w (with_collector numbers s s.words s.facets.choice c)) (word_at numbers s.words tail == 0)
+      (either_way (λ c. Joint numbers w (with_collector numbers s s.words s.facets.choice c))
+          (word_at numbers s.words tail == 0)
       (empty kept) old
       (λ e. empties_rings numbers w s j old at kept (record { names = refl; part = refl; watch = refl }) none
       (length-set k.windows r (tail_up numbers.ring (window_of k r)) ∙ count) windows_next

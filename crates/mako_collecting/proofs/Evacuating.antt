@@ -1,5 +1,6 @@
 -- The collector stores Evac, and opens the gates again.
-use Rattle.std.proofs.Common.{◌≡◌, ℕ, ◌+◌, ◌<◌, ◌^◌, ◌==◌, false, List, [], length, set, slice_get, Some, sym, ap, subst, refl, ◌∙◌}
+use Rattle.std.proofs.Common.{◌≡◌, ℕ, ◌+◌, ◌<◌, ◌^◌, ◌==◌, false, List, [], length, set, slice_get, Some, sym, ap}
+use Rattle.std.proofs.Common.{subst, refl, ◌∙◌}
 use Rattle.mako_words.specs.Words.{all_but}
 use Rattle.mako_words.specs.declared.gate_word.TheConstants.GateWord.{SHUT}
 use Rattle.mako_words.specs.declared.name.Name.{Name}

@@ -1,12 +1,14 @@
 -- What the collector has found stays so past its steps, and live words stay.
-use Rattle.std.proofs.Common.{◌≡◌, ◌≢◌, ℕ, ◌+◌, ◌*◌, ◌%◌, ◌==◌, nat_lt, Option, Some, None, List, [], ◌∷◌, ◌++◌, length, set, get_or, slice_index, sym, ap, subst, refl, ◌∙◌, arith, slice_get, true, false}
+use Rattle.std.proofs.Common.{◌≡◌, ◌≢◌, ℕ, ◌+◌, ◌*◌, ◌%◌, ◌==◌, nat_lt, Option, Some, None, List, [], ◌∷◌, ◌++◌, length}
+use Rattle.std.proofs.Common.{set, get_or, slice_index, sym, ap, subst, refl, ◌∙◌, arith, slice_get, true, false}
 use Rattle.std.proofs.lemmas.List.{length-set}
 use Rattle.std.proofs.lemmas.Nat.{mod_below}
 use Rattle.mako_words.specs.declared.name.Name.{Name}
 use Rattle.mako_words.specs.Phases.{phase_word}
 use Rattle.mako_words.specs.declared.phase_word.PhaseWord.TheVariants.{Trace}
 use Rattle.mako_shape.specs.declared.numbers.Numbers.{Numbers}
-use Rattle.mako_shape.specs.Places.{Place, phase, flags, mutator_gate, barrier, work, entry, home, top, leaving, live, index, Within, word_at}
+use Rattle.mako_shape.specs.Places.{Place, phase, flags, mutator_gate, barrier, work, entry, home, top, leaving, live}
+use Rattle.mako_shape.specs.Places.{index, Within, word_at}
 use Rattle.mako_shape.proofs.PlaceLaws.{word_other}
 use Rattle.mako_step.specs.Acts.{finds, words_stepped}
 use Rattle.mako_model.specs.Legal.{Facts}
@@ -31,18 +33,25 @@ use Rattle.mako_phases.specs.Orders.{AreUnladen}
 use Rattle.mako_joint.specs.Joints.{JointScene}
 use Rattle.mako_joint.proofs.Pauses.{by_part}
 use Rattle.mako_collecting.specs.Facets.{part_of, names_of}
-use Rattle.mako_pause.specs.Collecting.{Holdings, Collecting, running, window_of, next_of, polled_at, chosen_tablet, gifts_from, gift_of, server_chosen, servers_from, after_tablet, live_words, spare_for}
+use Rattle.mako_pause.specs.Collecting.{Holdings, Collecting, running, window_of, next_of, polled_at, chosen_tablet}
+use Rattle.mako_pause.specs.Collecting.{gifts_from, gift_of, server_chosen, servers_from, after_tablet, live_words}
+use Rattle.mako_pause.specs.Collecting.{spare_for}
 use Rattle.mako_pause.specs.declared.stage.Pause.TheVariants.{Choice as ForChoice}
 use Rattle.mako_pause.specs.declared.stage.IdleStage.TheVariants.{LoadingDemand, LookingFinished, StoringStop}
-use Rattle.mako_pause.specs.declared.stage.PauseStage.TheVariants.{Shutting, Draining, LoadingRoot, StoringTrace, Opening}
+use Rattle.mako_pause.specs.declared.stage.PauseStage.TheVariants.{Shutting, Draining, LoadingRoot, StoringTrace}
+use Rattle.mako_pause.specs.declared.stage.PauseStage.TheVariants.{Opening}
 use Rattle.mako_pause.specs.declared.stage.ForwardStage.TheVariants.{Looking, Storing}
 use Rattle.mako_pause.specs.declared.stage.BarrierStage.TheVariants.{Loading, Clearing}
 use Rattle.mako_pause.specs.declared.stage.ChoiceStage.{ChoiceStage}
-use Rattle.mako_pause.specs.declared.stage.ChoiceStage.TheVariants.{LoadingLive, LoadingTop, LoadingHome, StoringLeaving, StoringHome, StoringTop, StoringEvac, Opening as Reopening}
+use Rattle.mako_pause.specs.declared.stage.ChoiceStage.TheVariants.{LoadingLive, LoadingTop, LoadingHome}
+use Rattle.mako_pause.specs.declared.stage.ChoiceStage.TheVariants.{StoringLeaving, StoringHome, StoringTop}
+use Rattle.mako_pause.specs.declared.stage.ChoiceStage.TheVariants.{StoringEvac, Opening as Reopening}
 use Rattle.mako_pause.specs.declared.stage.NoticeStage.TheVariants.{Looking as NoticeLook}
 use Rattle.mako_pause.specs.declared.stage.CollectStage.{CollectStage}
-use Rattle.mako_pause.specs.declared.stage.CollectStage.TheVariants.{Idle, Pausing, Forwarding, Barriers, Emptying, Polling, Choosing, Noticing, Ended}
-use Rattle.mako_collecting.specs.Findings.{ChoiceFound, StageFound, FindsTablets, FindingsAreKept, LivesStay, SnapshotsBeginCounts, OwedAreTied, IsBeforeEvac, ChoosingEndsCounts}
+use Rattle.mako_pause.specs.declared.stage.CollectStage.TheVariants.{Idle, Pausing, Forwarding, Barriers, Emptying}
+use Rattle.mako_pause.specs.declared.stage.CollectStage.TheVariants.{Polling, Choosing, Noticing, Ended}
+use Rattle.mako_collecting.specs.Findings.{ChoiceFound, StageFound, FindsTablets, FindingsAreKept, LivesStay}
+use Rattle.mako_collecting.specs.Findings.{SnapshotsBeginCounts, OwedAreTied, IsBeforeEvac, ChoosingEndsCounts}
 use Rattle.mako_collecting.specs.Laws.{at, Stands, IsUpToEvac}
 use Rattle.mako_collecting.specs.Steps.{words_next, collector_next}
 use Rattle.mako_collecting.proofs.Idling.{either_way, is_same}
@@ -120,7 +129,8 @@ choice_found words k (Reopening m) found =
     (at k (Choosing (Reopening (m + 1)))) (λ e. tt) (λ e. tt)
 
 findings_at : (words : List ℕ) (k : Holdings) (stage : CollectStage) → FindsTablets stage
-    → StageFound k.shape words k stage → Found k.shape (words_next (at k stage) words) (collector_next (at k stage) words)
+    → StageFound k.shape words k stage
+        → Found k.shape (words_next (at k stage) words) (collector_next (at k stage) words)
 findings_at words k Polling is found =
     let kept : Holdings = record k { poll = poll.fed k.poll (finds (next_of (at k Polling)) words) } in
     polled_found (words_next (at k Polling) words) k.shape kept kept.poll.stage
@@ -273,4 +283,5 @@ choosing_ends_counts n w s places k stage stands is lives before ties counted =
     (by_part n w s stands.joint IsRestful (collector_seat n) (part_of n c) (names_of c) stands.seat.phase
     (chooses_restful n k stage is)) in
     counts_end n w s.words lives before (running k) counted
-    (λ seat server begun counts owed here. owes_none s.facets.phases lives rest.1 ties seat server begun counts owed here)
+    (λ seat server begun counts owed here. owes_none s.facets.phases lives rest.1 ties seat server begun counts owed
+        here)

@@ -1,5 +1,6 @@
 -- The collector forwards its pending names.
-use Rattle.std.proofs.Common.{◌≡◌, ◌≢◌, ℕ, ◌%◌, ◌<◌, ◌==◌, inl, List, ◌∷◌, length, set, slice_set, Contains, Some, sym, ap, subst, refl, ◌∙◌, arith}
+use Rattle.std.proofs.Common.{◌≡◌, ◌≢◌, ℕ, ◌%◌, ◌<◌, ◌==◌, inl, List, ◌∷◌, length, set, slice_set, Contains, Some, sym}
+use Rattle.std.proofs.Common.{ap, subst, refl, ◌∙◌, arith}
 use Rattle.std.proofs.lemmas.Grind.{get_or-set_at}
 use Rattle.std.proofs.lemmas.Nat.{mod_below}
 use Rattle.std.proofs.lemmas.List.{get_or-set_other}
@@ -218,7 +219,8 @@ module _ (w : Facts) (k : Holdings) (s : JointScene) (j : Joint k.shape w s)
     rings : CollectorStep n (λ q. word_at n s.words q) (λ q. word_at n vs q) (ring_facet n (here (Storing x)))
         (ring_facet n (forward kept))
     rings =
-        subst (λ q. CollectorStep n (λ p. word_at n s.words p) (λ p. word_at n vs p) (ring_facet n (here (Storing x))) q)
+        subst (λ q. CollectorStep n (λ p. word_at n s.words p) (λ p. word_at n vs p)
+            (ring_facet n (here (Storing x))) q)
         (sym is.rings)
         (RingForwards r (name_word x) wrote (λ e. no_zero_name x known.1 (sym e)) refl
         (sets_window n k r (head_up (window_of k r)) inside) refl)

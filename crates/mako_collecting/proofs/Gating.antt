@@ -1,5 +1,6 @@
 -- The collector at the gates of the mutators: it shuts, drains and reopens them.
-use Rattle.std.proofs.Common.{◌≡◌, ℕ, ◌+◌, ◌*◌, ◌<◌, ◌==◌, nat_lt, false, List, [], ◌∷◌, sym, ap, subst, refl, ◌∙◌, arith}
+use Rattle.std.proofs.Common.{◌≡◌, ℕ, ◌+◌, ◌*◌, ◌<◌, ◌==◌, nat_lt, false, List, [], ◌∷◌, sym, ap, subst, refl, ◌∙◌}
+use Rattle.std.proofs.Common.{arith}
 use Rattle.std.proofs.lemmas.Bool.Decides.{nat_tests}
 use Rattle.mako_words.specs.Gates.{count_of}
 use Rattle.mako_words.specs.Words.{all_but}
@@ -32,7 +33,8 @@ use Rattle.mako_collecting.specs.Facets.{names_of, part_of, watch_of, round_watc
 use Rattle.mako_collecting.specs.Steps.{with_collector, collector_next, stepped}
 use Rattle.mako_collecting.proofs.Joined.{joined, drains_none}
 use Rattle.mako_collecting.proofs.Stays.{tracks_as, polls_as, order_as}
-use Rattle.mako_collecting.proofs.Moves.{ChoosesNot, stays, loads, fits_now, owes_none, gate_moves, same_words, gate_words, gate_makes, gate_layout, gate_step, over, pause_over}
+use Rattle.mako_collecting.proofs.Moves.{ChoosesNot, stays, loads, fits_now, owes_none, gate_moves, same_words}
+use Rattle.mako_collecting.proofs.Moves.{gate_words, gate_makes, gate_layout, gate_step, over, pause_over}
 use Rattle.mako_collecting.proofs.Idling.{either_way, is_same, rest_stays}
 
 -- ---- a machine that goes on with tracing
@@ -223,7 +225,8 @@ module _ (w : Facts) (k : Holdings) (s : JointScene) (j : Joint k.shape w s) whe
 
     open_next : Joint n w (with_collector n s vs s.facets.choice (here (Opening (m + 1))))
     open_next =
-        gate_step n w s j (here (Opening m)) at m low (And (all_but SHUT)) (here (Opening (m + 1))) refl refl refl opened
+        gate_step n w s j (here (Opening m)) at m low (And (all_but SHUT))
+            (here (Opening (m + 1))) refl refl refl opened
 
     all_opened : m + 1 ≡ n.mutators
         → Evacuation n (layout_in n w (with_collector n s vs s.facets.choice (forward k)))

@@ -1,5 +1,6 @@
 -- The groups side by side once the collector is another: what each group needs.
-use Rattle.std.proofs.Common.{◌≡◌, ◌≢◌, ℕ, zero, suc, ◌<◌, ◌≤◌, ◌⊎◌, inl, inr, ⊎_elim, Bool, true, false, List, [], ◌∷◌, set, slice_get, slice_set, Some, map, option_map, sym, ap, subst, refl, ◌∙◌, arith}
+use Rattle.std.proofs.Common.{◌≡◌, ◌≢◌, ℕ, zero, suc, ◌<◌, ◌≤◌, ◌⊎◌, inl, inr, ⊎_elim, Bool, true, false, List, [], ◌∷◌}
+use Rattle.std.proofs.Common.{set, slice_get, slice_set, Some, map, option_map, sym, ap, subst, refl, ◌∙◌, arith}
 use Rattle.std.proofs.lemmas.Option.{same_Some, slice_get-map}
 use Rattle.mako_words.specs.declared.name.Name.{Name}
 use Rattle.mako_shape.specs.declared.numbers.Numbers.{Numbers}
@@ -15,17 +16,25 @@ use Rattle.mako_layout.specs.StepParts.{collector_seat}
 use Rattle.mako_phases.specs.Facets.{PhaseFacet, mutating, collecting, Part, Admission, IsInPause, role_of}
 use Rattle.mako_phases.specs.Orders.{PhaseOrder}
 use Rattle.mako_phases.specs.Steps.{PhaseOrderIn}
-use Rattle.mako_joint.specs.Joints.{JointScene, names_in, trace_in, layout_in, polls_in, phases_in, TracksFit, IsOutsideWith, IsClearing, HasDrainedAll, GatesMatch, ChoiceFits, ChoiceMatches, IsScript, ReadsAreHeld, Joint}
+use Rattle.mako_joint.specs.Joints.{JointScene, names_in, trace_in, layout_in, polls_in, phases_in, TracksFit}
+use Rattle.mako_joint.specs.Joints.{IsOutsideWith, IsClearing, HasDrainedAll, GatesMatch, ChoiceFits, ChoiceMatches}
+use Rattle.mako_joint.specs.Joints.{IsScript, ReadsAreHeld, Joint}
 use Rattle.mako_pause.specs.Collecting.{Holdings, Collecting}
 use Rattle.mako_pause.specs.declared.stage.Pause.TheVariants.{Snapshot, Choice as ForChoice}
 use Rattle.mako_pause.specs.declared.stage.PauseStage.{PauseStage}
-use Rattle.mako_pause.specs.declared.stage.PauseStage.TheVariants.{Shutting, Draining, LoadingRoot, StoringTrace, Opening}
+use Rattle.mako_pause.specs.declared.stage.PauseStage.TheVariants.{Shutting, Draining, LoadingRoot, StoringTrace}
+use Rattle.mako_pause.specs.declared.stage.PauseStage.TheVariants.{Opening}
 use Rattle.mako_pause.specs.declared.stage.ChoiceStage.{ChoiceStage}
-use Rattle.mako_pause.specs.declared.stage.ChoiceStage.TheVariants.{LoadingLive, LoadingTop, LoadingHome, StoringLeaving, StoringHome, StoringTop, StoringEvac, Opening as Reopening}
-use Rattle.mako_pause.specs.declared.stage.NoticeStage.TheVariants.{Looking as NoticeLook, Clearing as NoticeClear, StoringIdle}
+use Rattle.mako_pause.specs.declared.stage.ChoiceStage.TheVariants.{LoadingLive, LoadingTop, LoadingHome}
+use Rattle.mako_pause.specs.declared.stage.ChoiceStage.TheVariants.{StoringLeaving, StoringHome, StoringTop}
+use Rattle.mako_pause.specs.declared.stage.ChoiceStage.TheVariants.{StoringEvac, Opening as Reopening}
+use Rattle.mako_pause.specs.declared.stage.NoticeStage.TheVariants.{Looking as NoticeLook, Clearing as NoticeClear}
+use Rattle.mako_pause.specs.declared.stage.NoticeStage.TheVariants.{StoringIdle}
 use Rattle.mako_pause.specs.declared.stage.CollectStage.{CollectStage}
-use Rattle.mako_pause.specs.declared.stage.CollectStage.TheVariants.{Idle, Pausing, Forwarding, Barriers, Emptying, Polling, Choosing, Noticing, Ended}
-use Rattle.mako_collecting.specs.Facets.{names_of, part_of, stage_part, phase_facet, all_drained, round_watch, stage_watch, gate_facet, IsCollector, watch_of}
+use Rattle.mako_pause.specs.declared.stage.CollectStage.TheVariants.{Idle, Pausing, Forwarding, Barriers, Emptying}
+use Rattle.mako_pause.specs.declared.stage.CollectStage.TheVariants.{Polling, Choosing, Noticing, Ended}
+use Rattle.mako_collecting.specs.Facets.{names_of, part_of, stage_part, phase_facet, all_drained, round_watch}
+use Rattle.mako_collecting.specs.Facets.{stage_watch, gate_facet, IsCollector, watch_of}
 use Rattle.mako_collecting.specs.Steps.{with_collector}
 
 -- ---- lists

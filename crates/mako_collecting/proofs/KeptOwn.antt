@@ -1,5 +1,7 @@
 -- What the collector keeps of itself and of the barrier rings, past each stage.
-use Rattle.std.proofs.Common.{◌≡◌, ◌≢◌, ℕ, ◌+◌, ◌<◌, ◌==◌, nat_lt, inl, inr, true, false, cond, Option, Some, None, List, [], ◌∷◌, length, position, set, get_or, slice_index, slice_set, sym, ap, subst, refl, ◌∙◌, arith}
+use Rattle.std.proofs.Common.{◌≡◌, ◌≢◌, ℕ, ◌+◌, ◌<◌, ◌==◌, nat_lt, inl, inr, true, false, cond, Option, Some, None}
+use Rattle.std.proofs.Common.{List, [], ◌∷◌, length, position, set, get_or, slice_index, slice_set, sym, ap, subst}
+use Rattle.std.proofs.Common.{refl, ◌∙◌, arith}
 use Rattle.std.proofs.lemmas.Bool.{cases_eq}
 use Rattle.std.proofs.lemmas.Grind.{get_or-set_at}
 use Rattle.std.proofs.lemmas.List.{get_or-set_other}
@@ -15,7 +17,9 @@ use Rattle.mako_poll.specs.Polls as poll
 use Rattle.mako_poll.specs.declared.poller.PollStage.{PollStage}
 use Rattle.mako_poll.specs.declared.poller.PollStage.TheVariants.{Asking, Reading, Ended as Polled}
 use Rattle.mako_poll.specs.declared.poller.Polled.TheVariants.{Told, NotYet}
-use Rattle.mako_pause.specs.Collecting.{Holdings, Collecting, forward, forward_from, empty, empty_from, barriers_from, polled_at, paused, gifts_from, gift_of, server_chosen, servers_from, after_tablet, after_root}
+use Rattle.mako_pause.specs.Collecting.{Holdings, Collecting, forward, forward_from, empty, empty_from, barriers_from}
+use Rattle.mako_pause.specs.Collecting.{polled_at, paused, gifts_from, gift_of, server_chosen, servers_from}
+use Rattle.mako_pause.specs.Collecting.{after_tablet, after_root}
 use Rattle.mako_pause.specs.Keeping.{IsKeptKnown}
 use Rattle.mako_pause.specs.declared.stage.Pause.{Pause}
 use Rattle.mako_pause.specs.declared.stage.Pause.TheVariants.{Snapshot, Choice as ForChoice}
@@ -24,7 +28,8 @@ use Rattle.mako_pause.specs.declared.stage.PauseStage.TheVariants.{Shutting, Loa
 use Rattle.mako_pause.specs.declared.stage.BarrierStage.TheVariants.{Loading}
 use Rattle.mako_pause.specs.declared.stage.ChoiceStage.TheVariants.{LoadingLive, LoadingHome, StoringEvac}
 use Rattle.mako_pause.specs.declared.stage.CollectStage.TheVariants.{Pausing, Barriers, Choosing}
-use Rattle.mako_collecting.specs.Keeping.{StageKeeps, passed_at, PassedAreEmpty, BarrierRing, BarrierRingsStand, SameBarriers}
+use Rattle.mako_collecting.specs.Keeping.{StageKeeps, passed_at, PassedAreEmpty, BarrierRing, BarrierRingsStand}
+use Rattle.mako_collecting.specs.Keeping.{SameBarriers}
 use Rattle.mako_collecting.specs.Laws.{at}
 use Rattle.mako_collecting.proofs.BarrierRings.{ring_stays, ring_taken, ring_empty}
 use Rattle.mako_collecting.proofs.Idling.{either_way, by_test, is_same}

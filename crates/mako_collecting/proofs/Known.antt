@@ -1,5 +1,7 @@
 -- What the collector keeps stays in range.
-use Rattle.std.proofs.Common.{◌≡◌, ℕ, suc, ◌+◌, ◌*◌, ◌%◌, ◌<◌, ◌==◌, nat_lt, Bool, true, false, cond, Option, Some, None, List, [], ◌∷◌, ◌++◌, All, length, map, position, slice_index, slice_set, sym, subst, refl, ◌∙◌, arith}
+use Rattle.std.proofs.Common.{◌≡◌, ℕ, suc, ◌+◌, ◌*◌, ◌%◌, ◌<◌, ◌==◌, nat_lt, Bool, true, false, cond, Option, Some}
+use Rattle.std.proofs.Common.{None, List, [], ◌∷◌, ◌++◌, All, length, map, position, slice_index, slice_set, sym, subst}
+use Rattle.std.proofs.Common.{refl, ◌∙◌, arith}
 use Rattle.std.proofs.lemmas.Bool.Decides.{nat_tests}
 use Rattle.std.proofs.lemmas.List.{length-set, length-append}
 use Rattle.std.proofs.lemmas.List.Elements.{All-append, All-push, All-map, All-set, All-nil}
@@ -26,7 +28,10 @@ use Rattle.mako_poll.specs.declared.poller.PollStage.TheVariants.{Asking, Readin
 use Rattle.mako_poll.specs.declared.poller.Polled.TheVariants.{Told, NotYet}
 use Rattle.mako_joint.specs.Joints.{JointScene}
 use Rattle.mako_choice.specs.Choices.{choice}
-use Rattle.mako_pause.specs.Collecting.{Holdings, Collecting, running, window_of, set_window, next_of, Fits, names_of, forward, forward_from, empty, empty_from, barriers_from, polled_at, paused, gifts_from, gift_of, server_chosen, servers_from, after_tablet, chosen_tablet, spare_for}
+use Rattle.mako_pause.specs.Collecting.{Holdings, Collecting, running, window_of, set_window, next_of, Fits, names_of}
+use Rattle.mako_pause.specs.Collecting.{forward, forward_from, empty, empty_from, barriers_from, polled_at, paused}
+use Rattle.mako_pause.specs.Collecting.{gifts_from, gift_of, server_chosen, servers_from, after_tablet, chosen_tablet}
+use Rattle.mako_pause.specs.Collecting.{spare_for}
 use Rattle.mako_pause.specs.Keeping.{IsKeptName, IsKeptKnown, all_regions}
 use Rattle.mako_choice.specs.declared.chooser.Used.{Used}
 use Rattle.mako_pause.specs.declared.regions.Role.{Role}
@@ -34,13 +39,17 @@ use Rattle.mako_pause.specs.declared.regions.Role.TheVariants.{Home, Spare}
 use Rattle.mako_pause.specs.declared.stage.Pause.{Pause}
 use Rattle.mako_pause.specs.declared.stage.Pause.TheVariants.{Snapshot, Choice as ForChoice}
 use Rattle.mako_pause.specs.declared.stage.IdleStage.TheVariants.{LoadingDemand, LookingFinished, StoringStop}
-use Rattle.mako_pause.specs.declared.stage.PauseStage.TheVariants.{Shutting, Draining, LoadingRoot, StoringTrace, Opening}
+use Rattle.mako_pause.specs.declared.stage.PauseStage.TheVariants.{Shutting, Draining, LoadingRoot, StoringTrace}
+use Rattle.mako_pause.specs.declared.stage.PauseStage.TheVariants.{Opening}
 use Rattle.mako_pause.specs.declared.stage.ForwardStage.TheVariants.{Looking, Storing}
 use Rattle.mako_pause.specs.declared.stage.BarrierStage.TheVariants.{Loading, Clearing}
-use Rattle.mako_pause.specs.declared.stage.ChoiceStage.TheVariants.{LoadingLive, LoadingTop, LoadingHome, StoringLeaving, StoringHome, StoringTop, StoringEvac, Opening as Reopening}
+use Rattle.mako_pause.specs.declared.stage.ChoiceStage.TheVariants.{LoadingLive, LoadingTop, LoadingHome}
+use Rattle.mako_pause.specs.declared.stage.ChoiceStage.TheVariants.{StoringLeaving, StoringHome, StoringTop}
+use Rattle.mako_pause.specs.declared.stage.ChoiceStage.TheVariants.{StoringEvac, Opening as Reopening}
 use Rattle.mako_pause.specs.declared.stage.NoticeStage.TheVariants.{Looking as NoticeLook}
 use Rattle.mako_pause.specs.declared.stage.CollectStage.{CollectStage}
-use Rattle.mako_pause.specs.declared.stage.CollectStage.TheVariants.{Idle, Pausing, Forwarding, Barriers, Emptying, Polling, Choosing, Noticing, Ended}
+use Rattle.mako_pause.specs.declared.stage.CollectStage.TheVariants.{Idle, Pausing, Forwarding, Barriers, Emptying}
+use Rattle.mako_pause.specs.declared.stage.CollectStage.TheVariants.{Polling, Choosing, Noticing, Ended}
 use Rattle.mako_choice.proofs.Places.{choice_below}
 use Rattle.mako_pause.proofs.Places.{tablets_below}
 use Rattle.mako_collecting.specs.Laws.{at, Stands, IsUpToEvac, StepsKeepKnown, StandsGoOn}
@@ -126,7 +135,8 @@ module _ (k : Holdings) (y : IsKeptKnown k) where
 
   gates_known : (shut : Bool) → IsKeptKnown (record k { gates_shut = shut })
   gates_known shut =
-      with_parts k.pending k.windows k.barrier_at k.poll k.used k.chosen k.roles shut y.pending y.windows_count y.windows
+      with_parts k.pending k.windows k.barrier_at k.poll k.used k.chosen k.roles shut y.pending y.windows_count
+          y.windows
       y.barriers_count y.barriers y.poll_shape y.poll y.chosen y.roles
 
   -- ---- where it goes on to

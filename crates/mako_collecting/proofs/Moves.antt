@@ -1,5 +1,6 @@
 -- A step of the collector that changes nothing but its machine, or its gates.
-use Rattle.std.proofs.Common.{◌≡◌, ℕ, zero, suc, ◌<◌, inr, List, [], ◌∷◌, set, slice_get, slice_set, get_or, Some, sym, ap, subst, refl, ◌∙◌}
+use Rattle.std.proofs.Common.{◌≡◌, ℕ, zero, suc, ◌<◌, inr, List, [], ◌∷◌, set, slice_get, slice_set, get_or, Some, sym}
+use Rattle.std.proofs.Common.{ap, subst, refl, ◌∙◌}
 use Rattle.mako_shape.specs.declared.numbers.Numbers.{Numbers}
 use Rattle.mako_shape.specs.Places.{Place, mutator_gate, index, word_at}
 use Rattle.mako_gate.specs.Changes.{Makes}
@@ -26,7 +27,8 @@ use Rattle.mako_pause.specs.Collecting.{Collecting}
 use Rattle.mako_collecting.specs.Facets.{names_of, part_of, watch_of, gate_facet, ring_facet, IsCollector}
 use Rattle.mako_collecting.specs.Steps.{with_collector}
 use Rattle.mako_collecting.proofs.Joined.{joined, drains_none}
-use Rattle.mako_collecting.proofs.Stays.{load_leaves, tracks_as, layout_as, order_as, polls_as, names_else, tracks_else, order_else, polls_else}
+use Rattle.mako_collecting.proofs.Stays.{load_leaves, tracks_as, layout_as, order_as, polls_as, names_else, tracks_else}
+use Rattle.mako_collecting.proofs.Stays.{order_else, polls_else}
 
 -- ---- lists
 
@@ -94,7 +96,8 @@ pub gate_moves : (n : Numbers) (w : Facts) (s : JointScene) → Joint n w s → 
     → Evacuation n (at_gate st V (collector_seat n) g)
 gate_moves n w s j st e x g at work V action leaves none owes =
     each_step_keeps n j.script.shape st (collector_seat n) (at_gate st V (collector_seat n) g) e
-    (acts V (collector_seat n) (shutter_at (collector_seat n) x) g (record { gate = at; work = work }) action leaves none
+    (acts V (collector_seat n) (shutter_at (collector_seat n) x) g (record { gate = at;
+        work = work }) action leaves none
     (inr owes))
 
 pub same_words : (n : Numbers) (V : Place → ℕ) → LeavesLayout n V V
@@ -159,7 +162,8 @@ module _ (n : Numbers) (w : Facts) (s : JointScene) (j : Joint n w s) (old : Col
 -- the layout where the collector's gates are these
 abbrev pub over : (n : Numbers) → Facts → JointScene → List ℕ → Choice → Watch → State
 over n w s us choice x =
-    at_gate (layout_in n w (record s { words = us; facets = record s.facets { choice = choice } })) (λ q. word_at n us q)
+    at_gate (layout_in n w (record s { words = us; facets = record s.facets { choice = choice } }))
+        (λ q. word_at n us q)
     (collector_seat n) (shutter_at (collector_seat n) x)
 
 -- once all gates are reopened the pause is over

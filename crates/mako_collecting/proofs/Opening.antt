@@ -1,5 +1,7 @@
 -- The collector's machine before its first step.
-use Rattle.std.proofs.Common.{◌≡◌, ℕ, zero, suc, ◌+◌, ◌*◌, ◌%◌, ◌<◌, ◌≤◌, ◌==◌, eq-eqb, inl, inr, Bool, true, false, cond, nat_lt, List, [], ◌∷◌, ◌++◌, All, length, replicate, get_or, slice_index, sym, ap, subst, refl, ◌∙◌, arith}
+use Rattle.std.proofs.Common.{◌≡◌, ℕ, zero, suc, ◌+◌, ◌*◌, ◌%◌, ◌<◌, ◌≤◌, ◌==◌, eq-eqb, inl, inr, Bool, true, false}
+use Rattle.std.proofs.Common.{cond, nat_lt, List, [], ◌∷◌, ◌++◌, All, length, replicate, get_or, slice_index, sym, ap}
+use Rattle.std.proofs.Common.{subst, refl, ◌∙◌, arith}
 use Rattle.std.proofs.lemmas.Bool.{cases_eq, ne_eqb}
 use Rattle.std.proofs.lemmas.Grind.{common_steps}
 use Rattle.std.proofs.lemmas.List.{length-replicate}
@@ -59,7 +61,8 @@ none_above : (n : Numbers) (c r : ℕ) → c ≤ r → times_in (spares_below n 
 none_above n zero r low = refl
 none_above n (suc c) r low = on (none_above n c r (omega arith)) (nat_lt (c % (n.tablets + n.spare)) n.tablets)
   where
-    on : times_in (spares_below n c) r ≡ 0 → (b : Bool) → times_in (cond b (spares_below n c) (c ∷ spares_below n c)) r ≡ 0
+    on : times_in (spares_below n c) r ≡ 0 → (b : Bool)
+        → times_in (cond b (spares_below n c) (c ∷ spares_below n c)) r ≡ 0
     on rest true = rest
     on rest false =
         let other : counted (c == r) 1 ≡ 0 = ap (λ (x : Bool). counted x 1) (ne_eqb c r (λ e. omega arith)) in

@@ -1,5 +1,6 @@
 -- What the collector keeps, beside steps of other seats.
-use Rattle.std.proofs.Common.{◌≡◌, ◌≢◌, ℕ, ◌<◌, inl, inr, Bool, true, false, cond, List, length, set, slice_index, sym, ap, subst, refl, ◌∙◌, arith, eq-eqb}
+use Rattle.std.proofs.Common.{◌≡◌, ◌≢◌, ℕ, ◌<◌, inl, inr, Bool, true, false, cond, List, length, set, slice_index, sym}
+use Rattle.std.proofs.Common.{ap, subst, refl, ◌∙◌, arith, eq-eqb}
 use Rattle.std.proofs.lemmas.Bool.{cases_eq, ne_eqb}
 use Rattle.mako_words.specs.Names.{name_word}
 use Rattle.mako_words.specs.declared.name.Name.{Name}
@@ -12,7 +13,8 @@ use Rattle.mako_pause.specs.Collecting.{Holdings}
 use Rattle.mako_pause.specs.Keeping.{IsKeptKnown, StageIsKnown}
 use Rattle.mako_pause.specs.declared.stage.BarrierStage.TheVariants.{Loading, Clearing}
 use Rattle.mako_pause.specs.declared.stage.CollectStage.{CollectStage}
-use Rattle.mako_pause.specs.declared.stage.CollectStage.TheVariants.{Idle, Pausing, Forwarding, Barriers, Emptying, Polling, Choosing, Noticing, Ended}
+use Rattle.mako_pause.specs.declared.stage.CollectStage.TheVariants.{Idle, Pausing, Forwarding, Barriers, Emptying}
+use Rattle.mako_pause.specs.declared.stage.CollectStage.TheVariants.{Polling, Choosing, Noticing, Ended}
 use Rattle.mako_collecting.specs.Keeping.{BarrierRing, StageKeeps, OthersLeaveIt, place_up, PutsLeaveIt}
 use Rattle.mako_collecting.proofs.BarrierRings.{ring_stays, ring_put}
 use Rattle.mako_collecting.proofs.KeptOwn.{rings_same, empty_same}
@@ -27,7 +29,8 @@ module _ (n : Numbers) (k : Holdings) (known : IsKeptKnown k) (shape : k.shape �
   keeps_same : (words us : List ℕ) (stage : CollectStage) → StageIsKnown k stage
       → ((m : ℕ) (x : Name) → m < n.mutators → word_at n words (barrier m (slice_index k.barrier_at m)) ≡ name_word x
       → word_at n words (barrier m (slice_index k.barrier_at m)) ≢ 0
-      → word_at n us (barrier m (slice_index k.barrier_at m)) ≡ word_at n words (barrier m (slice_index k.barrier_at m)))
+      → word_at n us (barrier m (slice_index k.barrier_at m)) ≡ word_at n words
+          (barrier m (slice_index k.barrier_at m)))
       → StageKeeps n words k stage → StageKeeps n us k stage
   keeps_same words us (Barriers (Clearing m x)) is same keeps =
       let low : m < n.mutators = subst (λ (y : Numbers). m < y.mutators) shape is.1.0 in

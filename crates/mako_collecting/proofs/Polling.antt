@@ -1,5 +1,6 @@
 -- The collector polls the servers, and is told that tracing is complete.
-use Rattle.std.proofs.Common.{◌≡◌, ℕ, ◌<◌, ⊎_elim, Bool, true, false, List, [], ◌∷◌, set, slice_get, Some, sym, ap, subst, refl, ◌∙◌, arith}
+use Rattle.std.proofs.Common.{◌≡◌, ℕ, ◌<◌, ⊎_elim, Bool, true, false, List, [], ◌∷◌, set, slice_get, Some, sym, ap}
+use Rattle.std.proofs.Common.{subst, refl, ◌∙◌, arith}
 use Rattle.mako_words.specs.Words.{all_but}
 use Rattle.mako_words.specs.declared.name.Name.{Name}
 use Rattle.mako_shape.specs.declared.numbers.Numbers.{Numbers}
@@ -48,7 +49,8 @@ use Rattle.mako_collecting.specs.Facets.{part_of, round_watch, gate_facet, ring_
 use Rattle.mako_collecting.specs.Steps.{with_collector, choice_begun, polled}
 use Rattle.mako_collecting.specs.Ties.{TakesWord, ServersAreTied, BarriersAreEmpty}
 use Rattle.mako_collecting.proofs.Joined.{joined, drains_none}
-use Rattle.mako_collecting.proofs.Stays.{tracks_as, layout_as, order_as, names_else, tracks_else, layout_else, order_else}
+use Rattle.mako_collecting.proofs.Stays.{tracks_as, layout_as, order_as, names_else, tracks_else, layout_else}
+use Rattle.mako_collecting.proofs.Stays.{order_else}
 use Rattle.mako_collecting.proofs.Moves.{owes_none, fits_now, gate_moves, same_words}
 use Rattle.mako_collecting.proofs.Idling.{either_way, choice_rests}
 use Rattle.mako_collecting.proofs.Emptying.{GoesOn}
@@ -170,7 +172,8 @@ module _ (w : Facts) (kept : Holdings) (stage : PollStage) (s : JointScene) (j :
   abbrev begun : Choice
   begun = chooses settled [] (spare_of s.facets.choice)
 
-  module _ (shut : kept.gates_shut ≡ true) (stands : Stands (Polled Told)) (ties : ServersAreTied s.facets.phases s.facets.servers)
+  module _ (shut : kept.gates_shut ≡ true) (stands : Stands (Polled Told))
+      (ties : ServersAreTied s.facets.phases s.facets.servers)
       (barriers : BarriersAreEmpty n s.words) where
     abbrev scene : Scene
     scene = record (polls_in n moved) {

@@ -1,5 +1,7 @@
 -- Each step of the choice keeps what roles and chosen tablets are to the layout's choice.
-use Rattle.std.proofs.Common.{◌≡◌, ◌≢◌, ℕ, ◌+◌, ◌-◌, ◌*◌, ◌<◌, ◌==◌, nat_lt, inl, inr, Bool, true, false, Option, Some, None, List, [], ◌∷◌, ◌++◌, length, position, set, get_or, drop, slice_index_or, slice_range, sym, ap, subst, refl, ◌∙◌, arith, eq-eqb, length-take}
+use Rattle.std.proofs.Common.{◌≡◌, ◌≢◌, ℕ, ◌+◌, ◌-◌, ◌*◌, ◌<◌, ◌==◌, nat_lt, inl, inr, Bool, true, false, Option, Some}
+use Rattle.std.proofs.Common.{None, List, [], ◌∷◌, ◌++◌, length, position, set, get_or, drop, slice_index_or}
+use Rattle.std.proofs.Common.{slice_range, sym, ap, subst, refl, ◌∙◌, arith, eq-eqb, length-take}
 use Rattle.std.proofs.lemmas.Bool.{cases_eq, ne_eqb}
 use Rattle.std.proofs.lemmas.Bool.Decides.{nat_tests}
 use Rattle.std.proofs.lemmas.Grind.{get_or-set_at}
@@ -17,13 +19,16 @@ use Rattle.mako_layout.specs.Evacuations.{layout}
 use Rattle.mako_layout.proofs.Roles.{given_not_spare}
 use Rattle.mako_phases.specs.Lives.{AreOnce}
 use Rattle.mako_joint.specs.Joints.{JointScene, layout_in}
-use Rattle.mako_pause.specs.Collecting.{Holdings, Collecting, running, chosen_tablet, gifts_from, gift_of, spare_for, server_chosen, servers_from, after_tablet}
+use Rattle.mako_pause.specs.Collecting.{Holdings, Collecting, running, chosen_tablet, gifts_from, gift_of, spare_for}
+use Rattle.mako_pause.specs.Collecting.{server_chosen, servers_from, after_tablet}
 use Rattle.mako_pause.specs.Regions.{is_spare, spare_between, behind}
 use Rattle.mako_pause.specs.declared.regions.Role.{Role}
 use Rattle.mako_pause.specs.declared.regions.Role.TheVariants.{Home, Spare}
 use Rattle.mako_pause.specs.declared.stage.Gift.{Gift as Exchange}
 use Rattle.mako_pause.specs.declared.stage.ChoiceStage.{ChoiceStage}
-use Rattle.mako_pause.specs.declared.stage.ChoiceStage.TheVariants.{LoadingLive, LoadingTop, LoadingHome, StoringLeaving, StoringHome, StoringTop, StoringEvac, Opening as Reopening}
+use Rattle.mako_pause.specs.declared.stage.ChoiceStage.TheVariants.{LoadingLive, LoadingTop, LoadingHome}
+use Rattle.mako_pause.specs.declared.stage.ChoiceStage.TheVariants.{StoringLeaving, StoringHome, StoringTop}
+use Rattle.mako_pause.specs.declared.stage.ChoiceStage.TheVariants.{StoringEvac, Opening as Reopening}
 use Rattle.mako_pause.specs.declared.stage.NoticeStage.TheVariants.{Looking as NoticeLook}
 use Rattle.mako_pause.specs.declared.stage.CollectStage.TheVariants.{Choosing, Noticing}
 use Rattle.mako_collecting.specs.Choosing.{choice_next, given_next, spare_next}
@@ -68,7 +73,8 @@ spare_is roles cycle first count region found = go (position (is_spare cycle) xs
           place = place;
           low = low;
           is = here;
-          spare = ap (λ (r : ℕ). is_spare cycle (get_or roles r Home)) (sym here) ∙ ap (is_spare cycle) (sym there) ∙ spot.1;
+          spare = ap (λ (r : ℕ). is_spare cycle (get_or roles r Home)) (sym here) ∙ ap (is_spare cycle) (sym there)
+              ∙ spot.1;
         }
 
 -- ---- the roles after a gift
@@ -123,7 +129,8 @@ module _ (roles : List Role) (cycle region former : ℕ) (spare : List ℕ) (low
           | inr apart ↦
               (let same : counted (is_spare cycle (get_or roles_next r Home)) 1
               ≡ counted (is_spare cycle (get_or roles r Home)) 1 =
-              ap (λ (x : Role). counted (is_spare cycle x) 1) (other ∙ get_or-set_other roles region r Home Home apart) in
+              ap (λ (x : Role). counted (is_spare cycle x) 1) (other
+                  ∙ get_or-set_other roles region r Home Home apart) in
               let none : counted (region == r) 1 ≡ 0 =
               ap (λ (b : Bool). counted b 1) (ne_eqb region r (λ z. apart (sym z))) in
               let b = before r few in omega arith)
@@ -246,7 +253,8 @@ module _ (w : Facts) (s : JointScene) (places : ℕ → ℕ) (k : Holdings) (giv
           ap (λ (b : Bool). counted b (gift.former + 1)) (ne_eqb tablet t d) in
           let one = given_one tablet gift.former t given in
           let was = o.done t (λ z. some (omega arith)) in
-          record { number = was.number; before = (let b = was.before in omega arith); inside = was.inside; is = was.is })
+          record { number = was.number; before = (let b = was.before in omega arith); inside = was.inside;
+              is = was.is })
     ]
 
     leaving_kept : After (StoringLeaving i gift) (at k (Choosing (StoringHome i gift)))
@@ -262,7 +270,8 @@ module _ (w : Facts) (s : JointScene) (places : ℕ → ℕ) (k : Holdings) (giv
     }
 
   -- it gets its new home
-  module _ (i : ℕ) (gift : Exchange) (o : Before (StoringHome i gift)) (x : Stands n w s places (at k (Choosing (StoringHome i gift)))) where
+  module _ (i : ℕ) (gift : Exchange) (o : Before (StoringHome i gift))
+      (x : Stands n w s places (at k (Choosing (StoringHome i gift)))) where
     abbrev housed : ℕ
     housed = chosen_tablet k i
 
@@ -290,7 +299,8 @@ module _ (w : Facts) (s : JointScene) (places : ℕ → ℕ) (k : Holdings) (giv
   choice_kept (LoadingLive r place) x f h o = record { begun = refl; spares = o.spares; done = o.done; gift = tt }
   choice_kept (LoadingTop r place number) x f h o =
       tablets_kept r place number o
-      (record k { used = k.used ++ record { top = word_at n s.words (top (r * n.tablets + place)); live = number } ∷ [] })
+      (record k { used = k.used ++ record { top = word_at n s.words (top (r * n.tablets + place));
+          live = number } ∷ [] })
       refl refl
   choice_kept (LoadingHome i) x f h o = home_kept i h.0 h.1 o (x.known.chosen i 0 x.keeps.stage.1)
   choice_kept (StoringLeaving i gift) x f h o = leaving_kept i gift o f x.keeps.stage.1.0 x.keeps.stage.1.2

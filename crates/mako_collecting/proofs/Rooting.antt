@@ -1,5 +1,6 @@
 -- The collector loads the roots of all mutators.
-use Rattle.std.proofs.Common.{◌≡◌, ℕ, ◌+◌, ◌*◌, ◌%◌, ◌<◌, ◌≤◌, nat_lt, List, ◌++◌, sym, ap, subst, refl, ◌∙◌, arith, add-mul}
+use Rattle.std.proofs.Common.{◌≡◌, ℕ, ◌+◌, ◌*◌, ◌%◌, ◌<◌, ◌≤◌, nat_lt, List, ◌++◌, sym, ap, subst, refl, ◌∙◌, arith}
+use Rattle.std.proofs.Common.{add-mul}
 use Rattle.std.proofs.lemmas.Nat.{div-mul-add, mod-mul-add}
 use Rattle.mako_words.specs.declared.name.Name.{Name}
 use Rattle.mako_words.specs.declared.value.Value.{Value}
@@ -66,7 +67,8 @@ pub past_root : (k kept : Holdings) (m q : ℕ) → k.shape ≡ kept.shape → m
     → IsPast k.shape kept (m * k.shape.roots + q + 1) (record { kept = kept; stage = Pausing (after_root k m q) })
 past_root k kept m q same inside low =
     let n : Numbers = k.shape in
-    by_test (λ (stage : PauseStage). IsPast n kept (m * n.roots + q + 1) (record { kept = kept; stage = Pausing stage }))
+    by_test (λ (stage : PauseStage). IsPast n kept (m * n.roots + q + 1) (record { kept = kept;
+        stage = Pausing stage }))
     (nat_lt (q + 1) n.roots) (LoadingRoot m (q + 1)) _ (λ e. at_root n kept m q m (q + 1) (omega arith))
     (λ e. by_test
     (λ (stage : PauseStage). IsPast n kept (m * n.roots + q + 1) (record { kept = kept; stage = Pausing stage }))

@@ -1,4 +1,5 @@
--- What stays of each group: where the collector's facet is as it was, and where a word is stored that the group does not
+-- What stays of each group: where the collector's facet is as it was, and where a word is stored that the group does
+-- not
 -- read.
 use Rattle.std.proofs.Common.{◌≡◌, ◌≢◌, ℕ, List, set, get_or, length, Some, sym, ap, subst, refl, ◌∙◌}
 use Rattle.std.proofs.lemmas.List.{set-get_or}

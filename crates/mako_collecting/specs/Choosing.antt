@@ -3,13 +3,16 @@ use Rattle.std.specs.Prelude.{ℕ, ◌≡◌, ◌<◌, ◌≤◌, ◌==◌, if�
 use Rattle.mako_shape.specs.declared.numbers.Numbers.{Numbers}
 use Rattle.mako_shape.specs.Places.{home, word_at}
 use Rattle.mako_shape.specs.Belongings.{server_of_region, server_of_tablet}
-use Rattle.mako_layout.specs.Facets.{Debt, settled, owes_home, owes_top, Gift, Choice, chooses, has_chosen, gift_of, times_in}
+use Rattle.mako_layout.specs.Facets.{Debt, settled, owes_home, owes_top, Gift, Choice, chooses, has_chosen, gift_of}
+use Rattle.mako_layout.specs.Facets.{times_in}
 use Rattle.mako_layout.specs.Layouts.{regions_of}
 use Rattle.mako_joint.specs.Joints.{JointScene}
 use Rattle.mako_pause.specs.Collecting.{Holdings, chosen_tablet}
 use Rattle.mako_pause.specs.declared.stage.Gift.{Gift as Exchange}
 use Rattle.mako_pause.specs.declared.stage.ChoiceStage.{ChoiceStage}
-use Rattle.mako_pause.specs.declared.stage.ChoiceStage.TheVariants.{LoadingLive, LoadingTop, LoadingHome, StoringLeaving, StoringHome, StoringTop, StoringEvac, Opening as Reopening}
+use Rattle.mako_pause.specs.declared.stage.ChoiceStage.TheVariants.{LoadingLive, LoadingTop, LoadingHome}
+use Rattle.mako_pause.specs.declared.stage.ChoiceStage.TheVariants.{StoringLeaving, StoringHome, StoringTop}
+use Rattle.mako_pause.specs.declared.stage.ChoiceStage.TheVariants.{StoringEvac, Opening as Reopening}
 
 -- ---- what it has still to store
 abbrev pub debt_at : Holdings → ChoiceStage → Debt

@@ -1,5 +1,6 @@
 -- What the groups of the invariant read of the collector, by its stage.
-use Rattle.std.specs.Prelude.{ℕ, zero, suc, ◌≡◌, ◌+◌, ◌*◌, Bool, true, false, List, [], ◌∷◌, length, slice_get, slice_index, Some}
+use Rattle.std.specs.Prelude.{ℕ, zero, suc, ◌≡◌, ◌+◌, ◌*◌, Bool, true, false, List, [], ◌∷◌, length, slice_get}
+use Rattle.std.specs.Prelude.{slice_index, Some}
 use Rattle.mako_words.specs.declared.name.Name.{Name}
 use Rattle.mako_shape.specs.declared.numbers.Numbers.{Numbers}
 use Rattle.mako_gate.specs.Standings.{GateFacet, Watch, rests, pauses, shutter_at}
@@ -15,15 +16,20 @@ use Rattle.mako_joint.specs.Joints.{JointScene}
 use Rattle.mako_pause.specs.Collecting.{Holdings, Collecting, running, window_of, chosen_tablet}
 use Rattle.mako_pause.specs.declared.stage.Pause.TheVariants.{Snapshot, Choice}
 use Rattle.mako_pause.specs.declared.stage.PauseStage.{PauseStage}
-use Rattle.mako_pause.specs.declared.stage.PauseStage.TheVariants.{Shutting, Draining, LoadingRoot, StoringTrace, Opening}
+use Rattle.mako_pause.specs.declared.stage.PauseStage.TheVariants.{Shutting, Draining, LoadingRoot, StoringTrace}
+use Rattle.mako_pause.specs.declared.stage.PauseStage.TheVariants.{Opening}
 use Rattle.mako_pause.specs.declared.stage.ForwardStage.{ForwardStage}
 use Rattle.mako_pause.specs.declared.stage.ForwardStage.TheVariants.{Looking, Storing}
 use Rattle.mako_pause.specs.declared.stage.ChoiceStage.{ChoiceStage}
-use Rattle.mako_pause.specs.declared.stage.ChoiceStage.TheVariants.{LoadingLive, LoadingTop, LoadingHome, StoringLeaving, StoringHome, StoringTop, StoringEvac, Opening as Reopening}
+use Rattle.mako_pause.specs.declared.stage.ChoiceStage.TheVariants.{LoadingLive, LoadingTop, LoadingHome}
+use Rattle.mako_pause.specs.declared.stage.ChoiceStage.TheVariants.{StoringLeaving, StoringHome, StoringTop}
+use Rattle.mako_pause.specs.declared.stage.ChoiceStage.TheVariants.{StoringEvac, Opening as Reopening}
 use Rattle.mako_pause.specs.declared.stage.NoticeStage.{NoticeStage}
-use Rattle.mako_pause.specs.declared.stage.NoticeStage.TheVariants.{Looking as NoticeLook, Clearing as NoticeClear, StoringIdle}
+use Rattle.mako_pause.specs.declared.stage.NoticeStage.TheVariants.{Looking as NoticeLook, Clearing as NoticeClear}
+use Rattle.mako_pause.specs.declared.stage.NoticeStage.TheVariants.{StoringIdle}
 use Rattle.mako_pause.specs.declared.stage.CollectStage.{CollectStage}
-use Rattle.mako_pause.specs.declared.stage.CollectStage.TheVariants.{Idle, Pausing, Forwarding, Barriers, Emptying, Polling, Choosing, Noticing, Ended}
+use Rattle.mako_pause.specs.declared.stage.CollectStage.TheVariants.{Idle, Pausing, Forwarding, Barriers, Emptying}
+use Rattle.mako_pause.specs.declared.stage.CollectStage.TheVariants.{Polling, Choosing, Noticing, Ended}
 
 -- ---- the names that are pending: those kept, and the one that is being forwarded
 abbrev pub forward_names : Holdings → ForwardStage → List Name

@@ -12,7 +12,9 @@ use Rattle.mako_phases.specs.LiveSteps.{AgreeOnLives}
 use Rattle.mako_pause.specs.Collecting.{Holdings, running}
 use Rattle.mako_pause.specs.declared.stage.PauseStage.TheVariants.{StoringTrace}
 use Rattle.mako_pause.specs.declared.stage.ChoiceStage.{ChoiceStage}
-use Rattle.mako_pause.specs.declared.stage.ChoiceStage.TheVariants.{LoadingLive, LoadingTop, LoadingHome, StoringLeaving, StoringHome, StoringTop, StoringEvac, Opening as Reopening}
+use Rattle.mako_pause.specs.declared.stage.ChoiceStage.TheVariants.{LoadingLive, LoadingTop, LoadingHome}
+use Rattle.mako_pause.specs.declared.stage.ChoiceStage.TheVariants.{StoringLeaving, StoringHome, StoringTop}
+use Rattle.mako_pause.specs.declared.stage.ChoiceStage.TheVariants.{StoringEvac, Opening as Reopening}
 use Rattle.mako_pause.specs.declared.stage.CollectStage.{CollectStage}
 use Rattle.mako_pause.specs.declared.stage.CollectStage.TheVariants.{Pausing, Polling, Choosing}
 use Rattle.mako_collecting.specs.Laws.{at, Stands, IsUpToEvac}

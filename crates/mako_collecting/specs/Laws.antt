@@ -15,7 +15,8 @@ use Rattle.mako_pause.specs.declared.stage.PauseStage.TheVariants.{StoringTrace}
 use Rattle.mako_pause.specs.declared.stage.ChoiceStage.{ChoiceStage}
 use Rattle.mako_pause.specs.declared.stage.ChoiceStage.TheVariants.{LoadingHome, StoringLeaving, StoringEvac}
 use Rattle.mako_pause.specs.declared.stage.CollectStage.{CollectStage}
-use Rattle.mako_pause.specs.declared.stage.CollectStage.TheVariants.{Idle, Pausing, Forwarding, Barriers, Emptying, Polling, Choosing, Noticing, Ended}
+use Rattle.mako_pause.specs.declared.stage.CollectStage.TheVariants.{Idle, Pausing, Forwarding, Barriers, Emptying}
+use Rattle.mako_pause.specs.declared.stage.CollectStage.TheVariants.{Polling, Choosing, Noticing, Ended}
 use Rattle.mako_collecting.specs.Choosing.{choice_at, MayGive}
 use Rattle.mako_collecting.specs.Facets.{IsCollector}
 use Rattle.mako_collecting.specs.Keeping.{CollectorKeeps}
@@ -109,7 +110,8 @@ IsUpToEvac (Noticing stage) = ⊥
 IsUpToEvac Ended = ⊥
 IsUpToEvac stage = Unit {0}
 
--- Where the word found is one that it can go on with, what it keeps of itself stands after the step too; and the barrier
+-- Where the word found is one that it can go on with, what it keeps of itself stands after the step too; and the
+-- barrier
 -- rings stand, whose mutators put no name meanwhile.
 abbrev pub StepsKeepTheirOwn : Type 0
 StepsKeepTheirOwn = (n : Numbers) (w : Facts) (s : JointScene) (places : ℕ → ℕ) (k : Holdings) (stage : CollectStage)
@@ -122,7 +124,8 @@ StepsKeepKnown = (n : Numbers) (w : Facts) (s : JointScene) (places : ℕ → �
     → IsUpToEvac stage → Stands n w s places (at k stage) → Fits (at k stage) (finds (next_of (at k stage)) s.words)
     → IsKeptKnown (collector_next (at k stage) s.words).kept
 
--- So it stands again after a step that keeps all groups: of the scene, or of one with the same seat where the step tells
+-- So it stands again after a step that keeps all groups: of the scene, or of one with the same seat where the step
+-- tells
 -- a point beside.
 abbrev pub StandsGoOn : Type 0
 StandsGoOn = (n : Numbers) (w : Facts) (s beside : JointScene) (places : ℕ → ℕ) (k : Holdings) (stage : CollectStage)

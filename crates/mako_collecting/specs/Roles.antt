@@ -1,5 +1,6 @@
 -- What the collector keeps of regions and chosen tablets is what the layout reads as its choice.
-use Rattle.std.specs.Prelude.{ℕ, ◌≡◌, ◌≢◌, ◌+◌, ◌<◌, ◌==◌, true, List, length, slice_index, slice_index_or, Some, [], slice_set}
+use Rattle.std.specs.Prelude.{ℕ, ◌≡◌, ◌≢◌, ◌+◌, ◌<◌, ◌==◌, true, List, length, slice_index, slice_index_or, Some, []}
+use Rattle.std.specs.Prelude.{slice_set}
 use Rattle.mako_shape.specs.declared.numbers.Numbers.{Numbers}
 use Rattle.mako_shape.specs.Places.{home, word_at}
 use Rattle.mako_shape.specs.Belongings.{server_of_region, server_of_tablet}
@@ -13,7 +14,9 @@ use Rattle.mako_pause.specs.Regions.{is_spare}
 use Rattle.mako_pause.specs.declared.regions.Role.{Role}
 use Rattle.mako_pause.specs.declared.regions.Role.TheVariants.{Home, Spare}
 use Rattle.mako_pause.specs.declared.stage.ChoiceStage.{ChoiceStage}
-use Rattle.mako_pause.specs.declared.stage.ChoiceStage.TheVariants.{LoadingLive, LoadingTop, LoadingHome, StoringLeaving, StoringHome, StoringTop, StoringEvac, Opening as Reopening}
+use Rattle.mako_pause.specs.declared.stage.ChoiceStage.TheVariants.{LoadingLive, LoadingTop, LoadingHome}
+use Rattle.mako_pause.specs.declared.stage.ChoiceStage.TheVariants.{StoringLeaving, StoringHome, StoringTop}
+use Rattle.mako_pause.specs.declared.stage.ChoiceStage.TheVariants.{StoringEvac, Opening as Reopening}
 use Rattle.mako_pause.specs.declared.stage.CollectStage.{CollectStage}
 use Rattle.mako_pause.specs.declared.stage.CollectStage.TheVariants.{Choosing}
 use Rattle.mako_collecting.specs.Choosing.{choice_at, choice_next, given_next, spare_next, MayGive}

@@ -4,7 +4,9 @@ ghost use Rattle.mako_collecting.specs.Findings.{FindingsAreKept, LivesStay, Sna
 ghost use Rattle.mako_collecting.specs.Opening.{MachinesOpen};
 ghost use Rattle.mako_collecting.specs.Roles.{GiftsMayBeGiven, ChoicesAreKept, ChoicesBegin, StepsLeaveKept};
 ghost use Rattle.mako_collecting.specs.Keeping.{OthersLeaveIt, PutsLeaveIt};
-ghost use Rattle.mako_collecting.specs.Laws.{IdleStepsKeep, PauseStepsKeep, SnapshotsKeep, RoundStepsKeep, PollStepsKeep, ChoiceStepsKeep, SeatsStay, StepsKeepTheirOwn, StepsKeepKnown, StandsGoOn};
+ghost use Rattle.mako_collecting.specs.Laws.{IdleStepsKeep, PauseStepsKeep, SnapshotsKeep, RoundStepsKeep};
+ghost use Rattle.mako_collecting.specs.Laws.{PollStepsKeep, ChoiceStepsKeep, SeatsStay, StepsKeepTheirOwn};
+ghost use Rattle.mako_collecting.specs.Laws.{StepsKeepKnown, StandsGoOn};
 
 /// Each step of the collector where no cycle runs keeps all groups: the looks at demand and finished, and the store of
 /// Stop.
@@ -31,9 +33,9 @@ pub fn choices_keep()
     ensures { ChoiceStepsKeep }
 {}
 
-/// After a step the seat's facets are those of the machine (`seat`); what the machine keeps of itself and of the barrier
-/// rings stands (`own`), and all that it keeps is in range (`known`). So it stands again where the step keeps all groups
-/// (`again`).
+/// After a step the seat's facets are those of the machine (`seat`); what the machine keeps of itself and of the
+/// barrier rings stands (`own`), and all that it keeps is in range (`known`). So it stands again where the step keeps
+/// all groups (`again`).
 pub fn machines_keep()
     ensures seat { SeatsStay }
     ensures own { StepsKeepTheirOwn }
@@ -41,9 +43,9 @@ pub fn machines_keep()
     ensures again { StandsGoOn }
 {}
 
-/// What the collector has found of tops and live words is that of the words, and no tablet stands twice among those that
-/// it has chosen (`found`). It stores no live word (`lives`); with the store of Trace live counts begin (`begin`), and while
-/// it chooses they are past (`end`).
+/// What the collector has found of tops and live words is that of the words, and no tablet stands twice among those
+/// that it has chosen (`found`). It stores no live word (`lives`); with the store of Trace live counts begin (`begin`),
+/// and while it chooses they are past (`end`).
 pub fn findings_keep()
     ensures found { FindingsAreKept }
     ensures lives { LivesStay }
@@ -51,9 +53,9 @@ pub fn findings_keep()
     ensures end { ChoosingEndsCounts }
 {}
 
-/// The choice as the layout reads it is what the collector keeps of regions and chosen tablets: so it is from the choice's
-/// beginning on (`begin`), past each step of it (`kept`), and what a gift asks follows (`gifts`). Geometry and cycle stay,
-/// and a gift alone changes roles (`rest`).
+/// The choice as the layout reads it is what the collector keeps of regions and chosen tablets: so it is from the
+/// choice's beginning on (`begin`), past each step of it (`kept`), and what a gift asks follows (`gifts`). Geometry and
+/// cycle stay, and a gift alone changes roles (`rest`).
 pub fn roles_keep()
     ensures begin { ChoicesBegin }
     ensures kept { ChoicesAreKept }

@@ -1,5 +1,6 @@
 -- What the table makes of words.
-use Rattle.std.proofs.Common.{◌≡◌, Bool, true, false, List, [], ◌∷◌, ◌++◌, Some, None, codes, arith, refl, sym, ap, subst, inl, inr, ◌∙◌, length, suc, append-nil, append_assoc}
+use Rattle.std.proofs.Common.{◌≡◌, Bool, true, false, List, [], ◌∷◌, ◌++◌, Some, None, codes, arith, refl, sym, ap}
+use Rattle.std.proofs.Common.{subst, inl, inr, ◌∙◌, length, suc, append-nil, append_assoc}
 use Rattle.std.specs.Prelude.{fold}
 use Rattle.std.specs.Str.{bytes_eq}
 use Rattle.std.specs.List.{All}
@@ -34,7 +35,8 @@ pub record IsPlain (word : Text) : Type 0 where
 
 -- a walk that stopped at a command, and the words behind its name
 abbrev stopped_at : Text → List Text → Walk
-stopped_at name words = record { held = nothing_held; waiting = idle; position = 1; is_trailing = false; stopped = Some (name, words) }
+stopped_at name words = record { held = nothing_held; waiting = idle; position = 1; is_trailing = false;
+    stopped = Some (name, words) }
 
 stopped_walk : (c : List Rule) (names : Names) (name : Text) (words rest : List Text) →
     fold (walked c names) (stopped_at name words) rest ≡ stopped_at name (words ++ rest)
@@ -43,28 +45,33 @@ stopped_walk c names name words [] = ap (stopped_at name) (sym (append-nil words
 stopped_walk c names name words (word ∷ rest) =
     stopped_walk c names name (words ++ word ∷ []) rest ∙ ap (stopped_at name) (append_assoc words (word ∷ []) rest)
 
-stopped_fault : (s : Shape) (names : Names) (name : Text) (words rest : List Text) → walk_fault s names (stopped_at name words) rest ≡ []
+stopped_fault : (s : Shape) (names : Names) (name : Text) (words rest : List Text)
+    → walk_fault s names (stopped_at name words) rest ≡ []
 unfolding clap_on_literals
 stopped_fault s names name words [] = refl
 stopped_fault s names name words (word ∷ rest) = stopped_fault s names name (words ++ word ∷ []) rest
 
 -- ---- words that are taken
 
-pub replay_taken : (first second : Text) → IsPlain first → IsPlain second → fault_of table (codes "replay" ∷ first ∷ second ∷ []) ≡ []
+pub replay_taken : (first second : Text) → IsPlain first → IsPlain second
+    → fault_of table (codes "replay" ∷ first ∷ second ∷ []) ≡ []
 unfolding clap_on_literals
 replay_taken first second p q = rw (p.no_dashes, p.no_long, p.no_short, q.no_dashes, q.no_long, q.no_short) refl
 
 replay_rows : (first second : Text) → IsPlain first → IsPlain second →
-    subcommand_of table (codes "replay" ∷ first ∷ second ∷ []) ≡ Some (codes "replay", given (codes "order") first ∷ given (codes "steps") second ∷ [])
+    subcommand_of table (codes "replay" ∷ first ∷ second ∷ []) ≡ Some
+        (codes "replay", given (codes "order") first ∷ given (codes "steps") second ∷ [])
 unfolding clap_on_literals
 replay_rows first second p q = rw (p.no_dashes, p.no_long, p.no_short, q.no_dashes, q.no_long, q.no_short) refl
 
-pub gen_taken : (first second : Text) → IsPlain first → IsPlain second → fault_of table (codes "gen" ∷ first ∷ second ∷ []) ≡ []
+pub gen_taken : (first second : Text) → IsPlain first → IsPlain second
+    → fault_of table (codes "gen" ∷ first ∷ second ∷ []) ≡ []
 unfolding clap_on_literals
 gen_taken first second p q = rw (p.no_dashes, p.no_long, p.no_short, q.no_dashes, q.no_long, q.no_short) refl
 
 gen_rows : (first second : Text) → IsPlain first → IsPlain second →
-    subcommand_of table (codes "gen" ∷ first ∷ second ∷ []) ≡ Some (codes "gen", given (codes "seed") first ∷ given (codes "size") second ∷ [])
+    subcommand_of table (codes "gen" ∷ first ∷ second ∷ []) ≡ Some
+        (codes "gen", given (codes "seed") first ∷ given (codes "size") second ∷ [])
 unfolding clap_on_literals
 gen_rows first second p q = rw (p.no_dashes, p.no_long, p.no_short, q.no_dashes, q.no_long, q.no_short) refl
 
@@ -88,7 +95,8 @@ load_rows first p = rw (p.no_dashes, p.no_long, p.no_short) refl
 
 -- ---- words that are refused
 
-other_refused : (name : Text) (rest : List Text) → IsPlain name → bytes_eq (codes "replay") name ≡ false → bytes_eq (codes "gen") name ≡ false →
+other_refused : (name : Text) (rest : List Text) → IsPlain name → bytes_eq (codes "replay") name ≡ false
+    → bytes_eq (codes "gen") name ≡ false →
     bytes_eq (codes "count") name ≡ false → bytes_eq (codes "load") name ≡ false →
     fault_of table (name ∷ rest) ≡ kind.UnknownArgument ∷ kind.InvalidSubcommand ∷ []
 unfolding clap_on_literals
@@ -98,7 +106,8 @@ replay_alone : fault_of table (codes "replay" ∷ []) ≡ kind.MissingRequiredAr
 unfolding clap_on_literals
 replay_alone = refl
 
-replay_short : (first : Text) → IsPlain first → fault_of table (codes "replay" ∷ first ∷ []) ≡ kind.MissingRequiredArgument ∷ []
+replay_short : (first : Text) → IsPlain first
+    → fault_of table (codes "replay" ∷ first ∷ []) ≡ kind.MissingRequiredArgument ∷ []
 unfolding clap_on_literals
 replay_short first p = rw (p.no_dashes, p.no_long, p.no_short) refl
 
@@ -124,7 +133,8 @@ gen_alone : fault_of table (codes "gen" ∷ []) ≡ kind.MissingRequiredArgument
 unfolding clap_on_literals
 gen_alone = refl
 
-gen_short : (first : Text) → IsPlain first → fault_of table (codes "gen" ∷ first ∷ []) ≡ kind.MissingRequiredArgument ∷ []
+gen_short : (first : Text) → IsPlain first
+    → fault_of table (codes "gen" ∷ first ∷ []) ≡ kind.MissingRequiredArgument ∷ []
 unfolding clap_on_literals
 gen_short first p = rw (p.no_dashes, p.no_long, p.no_short) refl
 
@@ -150,7 +160,8 @@ count_alone : fault_of table (codes "count" ∷ []) ≡ kind.MissingRequiredArgu
 unfolding clap_on_literals
 count_alone = refl
 
-count_long : (first second : Text) (rest : List Text) → IsPlain first → IsPlain second → fault_of table (codes "count" ∷ first ∷ second ∷ rest) ≡ kind.UnknownArgument ∷ []
+count_long : (first second : Text) (rest : List Text) → IsPlain first → IsPlain second
+    → fault_of table (codes "count" ∷ first ∷ second ∷ rest) ≡ kind.UnknownArgument ∷ []
 unfolding clap_on_literals
 count_long first second rest p q =
     rw (
@@ -168,7 +179,8 @@ load_alone : fault_of table (codes "load" ∷ []) ≡ kind.MissingRequiredArgume
 unfolding clap_on_literals
 load_alone = refl
 
-load_long : (first second : Text) (rest : List Text) → IsPlain first → IsPlain second → fault_of table (codes "load" ∷ first ∷ second ∷ rest) ≡ kind.UnknownArgument ∷ []
+load_long : (first second : Text) (rest : List Text) → IsPlain first → IsPlain second
+    → fault_of table (codes "load" ∷ first ∷ second ∷ rest) ≡ kind.UnknownArgument ∷ []
 unfolding clap_on_literals
 load_long first second rest p q =
     rw (
@@ -190,7 +202,8 @@ fails {k} {ks} e none =
     omega (arith, same)
 
 after_replay : (words : List Text) → All IsPlain words → fault_of table (codes "replay" ∷ words) ≡ [] →
-    IsPair (codes "replay") (codes "order") (codes "steps") (codes "replay" ∷ words) (subcommand_of table (codes "replay" ∷ words))
+    IsPair (codes "replay") (codes "order") (codes "steps") (codes "replay" ∷ words)
+        (subcommand_of table (codes "replay" ∷ words))
 after_replay [] plain none = absurd (fails replay_alone none)
 after_replay (first ∷ []) plain none = absurd (fails (replay_short first (plain 0 first (omega arith))) none)
 after_replay (first ∷ second ∷ []) plain none = record {
@@ -200,7 +213,8 @@ after_replay (first ∷ second ∷ []) plain none = record {
   taken_as = replay_rows first second (plain 0 first (omega arith)) (plain 1 first (omega arith));
 }
 after_replay (first ∷ second ∷ third ∷ rest) plain none =
-    absurd (fails (replay_long first second third rest (plain 0 first (omega arith)) (plain 1 first (omega arith)) (plain 2 first (omega arith))) none)
+    absurd (fails (replay_long first second third rest (plain 0 first (omega arith)) (plain 1 first (omega arith))
+        (plain 2 first (omega arith))) none)
 
 after_gen : (words : List Text) → All IsPlain words → fault_of table (codes "gen" ∷ words) ≡ [] →
     IsPair (codes "gen") (codes "seed") (codes "size") (codes "gen" ∷ words) (subcommand_of table (codes "gen" ∷ words))
@@ -213,43 +227,55 @@ after_gen (first ∷ second ∷ []) plain none = record {
   taken_as = gen_rows first second (plain 0 first (omega arith)) (plain 1 first (omega arith));
 }
 after_gen (first ∷ second ∷ third ∷ rest) plain none =
-    absurd (fails (gen_long first second third rest (plain 0 first (omega arith)) (plain 1 first (omega arith)) (plain 2 first (omega arith))) none)
+    absurd (fails (gen_long first second third rest (plain 0 first (omega arith)) (plain 1 first (omega arith))
+        (plain 2 first (omega arith))) none)
 
 after_count : (words : List Text) → All IsPlain words → fault_of table (codes "count" ∷ words) ≡ [] →
     IsSingle (codes "count") (codes "workers") (codes "count" ∷ words) (subcommand_of table (codes "count" ∷ words))
 after_count [] plain none = absurd (fails count_alone none)
-after_count (first ∷ []) plain none = record { first = first; words_are = refl; taken_as = count_rows first (plain 0 first (omega arith)) }
+after_count (first ∷ []) plain none = record { first = first; words_are = refl;
+    taken_as = count_rows first (plain 0 first (omega arith)) }
 after_count (first ∷ second ∷ rest) plain none =
     absurd (fails (count_long first second rest (plain 0 first (omega arith)) (plain 1 first (omega arith))) none)
 
 after_load : (words : List Text) → All IsPlain words → fault_of table (codes "load" ∷ words) ≡ [] →
     IsSingle (codes "load") (codes "number") (codes "load" ∷ words) (subcommand_of table (codes "load" ∷ words))
 after_load [] plain none = absurd (fails load_alone none)
-after_load (first ∷ []) plain none = record { first = first; words_are = refl; taken_as = load_rows first (plain 0 first (omega arith)) }
+after_load (first ∷ []) plain none = record { first = first; words_are = refl;
+    taken_as = load_rows first (plain 0 first (omega arith)) }
 after_load (first ∷ second ∷ rest) plain none =
     absurd (fails (load_long first second rest (plain 0 first (omega arith)) (plain 1 first (omega arith))) none)
 
 -- the name decides
 named : (name : Text) (rest : List Text) → IsPlain name → All IsPlain rest → fault_of table (name ∷ rest) ≡ [] →
-    (r g c l : Bool) → bytes_eq (codes "replay") name ≡ r → bytes_eq (codes "gen") name ≡ g → bytes_eq (codes "count") name ≡ c → bytes_eq (codes "load") name ≡ l →
+    (r g c l : Bool) → bytes_eq (codes "replay") name ≡ r → bytes_eq (codes "gen") name ≡ g
+        → bytes_eq (codes "count") name ≡ c → bytes_eq (codes "load") name ≡ l →
     IsTaken (name ∷ rest) (subcommand_of table (name ∷ rest))
 named name rest p plain none true g c l is_replay is_gen is_count is_load =
     let same : codes "replay" ≡ name = (bytes_eq-Decides (codes "replay") name).0 is_replay in
-    subst (λ (n : Text). fault_of table (n ∷ rest) ≡ [] → IsTaken (n ∷ rest) (subcommand_of table (n ∷ rest))) same (λ e. inl (after_replay rest plain e)) none
+    subst (λ (n : Text). fault_of table (n ∷ rest) ≡ []
+        → IsTaken (n ∷ rest) (subcommand_of table (n ∷ rest))) same (λ e. inl (after_replay rest plain e)) none
 named name rest p plain none false true c l is_replay is_gen is_count is_load =
     let same : codes "gen" ≡ name = (bytes_eq-Decides (codes "gen") name).0 is_gen in
-    subst (λ (n : Text). fault_of table (n ∷ rest) ≡ [] → IsTaken (n ∷ rest) (subcommand_of table (n ∷ rest))) same (λ e. inr (inl (after_gen rest plain e))) none
+    subst (λ (n : Text). fault_of table (n ∷ rest) ≡ []
+        → IsTaken (n ∷ rest) (subcommand_of table (n ∷ rest))) same (λ e. inr (inl (after_gen rest plain e))) none
 named name rest p plain none false false true l is_replay is_gen is_count is_load =
     let same : codes "count" ≡ name = (bytes_eq-Decides (codes "count") name).0 is_count in
-    subst (λ (n : Text). fault_of table (n ∷ rest) ≡ [] → IsTaken (n ∷ rest) (subcommand_of table (n ∷ rest))) same (λ e. inr (inr (inl (after_count rest plain e)))) none
+    subst (λ (n : Text). fault_of table (n ∷ rest) ≡ []
+        → IsTaken (n ∷ rest) (subcommand_of table (n ∷ rest))) same
+        (λ e. inr (inr (inl (after_count rest plain e)))) none
 named name rest p plain none false false false true is_replay is_gen is_count is_load =
     let same : codes "load" ≡ name = (bytes_eq-Decides (codes "load") name).0 is_load in
-    subst (λ (n : Text). fault_of table (n ∷ rest) ≡ [] → IsTaken (n ∷ rest) (subcommand_of table (n ∷ rest))) same (λ e. inr (inr (inr (after_load rest plain e)))) none
+    subst (λ (n : Text). fault_of table (n ∷ rest) ≡ []
+        → IsTaken (n ∷ rest) (subcommand_of table (n ∷ rest))) same
+        (λ e. inr (inr (inr (after_load rest plain e)))) none
 named name rest p plain none false false false false is_replay is_gen is_count is_load =
     absurd (fails (other_refused name rest p is_replay is_gen is_count is_load) none)
 
 -- words without a fault are taken as a command
-pub taken : (words : List Text) → All IsPlain words → fault_of table words ≡ [] → IsTaken words (subcommand_of table words)
+pub taken : (words : List Text) → All IsPlain words → fault_of table words ≡ []
+    → IsTaken words (subcommand_of table words)
 taken [] plain none = absurd (fails no_words none)
 taken (name ∷ rest) plain none =
-    named name rest (plain 0 name (omega arith)) (λ k d l. plain (suc k) d (omega arith)) none _ _ _ _ refl refl refl refl
+    named name rest (plain 0 name (omega arith))
+        (λ k d l. plain (suc k) d (omega arith)) none _ _ _ _ refl refl refl refl

@@ -1,5 +1,6 @@
 -- Words of the characters a to z and 0 to 9, and the words that say a command.
-use Rattle.std.proofs.Common.{◌≡◌, ℕ, ◌≤◌, ◌<◌, ◌+◌, ◌-◌, ◌*◌, ◌^◌, Bool, true, false, List, [], ◌∷◌, arith, rules, refl, sym, subst, inl, inr, ◌∙◌}
+use Rattle.std.proofs.Common.{◌≡◌, ℕ, ◌≤◌, ◌<◌, ◌+◌, ◌-◌, ◌*◌, ◌^◌, Bool, true, false, List, [], ◌∷◌, arith, rules}
+use Rattle.std.proofs.Common.{refl, sym, subst, inl, inr, ◌∙◌}
 use Rattle.std.specs.Prelude.{◌&&◌, ◌||◌, ◌==◌}
 use Rattle.std.specs.Fmt.{decimal}
 use Rattle.std.specs.Char.{is_ascii_lowercase, is_ascii_digit}
@@ -11,7 +12,8 @@ use Rattle.std.proofs.lemmas.Str.Parse.{IsNumeralModel, numerals_by_fold}
 use Rattle.std.proofs.lemmas.List.Sums.{AllPass-from_list_all}
 use Rattle.clap.specs.Faults.{fault_of}
 use Rattle.clap.specs.Walk.{Text}
-use Rattle.mako_command.specs.CommandLines.{Says, SayNothing, IsReplay, IsGen, IsCount, IsLoad, IsOrder, IsNumber, max_seed}
+use Rattle.mako_command.specs.CommandLines.{Says, SayNothing, IsReplay, IsGen, IsCount, IsLoad, IsOrder, IsNumber}
+use Rattle.mako_command.specs.CommandLines.{max_seed}
 use Rattle.mako_command.specs.Tables.{is_plain, is_word, table}
 use Rattle.mako_replay.specs.declared.order.Order.{Order}
 use Rattle.mako_replay.specs.declared.order.Order.TheVariants.{Turns, Seed}
@@ -61,13 +63,15 @@ digits_pass : (ds : List ℕ) → all_ascii_digits ds ≡ true → list_all is_p
 digits_pass [] p = refl
 digits_pass (c ∷ cs) p =
     let both = parts (is_ascii_digit c) (all_ascii_digits cs) p in
-    and_from (is_plain c) (list_all is_plain cs) (or_right (is_ascii_lowercase c) (is_ascii_digit c) both.0) (digits_pass cs both.1)
+    and_from (is_plain c) (list_all is_plain cs) (or_right (is_ascii_lowercase c) (is_ascii_digit c) both.0)
+        (digits_pass cs both.1)
 
 decimal_word : (n : ℕ) → n < 2 ^ 64 → is_word (decimal n) ≡ true
 decimal_word n small =
     let few : n < 10 ^ 20 = omega (arith, small) in
     and_from _ _ (le-leb 1 _ (decimal_nonempty n small))
-    (and_from _ _ (le-leb _ 20 (length-decimal-le 20 n (omega arith) few small)) (digits_pass (decimal n) (digits_decimal own n small)))
+    (and_from _ _ (le-leb _ 20 (length-decimal-le 20 n (omega arith) few small))
+        (digits_pass (decimal n) (digits_decimal own n small)))
 
 number_word : (low high : ℕ) (word : Text) (n : ℕ) → high ≤ max_seed → IsNumber low high word n → is_word word ≡ true
 number_word low high word n fits h =
@@ -80,15 +84,19 @@ order_word word (Seed seed) h = number_word 0 max_seed word seed (omega arith) h
 
 -- ---- words that say a command are words, and the table takes them
 
-replay_words : (first second : Text) (line : CommandLine) → IsReplay first second line → (is_word first ≡ true) × (is_word second ≡ true)
-replay_words first second (Replay order steps) h = (order_word first order h.0, number_word 0 1000000000 second steps (omega arith) h.1)
+replay_words : (first second : Text) (line : CommandLine) → IsReplay first second line → (is_word first ≡ true)
+    × (is_word second ≡ true)
+replay_words first second (Replay order steps) h =
+    (order_word first order h.0, number_word 0 1000000000 second steps (omega arith) h.1)
 replay_words first second (Gen seed size) h = absurd h
 replay_words first second (Count workers) h = absurd h
 replay_words first second (Load number) h = absurd h
 
-gen_words : (first second : Text) (line : CommandLine) → IsGen first second line → (is_word first ≡ true) × (is_word second ≡ true)
+gen_words : (first second : Text) (line : CommandLine) → IsGen first second line → (is_word first ≡ true)
+    × (is_word second ≡ true)
 gen_words first second (Replay order steps) h = absurd h
-gen_words first second (Gen seed size) h = (number_word 0 max_seed first seed (omega arith) h.0, number_word 1 4096 second size (omega arith) h.1)
+gen_words first second (Gen seed size) h =
+    (number_word 0 max_seed first seed (omega arith) h.0, number_word 1 4096 second size (omega arith) h.1)
 gen_words first second (Count workers) h = absurd h
 gen_words first second (Load number) h = absurd h
 
@@ -112,14 +120,17 @@ said_words [] line h = absurd h
 said_words (name ∷ []) line h = absurd h
 said_words (name ∷ first ∷ []) line h = elim h [
   | inl c ↦ let p = count_words first line c.1 in
-      subst (λ (n : Text). IsTakenWhole (n ∷ first ∷ [])) (sym c.0) (and_from _ _ p refl, count_taken first (plain_word first p))
+      subst (λ (n : Text). IsTakenWhole (n ∷ first ∷ [])) (sym c.0)
+          (and_from _ _ p refl, count_taken first (plain_word first p))
   | inr l ↦ let p = load_words first line l.1 in
-      subst (λ (n : Text). IsTakenWhole (n ∷ first ∷ [])) (sym l.0) (and_from _ _ p refl, load_taken first (plain_word first p))
+      subst (λ (n : Text). IsTakenWhole (n ∷ first ∷ [])) (sym l.0)
+          (and_from _ _ p refl, load_taken first (plain_word first p))
 ]
 said_words (name ∷ first ∷ second ∷ []) line h = elim h [
   | inl r ↦ let p = replay_words first second line r.1 in
       subst (λ (n : Text). IsTakenWhole (n ∷ first ∷ second ∷ [])) (sym r.0)
-      (and_from _ _ p.0 (and_from _ _ p.1 refl), replay_taken first second (plain_word first p.0) (plain_word second p.1))
+      (and_from _ _ p.0 (and_from _ _ p.1 refl), replay_taken first second (plain_word first p.0)
+          (plain_word second p.1))
   | inr g ↦ let p = gen_words first second line g.1 in
       subst (λ (n : Text). IsTakenWhole (n ∷ first ∷ second ∷ [])) (sym g.0)
       (and_from _ _ p.0 (and_from _ _ p.1 refl), gen_taken first second (plain_word first p.0) (plain_word second p.1))

@@ -1,5 +1,6 @@
 -- The commands and their arguments as the parser has them, and what it makes of words.
-use Rattle.std.specs.Prelude.{◌≡◌, ℕ, Bool, true, false, ◌&&◌, ◌||◌, ◌⊎◌, nat_le, List, [], ◌∷◌, Option, Some, None, codes, length, map}
+use Rattle.std.specs.Prelude.{◌≡◌, ℕ, Bool, true, false, ◌&&◌, ◌||◌, ◌⊎◌, nat_le, List, [], ◌∷◌, Option, Some, None}
+use Rattle.std.specs.Prelude.{codes, length, map}
 use Rattle.std.specs.Char.{is_ascii_lowercase, is_ascii_digit}
 use Rattle.std.specs.List.{list_all}
 use Rattle.clap.specs.Words.{App, Row, Rule, Shape, Text, new_rule, subcommand_rows_of}
@@ -43,7 +44,8 @@ table = record {
 
 -- an argument that was given as this text
 abbrev pub given : Text → Text → Row
-given id text = record { id = id; values = text ∷ []; count = None; source = Some source.CommandLine; reading = AsWritten }
+given id text = record { id = id; values = text ∷ []; count = None; source = Some source.CommandLine;
+    reading = AsWritten }
 
 -- the words are a name and two texts, which were taken as the command with its arguments
 pub record IsPair (name one two : Text) (words : List Text) (taken : Option (Text × List Row)) : Type 0 where

@@ -188,7 +188,8 @@ fn load(first: &str) -> Option<CommandLine>
 
 /// The command of this name with these arguments.
 fn named(name: &str, matches: &ArgMatches) -> Option<CommandLine>
-    ensures { (words : List (List ℕ)) → IsTaken words (Some (name.now, rows_of (found_of matches.now))) → Finds (Says words) result }
+    ensures { (words : List (List ℕ)) → IsTaken words (Some (name.now, rows_of (found_of matches.now)))
+        → Finds (Says words) result }
 {
     if name == "replay" {
         return replay(matches.get_str("order")?, matches.get_str("steps")?);

@@ -1,5 +1,6 @@
 -- What the seats have at the end of a run.
-use Rattle.std.proofs.Common.{◌≡◌, ℕ, zero, suc, ◌+◌, ◌-◌, ◌<◌, ◌≤◌, Bool, true, false, List, [], ◌∷◌, ◌++◌, length, take, slice_get, Some, sym, ap, refl, ◌∙◌, arith}
+use Rattle.std.proofs.Common.{◌≡◌, ℕ, zero, suc, ◌+◌, ◌-◌, ◌<◌, ◌≤◌, Bool, true, false, List, [], ◌∷◌, ◌++◌, length}
+use Rattle.std.proofs.Common.{take, slice_get, Some, sym, ap, refl, ◌∙◌, arith}
 use Rattle.std.proofs.lemmas.Option.{none-some}
 use Rattle.mako_shape.specs.declared.numbers.Numbers.{Numbers}
 use Rattle.mako_model.specs.Answering.{Answers, AnswersToEnd}
@@ -22,7 +23,8 @@ use Rattle.mako_core.specs.Cores.{cycles_kept, cycles_in}
 use Rattle.mako_core.specs.Endings.{replies_kept, replies_in, EndsWithCollector, AllAtEnd}
 use Rattle.mako_core.proofs.Starting.{some_at}
 
-get_take : {A : Type 0} (k : ℕ) (xs : List A) (i : ℕ) (x : A) → slice_get (take k xs) i ≡ Some x → slice_get xs i ≡ Some x
+get_take : {A : Type 0} (k : ℕ) (xs : List A) (i : ℕ) (x : A) → slice_get (take k xs) i ≡ Some x
+    → slice_get xs i ≡ Some x
 get_take zero xs i x here = absurd (none-some x here)
 get_take (suc k) [] i x here = absurd (none-some x here)
 get_take (suc k) (y ∷ xs) zero x here = here
@@ -32,7 +34,8 @@ get_take (suc k) (y ∷ xs) (suc i) x here = get_take k xs i x here
 
 none_kept : (xs : List Seat) → ((i : ℕ) (v : Seat) → slice_get xs i ≡ Some v → replies_kept v ≡ []) → replies_in xs ≡ []
 none_kept [] none = refl
-none_kept (x ∷ xs) none = ap (λ (l : List (List Reply)). l ++ replies_in xs) (none 0 x refl) ∙ none_kept xs (λ i v here. none (suc i) v here)
+none_kept (x ∷ xs) none = ap (λ (l : List (List Reply)). l ++ replies_in xs) (none 0 x refl)
+    ∙ none_kept xs (λ i v here. none (suc i) v here)
 
 pub record Listed (f : ℕ → List Reply) (k c : ℕ) (lists : List (List Reply)) : Type 0 where
   pub count : length lists ≡ c
@@ -48,9 +51,11 @@ listed f zero k xs few first rest = record {
 }
 listed f (suc c) k [] few first rest = absurd (omega arith)
 listed f (suc c) k (x ∷ xs) few first rest =
-    let head : replies_in (x ∷ xs) ≡ f (k + 0) ∷ replies_in xs = ap (λ (l : List (List Reply)). l ++ replies_in xs) (first 0 x refl (omega arith)) in
+    let head : replies_in (x ∷ xs) ≡ f (k + 0) ∷ replies_in xs =
+        ap (λ (l : List (List Reply)). l ++ replies_in xs) (first 0 x refl (omega arith)) in
     let tail : Listed f (k + 1) c (replies_in xs) = listed f c (k + 1) xs (omega arith)
-    (λ i v here low. first (suc i) v here (omega arith) ∙ ap (λ j. f j ∷ []) (let e : k + suc i ≡ k + 1 + i = omega arith in e))
+    (λ i v here low. first (suc i) v here (omega arith)
+        ∙ ap (λ j. f j ∷ []) (let e : k + suc i ≡ k + 1 + i = omega arith in e))
     (λ i v here high. rest (suc i) v here (omega arith)) in
     let few_more = tail.count in
     record {
@@ -58,9 +63,11 @@ listed f (suc c) k (x ∷ xs) few first rest =
       each = λ m low. ap (λ (l : List (List Reply)). slice_get l m) head ∙ at_place f c k (replies_in xs) tail m low;
     }
   where
-    at_place : (f : ℕ → List Reply) (c k : ℕ) (l : List (List Reply)) → Listed f (k + 1) c l → (m : ℕ) → m < suc c → slice_get (f (k + 0) ∷ l) m ≡ Some (f (k + m))
+    at_place : (f : ℕ → List Reply) (c k : ℕ) (l : List (List Reply)) → Listed f (k + 1) c l → (m : ℕ) → m < suc c
+        → slice_get (f (k + 0) ∷ l) m ≡ Some (f (k + m))
     at_place f c k l tail zero low = refl
-    at_place f c k l tail (suc m) low = tail.each m (omega arith) ∙ ap (λ j. Some (f j)) (let e : k + 1 + m ≡ k + suc m = omega arith in e)
+    at_place f c k l tail (suc m) low = tail.each m (omega arith)
+        ∙ ap (λ j. Some (f j)) (let e : k + 1 + m ≡ k + suc m = omega arith in e)
 
 -- ---- the seats of a core state
 
@@ -79,13 +86,15 @@ module _ (n : Numbers) (w : Facts) (st : CoreState) (stands : SeatsStand n w st)
 
   collector_at : (i : ℕ) (v : Seat) → slice_get st.seats i ≡ Some v → i ≡ n.mutators + n.servers → Sits i v → EndsAs i
   collector_at i (Mutator d) here at sits = absurd (let low = sits.keeps.in_range in omega (arith, low))
-  collector_at i (Server v) here at sits = absurd (let e = sits.number in let low = sits.in_range in omega (arith, e, low))
+  collector_at i (Server v) here at sits = absurd (let e = sits.number in let low = sits.in_range in
+      omega (arith, e, low))
   collector_at i (Collector c) here at sits = record { collector = c; last = here; lists = sits.lists }
 
   ends_as : EndsAs (length st.seats - 1)
   ends_as =
       let last = some_at st.seats (length st.seats - 1) (omega (arith, count)) in
-      collector_at (length st.seats - 1) last.0 last.1 (omega (arith, count)) (stands.all.each (length st.seats - 1) last.0 last.1)
+      collector_at (length st.seats - 1) last.0 last.1 (omega (arith, count))
+          (stands.all.each (length st.seats - 1) last.0 last.1)
 
   pub last_collector : EndsWithCollector st.seats
   last_collector = record { collector = ends_as.collector; last = ends_as.last }
@@ -93,8 +102,11 @@ module _ (n : Numbers) (w : Facts) (st : CoreState) (stands : SeatsStand n w st)
   pub finished_kept : st.front.finished ≡ cycles_in st.seats
   finished_kept = sym (ap cycles_kept ends_as.last ∙ ends_as.lists)
 
-  kept_first : (i : ℕ) (v : Seat) → Sits i v → i < n.mutators → replies_kept v ≡ replies_to (0 + i) st.front.history ∷ []
-  kept_first i (Mutator d) sits low = ap (λ r. r ∷ []) (sits.keeps.replies ∙ ap (λ j. replies_to j st.front.history) (let e : i ≡ 0 + i = omega arith in e))
+  kept_first : (i : ℕ) (v : Seat) → Sits i v → i < n.mutators
+      → replies_kept v ≡ replies_to (0 + i) st.front.history ∷ []
+  kept_first i (Mutator d) sits low =
+      ap (λ r. r ∷ []) (sits.keeps.replies
+      ∙ ap (λ j. replies_to j st.front.history) (let e : i ≡ 0 + i = omega arith in e))
   kept_first i (Server v) sits low = absurd (let e = sits.number in omega (arith, e))
   kept_first i (Collector c) sits low = absurd (let e = sits.number in omega (arith, e))
 
@@ -104,7 +116,8 @@ module _ (n : Numbers) (w : Facts) (st : CoreState) (stands : SeatsStand n w st)
   kept_rest i (Collector c) sits high = refl
 
   -- the replies of all seats but the last
-  pub replies_are : Listed (λ m. replies_to m st.front.history) 0 n.mutators (replies_in (take (length st.seats - 1) st.seats))
+  pub replies_are : Listed (λ m. replies_to m st.front.history) 0 n.mutators
+      (replies_in (take (length st.seats - 1) st.seats))
   replies_are =
       let k = length st.seats - 1 in
       let many : length (take k st.seats) ≡ k = length_take_below st.seats k (omega arith) in

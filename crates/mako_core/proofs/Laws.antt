@@ -1,5 +1,6 @@
 -- What a step of a core finds and leaves, over plain values.
-use Rattle.std.proofs.Common.{◌≡◌, ℕ, ◌≤◌, Bool, true, false, List, length, set, slice_get, Some, sym, ap, subst, refl, ◌∙◌, arith}
+use Rattle.std.proofs.Common.{◌≡◌, ℕ, ◌≤◌, Bool, true, false, List, length, set, slice_get, Some, sym, ap, subst, refl}
+use Rattle.std.proofs.Common.{◌∙◌, arith}
 use Rattle.mako_words.specs.declared.name.Name.{Name}
 use Rattle.mako_shape.specs.declared.numbers.Numbers.{Numbers}
 use Rattle.mako_step.specs.Acts.{finds, words_stepped, words_after}
@@ -15,9 +16,12 @@ use Rattle.mako_model.specs.declared.point.Point.{Point}
 use Rattle.mako_pause.specs.Collecting.{Holdings, stage_event}
 use Rattle.mako_pause.specs.Ranks.{stage_waits}
 use Rattle.mako_pause.specs.declared.stage.CollectStage.{CollectStage}
-use Rattle.mako_pause.specs.declared.stage.CollectStage.TheVariants.{Idle, Pausing, Forwarding, Barriers, Emptying, Polling, Choosing, Noticing, Ended as CollectorEnded}
+use Rattle.mako_pause.specs.declared.stage.CollectStage.TheVariants.{Idle, Pausing, Forwarding, Barriers, Emptying}
+use Rattle.mako_pause.specs.declared.stage.CollectStage.TheVariants.{Polling, Choosing, Noticing}
+use Rattle.mako_pause.specs.declared.stage.CollectStage.TheVariants.{Ended as CollectorEnded}
 use Rattle.mako_pause.specs.declared.stage.NoticeStage.TheVariants.{Looking, Clearing, StoringIdle}
-use Rattle.mako_pause.specs.declared.stage.PauseStage.TheVariants.{Shutting, Draining, LoadingRoot, StoringTrace, Opening}
+use Rattle.mako_pause.specs.declared.stage.PauseStage.TheVariants.{Shutting, Draining, LoadingRoot, StoringTrace}
+use Rattle.mako_pause.specs.declared.stage.PauseStage.TheVariants.{Opening}
 use Rattle.mako_script.specs.Scripts.{ScriptView}
 use Rattle.mako_script.specs.ScriptFacts.{facts_of}
 use Rattle.mako_seat.specs.Seats.{next_of, Fits, fed, event_of, is_waiting}
@@ -36,7 +40,8 @@ use Rattle.mako_core.proofs.Rooms.{history_fits}
 -- ---- what events tell
 
 -- the history of the front after an event
-history_is : (front : Seen) (got : List Name) (e : Event) → history_after front.history e ≡ (front_after front got e).history
+history_is : (front : Seen) (got : List Name) (e : Event)
+    → history_after front.history e ≡ (front_after front got e).history
 history_is front got Nothing = refl
 history_is front got (Answered point) = refl
 history_is front got (Snapped cycle) = refl
@@ -90,7 +95,8 @@ module _ (s : ScriptView) (st : CoreState) (stands : SeatsStand s.numbers (facts
   put_together t = record {
     words = words_stepped t st.words;
     seats = set st.seats i (machine t);
-    front = record { history = points_by (came_to t) st.front.history; finished = cycles_in (set st.seats i (machine t)) };
+    front = record { history = points_by (came_to t) st.front.history;
+        finished = cycles_in (set st.seats i (machine t)) };
   }
 
   -- the collector has the finished cycles of the state after it
@@ -127,8 +133,10 @@ module _ (s : ScriptView) (st : CoreState) (stands : SeatsStand s.numbers (facts
 
 -- ---- over what a core keeps
 
-module _ {A : Type 0} (shape : Numbers) (s : ScriptView) (ws : List ℕ) (seats : List Seat) (points : List Point) (room : ℕ) (lists : List A) (lists_room : ℕ)
-    (holds : CoreHolds shape (core_view s ws seats points) room lists lists_room) (i : ℕ) (v : Seat) (here : slice_get seats i ≡ Some v) where
+module _ {A : Type 0} (shape : Numbers) (s : ScriptView) (ws : List ℕ) (seats : List Seat) (points : List Point)
+    (room : ℕ) (lists : List A) (lists_room : ℕ)
+    (holds : CoreHolds shape (core_view s ws seats points) room lists lists_room) (i : ℕ) (v : Seat)
+        (here : slice_get seats i ≡ Some v) where
   abbrev st : CoreState
   st = (core_view s ws seats points).state
 
@@ -143,14 +151,16 @@ module _ {A : Type 0} (shape : Numbers) (s : ScriptView) (ws : List ℕ) (seats 
     put = λ k. record {
       words = words_are k;
       seats = set seats i (seat_is k);
-      front = record { history = (points_are ∙ ap (λ q. points_by q points) result_is) k; finished = cycles_in (set seats i (seat_is k)) };
+      front = record { history = (points_are ∙ ap (λ q. points_by q points) result_is) k;
+          finished = cycles_in (set seats i (seat_is k)) };
     }
 
     pub state_is : (core_view s us (set seats i x) after).state ≡ step_of st i
     state_is = put ∙ steps_to s st holds.stands i v here
 
     pub stands_after : SeatsStand s.numbers (facts_of s) (core_view s us (set seats i x) after).state
-    stands_after = subst (SeatsStand s.numbers (facts_of s)) (sym state_is) (steps_stand s.numbers (facts_of s) st i holds.stands)
+    stands_after = subst (SeatsStand s.numbers (facts_of s)) (sym state_is)
+        (steps_stand s.numbers (facts_of s) st i holds.stands)
 
     pub holds_after : CoreHolds shape (core_view s us (set seats i x) after) room lists lists_room
     holds_after = record {
@@ -165,7 +175,8 @@ module _ {A : Type 0} (shape : Numbers) (s : ScriptView) (ws : List ℕ) (seats 
     turn_is = ap turn_by result_is ∙ sym (ap (turn_at st) here)
 
     pub history_is_told : after ≡ history_after points (told_at st (slice_get seats i))
-    history_is_told = points_are ∙ ap (λ q. points_by q points) result_is ∙ sym (ap (λ s. history_after points (told_at st s)) here)
+    history_is_told = points_are ∙ ap (λ q. points_by q points) result_is
+        ∙ sym (ap (λ s. history_after points (told_at st s)) here)
 
     pub has_place : length after ≤ room
     has_place =

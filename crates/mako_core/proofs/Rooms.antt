@@ -1,6 +1,7 @@
 -- How long histories are: a point for each call at most, and one for each snapshot.
 use mathlib.Core.List.{IsPrefix}
-use Rattle.std.proofs.Common.{◌≡◌, ℕ, suc, ◌+◌, ◌<◌, ◌≤◌, ⊎_elim, Bool, cond, ltb, List, [], ◌∷◌, ◌++◌, length, map, sum_by, sym, ap, subst, refl, ◌∙◌, arith, length-append}
+use Rattle.std.proofs.Common.{◌≡◌, ℕ, suc, ◌+◌, ◌<◌, ◌≤◌, ⊎_elim, Bool, cond, ltb, List, [], ◌∷◌, ◌++◌, length, map}
+use Rattle.std.proofs.Common.{sum_by, sym, ap, subst, refl, ◌∙◌, arith, length-append}
 use Rattle.std.specs.List.{fold}
 use Rattle.std.proofs.lemmas.Bool.{cases_eq, cases_lt, lt-ltb, le-ltb}
 use Rattle.std.proofs.lemmas.List.{length-replicate}
@@ -154,7 +155,8 @@ history_fits s front answers =
     let points = front.history in
     let all = each_is_one points in
     let from : FollowsFrom 0 w.programs points = λ i m program e is.
-    subst (λ z. IsPrefix (calls_by z points) program) (let d : i ≡ m = omega arith in d) (answers.programs i program is) in
+    subst (λ z. IsPrefix (calls_by z points) program) (let d : i ≡ m = omega arith in
+        d) (answers.programs i program is) in
     let few = all_mutators 0 (length w.programs) w.programs points from (omega arith) in
     let none = none_from (length w.programs) (opening_of w) points answers.lawful.legal
     (length-replicate (length w.programs) (opening_roots w.roots)) in

@@ -38,7 +38,8 @@ HasRoom room s = command_count s.programs + s.numbers.cycles ≤ room
 
 -- The core has got somewhere with its script, and there is room for all that is still to come: its points, and in the
 -- end a list of replies for each mutator.
-pub record CoreHolds {A : Type 0} (shape : Numbers) (c : CoreView) (room : ℕ) (lists : List A) (lists_room : ℕ) : Type 0 where
+pub record CoreHolds {A : Type 0} (shape : Numbers) (c : CoreView) (room : ℕ) (lists : List A)
+    (lists_room : ℕ) : Type 0 where
   pub shape_is : shape ≡ c.script.numbers
   pub stands : SeatsStand c.script.numbers (facts_of c.script) c.state
   pub room_is : HasRoom room c.script

@@ -3,7 +3,8 @@ use Rattle.std.specs.Prelude.{ℕ, Option, Some, None}
 use Rattle.mako_step.specs.Acts.{finds}
 use Rattle.mako_step.specs.Stepping.{stepped}
 use Rattle.mako_step.specs.declared.stepping.Stepped.{Stepped}
-use Rattle.mako_step.specs.declared.stepping.Stepped.TheVariants.{Ended as StepEnded, Waiting as StepWaiting, Moved as StepMoved}
+use Rattle.mako_step.specs.declared.stepping.Stepped.TheVariants.{Ended as StepEnded, Waiting as StepWaiting}
+use Rattle.mako_step.specs.declared.stepping.Stepped.TheVariants.{Moved as StepMoved}
 use Rattle.mako_model.specs.declared.event.Event.{Event}
 use Rattle.mako_model.specs.declared.event.Event.TheVariants.{Nothing}
 use Rattle.mako_seat.specs.Seats.{next_of, event_of, is_waiting}

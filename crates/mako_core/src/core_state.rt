@@ -52,7 +52,8 @@ impl<W: Words> Model for Core<W> {
 
     ghost view = { λ c. core_view c.script.value (W.words c.words) c.seats.items c.journal.points };
 
-    ghost invariant = { λ c. CoreHolds c.shape (core_view c.script.value (W.words c.words) c.seats.items c.journal.points)
+    ghost invariant = { λ c. CoreHolds c.shape
+        (core_view c.script.value (W.words c.words) c.seats.items c.journal.points)
         c.journal.room c.lists.items (vec_capacity c.lists) };
 }
 

@@ -52,7 +52,8 @@ fn opening_home(shape: &Shape, tablet: u32) -> u32
 /// Each tablet has its first home.
 fn settle_tablets<W: Words>(shape: &Shape, words: &mut W)
     requires { length (W.words words.old) ≡ total shape.now }
-    ensures { W.words words.new ≡ written shape.now (W.words words.old) (first_homes shape.now (shape.now.servers * shape.now.tablets)) }
+    ensures { W.words words.new ≡ written shape.now (W.words words.old)
+        (first_homes shape.now (shape.now.servers * shape.now.tablets)) }
 {
     let numbers = shape.numbers();
     let tablets = numbers.servers * numbers.tablets;

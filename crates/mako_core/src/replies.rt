@@ -1,6 +1,7 @@
 //! What the seats leave at the end of a run.
 
-ghost use Rattle.std.specs.Prelude.{◌≡◌, ◌+◌, ◌-◌, ◌≤◌, ◌++◌, length, map, take, slice_get, Some, vec_len, vec_capacity};
+ghost use Rattle.std.specs.Prelude.{◌≡◌, ◌+◌, ◌-◌, ◌≤◌, ◌++◌, length, map, take, slice_get, Some, vec_len};
+ghost use Rattle.std.specs.Prelude.{vec_capacity};
 ghost use Rattle.mako_seat.specs.declared.seat.Seat.TheVariants as seats_of;
 ghost use Rattle.mako_core.specs.Endings.{replies_kept, replies_in, EndsWithCollector};
 

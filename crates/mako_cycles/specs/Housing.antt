@@ -9,9 +9,11 @@ use Rattle.mako_script.specs.Scripts.{ScriptView}
 use Rattle.mako_pause.specs.Collecting.{Holdings, Collecting, chosen_tablet, spare_for, next_of, Fits, fed}
 use Rattle.mako_pause.specs.Opening.{opening}
 use Rattle.mako_pause.specs.declared.stage.ChoiceStage.{ChoiceStage}
-use Rattle.mako_pause.specs.declared.stage.ChoiceStage.TheVariants.{LoadingHome, StoringLeaving, StoringHome, StoringTop, StoringEvac}
+use Rattle.mako_pause.specs.declared.stage.ChoiceStage.TheVariants.{LoadingHome, StoringLeaving, StoringHome}
+use Rattle.mako_pause.specs.declared.stage.ChoiceStage.TheVariants.{StoringTop, StoringEvac}
 use Rattle.mako_pause.specs.declared.stage.NoticeStage.{NoticeStage}
-use Rattle.mako_pause.specs.declared.stage.NoticeStage.TheVariants.{Looking as NoticeLook, Clearing as NoticeClear, StoringIdle}
+use Rattle.mako_pause.specs.declared.stage.NoticeStage.TheVariants.{Looking as NoticeLook, Clearing as NoticeClear}
+use Rattle.mako_pause.specs.declared.stage.NoticeStage.TheVariants.{StoringIdle}
 use Rattle.mako_pause.specs.declared.stage.CollectStage.{CollectStage}
 use Rattle.mako_pause.specs.declared.stage.CollectStage.TheVariants.{Choosing, Noticing}
 

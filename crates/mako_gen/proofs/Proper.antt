@@ -1,5 +1,6 @@
 -- A workload is a script of the grammar.
-use Rattle.std.proofs.Common.{◌≡◌, ◌≢◌, ℕ, zero, suc, ◌+◌, ◌*◌, ◌%◌, ◌<◌, ◌≤◌, ◌^◌, max, Bool, true, false, List, [], ◌∷◌, ◌++◌, length, take, get_or, map, refl, sym, ap, subst, ◌∙◌, arith}
+use Rattle.std.proofs.Common.{◌≡◌, ◌≢◌, ℕ, zero, suc, ◌+◌, ◌*◌, ◌%◌, ◌<◌, ◌≤◌, ◌^◌, max, Bool, true, false, List, []}
+use Rattle.std.proofs.Common.{◌∷◌, ◌++◌, length, take, get_or, map, refl, sym, ap, subst, ◌∙◌, arith}
 use Rattle.std.specs.Prelude.{slice_index, is_some, sum_by, if◌then◌else◌}
 use Rattle.std.specs.List.{AllByRecursion}
 use Rattle.std.proofs.lemmas.List.{length-append}
@@ -13,7 +14,8 @@ use Rattle.mako_script.specs.Names.{is_name, name_of, AreNames}
 use Rattle.mako_script.specs.Programs.{ProgramView, IsCall, defined_after, AreCalls, IsProgram}
 use Rattle.mako_script.specs.Scripts.{ScriptView, IsProper, command_count}
 use Rattle.rand_pcg.specs.Lcg.{Lcg}
-use Rattle.mako_gen.specs.Workloads.{word, variable, rare_call, call_of_words, call_drawn, left, AreDrawn, numbers, names, first_calls, IsSection, AreSections, IsWorkload, seeded}
+use Rattle.mako_gen.specs.Workloads.{word, variable, rare_call, call_of_words, call_drawn, left, AreDrawn, numbers}
+use Rattle.mako_gen.specs.Workloads.{names, first_calls, IsSection, AreSections, IsWorkload, seeded}
 
 few_words : total numbers ≤ max_words
 unfolding total
@@ -21,7 +23,15 @@ few_words = omega arith
 
 pub is_shape : IsShape numbers
 is_shape = record {
-  in_range = record { each = (omega arith, omega arith, (omega arith, omega arith, (omega arith, omega arith, (omega arith, omega arith, (omega arith, omega arith, (omega arith, omega arith, (omega arith, omega arith, (omega arith, omega arith, (omega arith, omega arith, (omega arith, omega arith, tt)))))))))) };
+  in_range = record { each =
+      (omega arith, omega arith,
+      (omega arith, omega arith,
+      (omega arith, omega arith,
+      (omega arith, omega arith,
+      (omega arith, omega arith,
+      (omega arith, omega arith,
+      (omega arith, omega arith,
+      (omega arith, omega arith, (omega arith, omega arith, (omega arith, omega arith, tt)))))))))) };
   entries = omega arith;
   words = few_words;
 }
@@ -77,8 +87,12 @@ either P false x y p q = q
 
 within : (kind a b c : ℕ) → IsWithin (call_of_words kind a b c)
 within kind a b c =
-    either IsWithin _ _ _ new (either IsWithin _ _ _ get (either IsWithin _ _ _ put (either IsWithin _ _ _ copied (either IsWithin _ _ _ dropped
-    (either IsWithin _ _ _ board_put (either IsWithin _ _ _ board_get (either IsWithin _ _ _ num (either IsWithin _ _ _ shown (either IsWithin _ _ _ collected other_shown)))))))))
+    either IsWithin _ _ _ new
+        (either IsWithin _ _ _ get
+        (either IsWithin _ _ _ put (either IsWithin _ _ _ copied (either IsWithin _ _ _ dropped
+    (either IsWithin _ _ _ board_put
+        (either IsWithin _ _ _ board_get
+        (either IsWithin _ _ _ num (either IsWithin _ _ _ shown (either IsWithin _ _ _ collected other_shown)))))))))
   where
     new : IsWithin (New (variable a) (b % 6))
     new = record { is = (omega arith, omega arith); after = omega arith }
@@ -121,21 +135,30 @@ calls_within g h (call ∷ calls) d =
 
 section_calls : (g h : Lcg) (calls : List Call) → AreDrawn g calls h → AreCalls 1 (first_calls ++ calls) 7
 section_calls g h calls d =
-    ((omega arith, omega arith), ((omega arith, omega arith), ((omega arith, omega arith), ((omega arith, omega arith), ((omega arith, omega arith), ((omega arith, omega arith), calls_within g h calls d))))))
+    ((omega arith, omega arith),
+        ((omega arith, omega arith),
+        ((omega arith, omega arith),
+        ((omega arith, omega arith),
+        ((omega arith, omega arith), ((omega arith, omega arith), calls_within g h calls d))))))
 
 pub is_program : (size : ℕ) (g h : Lcg) (p : ProgramView) → IsSection size g p h → IsProgram 8 p
 is_program size g h p s = record {
   names = subst AreNames (sym s.named) are_names;
   few = omega (arith, ap length s.named);
-  calls = subst (λ (calls : List Call). AreCalls 1 calls (length p.names)) (sym s.calls) (subst (λ (n : ℕ). AreCalls 1 (first_calls ++ s.drawn) n) (sym (ap length s.named)) (section_calls g h s.drawn s.drawn_by));
+  calls = subst (λ (calls : List Call). AreCalls 1 calls (length p.names)) (sym s.calls)
+      (subst (λ (n : ℕ). AreCalls 1 (first_calls ++ s.drawn) n) (sym (ap length s.named))
+      (section_calls g h s.drawn s.drawn_by));
 }
 
-pub are_programs : (size : ℕ) (g h : Lcg) (ps : List ProgramView) → AreSections size g ps h → AllByRecursion (IsProgram 8) ps × (command_count ps ≡ length ps * (6 + size))
+pub are_programs : (size : ℕ) (g h : Lcg) (ps : List ProgramView) → AreSections size g ps h
+    → AllByRecursion (IsProgram 8) ps × (command_count ps ≡ length ps * (6 + size))
 are_programs size g h [] s = (tt, omega arith)
 are_programs size g h (p ∷ ps) s =
     let others = are_programs size s.0 h ps s.2 in
-    let mine : length p.calls ≡ 6 + size = omega (arith, ap length s.1.calls, length-append first_calls s.1.drawn, s.1.count) in
-    ((is_program size g s.0 p s.1, others.0), omega (arith, others.1, mine, sum_by-cons (λ (q : ProgramView). length q.calls) p ps))
+    let mine : length p.calls ≡ 6 + size =
+        omega (arith, ap length s.1.calls, length-append first_calls s.1.drawn, s.1.count) in
+    ((is_program size g s.0 p s.1, others.0), omega
+        (arith, others.1, mine, sum_by-cons (λ (q : ProgramView). length q.calls) p ps))
 
 pub is_proper : (seed size : ℕ) (s : ScriptView) → size ≤ 4096 → IsWorkload seed size s → IsProper s
 is_proper seed size s few w =

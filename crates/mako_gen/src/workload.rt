@@ -58,8 +58,8 @@ fn sections(
     Ok(programs)
 }
 
-/// The workload of a seed: a script of four mutators, each with six commands that give its variables objects, and behind
-/// them so many that are drawn by PCG XSH RR 64/32 from the seed.
+/// The workload of a seed: a script of four mutators, each with six commands that give its variables objects, and
+/// behind them so many that are drawn by PCG XSH RR 64/32 from the seed.
 pub fn make(alloc: Global, seed: u64, size: u32) -> Result<Script, Memory>
     requires { (1 ≤ size) × (size ≤ 4096) }
     ensures { IfOk result (IsWorkload seed size) }

@@ -1,5 +1,6 @@
 -- The stages of a collect, and of the wait of a new that found no room.
-use Rattle.std.proofs.Common.{◌≡◌, ℕ, ◌+◌, ◌≤◌, ◌==◌, nat_le, true, false, if◌then◌else◌, List, [], ◌∷◌, ◌++◌, max, set, slice_get, sym, ap, subst, refl, ◌∙◌, arith}
+use Rattle.std.proofs.Common.{◌≡◌, ℕ, ◌+◌, ◌≤◌, ◌==◌, nat_le, true, false, if◌then◌else◌, List, [], ◌∷◌, ◌++◌, max, set}
+use Rattle.std.proofs.Common.{slice_get, sym, ap, subst, refl, ◌∙◌, arith}
 use Rattle.mako_words.specs.Phases.{phase_at, cycle_of}
 use Rattle.mako_words.specs.declared.phase_word.PhaseWord.{PhaseWord}
 use Rattle.mako_words.specs.declared.phase_word.PhaseWord.TheVariants.{Idle, Trace, Evac, Stop}
@@ -16,7 +17,8 @@ use Rattle.mako_model.specs.Fronts.{Seen, with_point}
 use Rattle.mako_call.specs.declared.call_stage.CallStage.{CallStage}
 use Rattle.mako_call.specs.declared.call_stage.CallStage.TheVariants.{Asking, Ended}
 use Rattle.mako_call.specs.declared.asking.AskStage.{AskStage}
-use Rattle.mako_call.specs.declared.asking.AskStage.TheVariants.{LoadingPhase as AskPhase, RaisingDemand, Awaiting as AskAwaiting}
+use Rattle.mako_call.specs.declared.asking.AskStage.TheVariants.{LoadingPhase as AskPhase, RaisingDemand}
+use Rattle.mako_call.specs.declared.asking.AskStage.TheVariants.{Awaiting as AskAwaiting}
 use Rattle.mako_mutator.specs.declared.progress.Task.TheVariants.{Awaiting}
 use Rattle.mako_call.specs.Agreeing.{asked_of}
 use Rattle.mako_call.specs.Asking.{finished_cycles}
@@ -32,7 +34,9 @@ use Rattle.mako_joint.specs.Joints.{Joint}
 use Rattle.mako_mutating.specs.Mutators.{IsSeen, View, view_of, with_view}
 use Rattle.mako_making.proofs.Placed.{AllHold, NextKeeps}
 use Rattle.mako_making.proofs.Asking.{out_with, only_looks, learns, asks_next, demands, spends, collects}
-use Rattle.mako_making.proofs.Trials.{Trial, k, driver, waiter, fed_to, waited_to, Goal, WaitGoal, load_goal, load_wait, left, left_past, left_same, left_next, start_trying, nothing_yet, begins_last, follows}
+use Rattle.mako_making.proofs.Trials.{Trial, k, driver, waiter, fed_to, waited_to, Goal, WaitGoal, load_goal, load_wait}
+use Rattle.mako_making.proofs.Trials.{left, left_past, left_same, left_next, start_trying, nothing_yet, begins_last}
+use Rattle.mako_making.proofs.Trials.{follows}
 
 -- the number of finished cycles tells that a cycle is finished
 told_finished : (p : PhaseWord) (cycle : ℕ) → 1 ≤ cycle → cycle ≤ finished_cycles p → IsToldFinished p cycle

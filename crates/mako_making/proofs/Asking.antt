@@ -26,7 +26,8 @@ use Rattle.mako_joint.specs.Joints.{JointScene, layout_in, Joint}
 use Rattle.mako_state.proofs.Words.{IsOffLayout, stored_off_layout, stored_off_gates}
 use Rattle.mako_mutating.specs.Mutators.{IsSeen, View, with_view}
 use Rattle.mako_making.proofs.Seated.{IsQuietPlace, Quiet, quiet_all, quiet_at}
-use Rattle.mako_making.proofs.SeatKinds.{tries, not_tried, order_by, order_looks, order_unseen, laid, laid_neither, retold, goes, says}
+use Rattle.mako_making.proofs.SeatKinds.{tries, not_tried, order_by, order_looks, order_unseen, laid, laid_neither}
+use Rattle.mako_making.proofs.SeatKinds.{retold, goes, says}
 
 -- outside of its gate, with no name and nothing of a record
 abbrev pub out_with : Admission → Trying → List Call → View

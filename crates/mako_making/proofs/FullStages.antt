@@ -1,5 +1,6 @@
 -- An attempt without room leaves its gate: the last one is answered, and after another the mutator waits for a cycle.
-use Rattle.std.proofs.Common.{◌≡◌, ℕ, ◌+◌, ◌*◌, ◌<◌, inl, Bool, true, false, List, [], ◌∷◌, ◌++◌, length, set, slice_get, None, sym, ap, subst, refl, arith}
+use Rattle.std.proofs.Common.{◌≡◌, ℕ, ◌+◌, ◌*◌, ◌<◌, inl, Bool, true, false, List, [], ◌∷◌, ◌++◌, length, set}
+use Rattle.std.proofs.Common.{slice_get, None, sym, ap, subst, refl, arith}
 use Rattle.mako_shape.specs.declared.numbers.Numbers.{Numbers}
 use Rattle.mako_shape.specs.Places.{mutator_gate, index, word_at}
 use Rattle.mako_gate.specs.GateActions as gate
@@ -17,7 +18,8 @@ use Rattle.mako_model.specs.Legal.{Facts, state_of}
 use Rattle.mako_model.specs.Lawful.{HasRoot}
 use Rattle.mako_model.proofs.RootRows.{has_roots}
 use Rattle.mako_call.specs.declared.call_stage.CallStage.{CallStage}
-use Rattle.mako_call.specs.declared.call_stage.CallStage.TheVariants.{Arriving, Rooting, Entering, Moving, Getting, Putting, Allocating, Asking, Leaving, Ended}
+use Rattle.mako_call.specs.declared.call_stage.CallStage.TheVariants.{Arriving, Rooting, Entering, Moving, Getting}
+use Rattle.mako_call.specs.declared.call_stage.CallStage.TheVariants.{Putting, Allocating, Asking, Leaving, Ended}
 use Rattle.mako_call.specs.declared.asking.AskStage.TheVariants.{LoadingPhase as AskPhase}
 use Rattle.mako_call.specs.declared.leaving.LeaveStage.TheVariants.{Refused, TurnedAway, FromTablet, FromOwn}
 use Rattle.mako_mutator.specs.declared.progress.Task.{Task}
@@ -49,7 +51,8 @@ use Rattle.mako_making.proofs.Seated.{IsQuietPlace, Quiet, quiet_at}
 use Rattle.mako_making.proofs.SeatKinds.{order_by, laid, laid_gate, retold, not_tried, goes, says}
 use Rattle.mako_making.proofs.Seeking.{in_with}
 use Rattle.mako_making.proofs.Tasks.{trial, of_attempt}
-use Rattle.mako_making.proofs.Trials.{Trial, k, driver, left, left_past, left_then, left_same, left_next, nothing_yet, follows}
+use Rattle.mako_making.proofs.Trials.{Trial, k, driver, left, left_past, left_then, left_same, left_next, nothing_yet}
+use Rattle.mako_making.proofs.Trials.{follows}
 
 quiet_own : (m : ℕ) → IsQuietPlace (mutator_gate m)
 quiet_own m = record { names = λ e. e; trace = λ e. e; polled = λ e. e }

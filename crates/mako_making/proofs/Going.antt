@@ -5,7 +5,8 @@ use Rattle.mako_words.proofs.PhaseWords.{phase_words, phase_at-phase_word}
 use Rattle.mako_words.specs.declared.phase_word.PhaseWord.{PhaseWord}
 use Rattle.mako_words.specs.declared.phase_word.PhaseWord.TheVariants.{Idle, Trace, Evac, Stop}
 use Rattle.mako_shape.specs.declared.numbers.Numbers.{Numbers}
-use Rattle.mako_shape.specs.Places.{phase, mutator_gate, demand, finished, entry, home, top, leaving, turn, root, tablet_gate, region_word, index, word_at}
+use Rattle.mako_shape.specs.Places.{phase, mutator_gate, demand, finished, entry, home, top, leaving, turn, root}
+use Rattle.mako_shape.specs.Places.{tablet_gate, region_word, index, word_at}
 use Rattle.mako_shape.proofs.BelongingLaws.{parts_belong}
 use Rattle.mako_gate.specs.Standings.{Standing, arrived, at_tablet, with_turn, turned_away, mutator_at, inside, writes}
 use Rattle.mako_gate.proofs.Found.{arrived_word, own_arrived_word}
@@ -19,16 +20,25 @@ use Rattle.mako_alloc.specs.declared.progress.NewRecord.{NewRecord}
 use Rattle.mako_alloc.specs.declared.progress.Part.{Part}
 use Rattle.mako_alloc.specs.declared.progress.Part.TheVariants.{Header, Field, Top, Entry}
 use Rattle.mako_alloc.specs.declared.progress.NewStage.{NewStage}
-use Rattle.mako_alloc.specs.declared.progress.NewStage.TheVariants.{Arriving as NewArriving, TurnedAway as NewTurnedAway, TakingTurn as NewTakingTurn, LoadingLeaving, LoadingTop, LoadingEntry as NewEntry, LoadingHome as NewHome, Making, GivingTurn as PassingTurn, Leaving as NewLeaving, Ended as NewEnded}
+use Rattle.mako_alloc.specs.declared.progress.NewStage.TheVariants.{Arriving as NewArriving}
+use Rattle.mako_alloc.specs.declared.progress.NewStage.TheVariants.{TurnedAway as NewTurnedAway}
+use Rattle.mako_alloc.specs.declared.progress.NewStage.TheVariants.{TakingTurn as NewTakingTurn, LoadingLeaving}
+use Rattle.mako_alloc.specs.declared.progress.NewStage.TheVariants.{LoadingTop, LoadingEntry as NewEntry}
+use Rattle.mako_alloc.specs.declared.progress.NewStage.TheVariants.{LoadingHome as NewHome, Making}
+use Rattle.mako_alloc.specs.declared.progress.NewStage.TheVariants.{GivingTurn as PassingTurn, Leaving as NewLeaving}
+use Rattle.mako_alloc.specs.declared.progress.NewStage.TheVariants.{Ended as NewEnded}
 use Rattle.mako_call.specs.Asking.{CountsFrom}
 use Rattle.mako_call.specs.declared.allocating.AllocStage.{AllocStage}
-use Rattle.mako_call.specs.declared.allocating.AllocStage.TheVariants.{LoadingPhase as NewPhase, Searching, StoringRoot, GivingTurn as GivingNewTurn}
+use Rattle.mako_call.specs.declared.allocating.AllocStage.TheVariants.{LoadingPhase as NewPhase, Searching, StoringRoot}
+use Rattle.mako_call.specs.declared.allocating.AllocStage.TheVariants.{GivingTurn as GivingNewTurn}
 use Rattle.mako_call.specs.declared.asking.AskStage.{AskStage}
-use Rattle.mako_call.specs.declared.asking.AskStage.TheVariants.{LoadingPhase as AskPhase, RaisingDemand, Awaiting as AskAwaiting}
+use Rattle.mako_call.specs.declared.asking.AskStage.TheVariants.{LoadingPhase as AskPhase, RaisingDemand}
+use Rattle.mako_call.specs.declared.asking.AskStage.TheVariants.{Awaiting as AskAwaiting}
 use Rattle.mako_phases.specs.Facets.{phase_during}
 use Rattle.mako_phases.proofs.Parts.{bound_cycle, cycles_fit}
 use Rattle.mako_call.specs.declared.call_stage.CallStage.{CallStage}
-use Rattle.mako_call.specs.declared.call_stage.CallStage.TheVariants.{Arriving, Rooting, Entering, Moving, Getting, Putting, Allocating, Asking, Leaving, Ended}
+use Rattle.mako_call.specs.declared.call_stage.CallStage.TheVariants.{Arriving, Rooting, Entering, Moving, Getting}
+use Rattle.mako_call.specs.declared.call_stage.CallStage.TheVariants.{Putting, Allocating, Asking, Leaving, Ended}
 use Rattle.mako_call.specs.declared.leaving.LeaveStage.TheVariants.{Refused, TurnedAway, FromTablet, FromOwn}
 use Rattle.mako_model.specs.declared.attempt.Attempt.TheVariants.{Answer, Full, Pause as Paused}
 use Rattle.mako_mutator.specs.Drivers.{Driving}
@@ -83,7 +93,8 @@ module _ (x : Trial) where
 
   phase_packed : IsPackedPhase (word_at x.n x.s.words phase)
   phase_packed =
-      subst IsPackedPhase (sym x.joint.order.words_stand.phase_is) (phase_words.packed (phase_during x.joint.order.part) fits)
+      subst IsPackedPhase (sym x.joint.order.words_stand.phase_is)
+          (phase_words.packed (phase_during x.joint.order.part) fits)
 
   phase_low : cycle_of (phase_at (word_at x.n x.s.words phase)) ≤ x.n.cycles
   phase_low =
@@ -226,7 +237,8 @@ module _ (x : Trial) where
           own_arrived_word x.n (λ p. word_at x.n x.s.words p) x.s.facets.gates x.joint.layout.gates x.m
           (mutator_at x.m inside) at.here.gate x.low (omega arith)
 
-  waits : (s : AskStage) → CanStep (drivers.next_of (waiter x (Asking s))) x.s.words (drivers.Fits (waiter x (Asking s)))
+  waits : (s : AskStage)
+      → CanStep (drivers.next_of (waiter x (Asking s))) x.s.words (drivers.Fits (waiter x (Asking s)))
   waits AskPhase = asking_asks x AskPhase
   waits (RaisingDemand cycle) = asking_asks x (RaisingDemand cycle)
   waits (AskAwaiting cycle) = asking_asks x (AskAwaiting cycle)
@@ -278,10 +290,13 @@ makings_can_go n w s m d j seen keeps searches few these = by d.progress.task re
           tt,
         )
 
-    by : (t : Task) → d.progress.task ≡ t → IsBesideObjects t → CanStep (drivers.task_next d.caller t) s.words (drivers.TaskFits t)
+    by : (t : Task) → d.progress.task ≡ t → IsBesideObjects t
+        → CanStep (drivers.task_next d.caller t) s.words (drivers.TaskFits t)
     by (Attempting c) e here = subst (λ t. CanStep (drivers.task_next d.caller t) s.words (drivers.TaskFits t)) e
-        (of_attempt n w s m d j is c e (λ d. CanStep (drivers.next_of d) s.words (drivers.Fits d)) (attempting (trial n w s m d j is c) c.stage here))
+        (of_attempt n w s m d j is c e (λ d. CanStep (drivers.next_of d) s.words (drivers.Fits d))
+            (attempting (trial n w s m d j is c) c.stage here))
     by (Awaiting c) e here = subst (λ t. CanStep (drivers.task_next d.caller t) s.words (drivers.TaskFits t)) e
-        (of_wait n w s m d j is c e (λ d. CanStep (drivers.next_of d) s.words (drivers.Fits d)) (waiting (trial n w s m d j is c) c.stage))
+        (of_wait n w s m d j is c e (λ d. CanStep (drivers.next_of d) s.words (drivers.Fits d))
+            (waiting (trial n w s m d j is c) c.stage))
     by Finishing e here = finishing
     by TaskEnded e here = tt

@@ -1,5 +1,6 @@
 -- What a mutator keeps of itself where it publishes its object, where it stores the root, and at its end.
-use Rattle.std.proofs.Common.{◌≡◌, ℕ, ◌<◌, ⊎_elim, [], ◌∷◌, ◌++◌, replicate, set, Option, Some, sym, ap, subst, refl, ◌∙◌, arith, append-nil}
+use Rattle.std.proofs.Common.{◌≡◌, ℕ, ◌<◌, ⊎_elim, [], ◌∷◌, ◌++◌, replicate, set, Option, Some, sym, ap, subst, refl}
+use Rattle.std.proofs.Common.{◌∙◌, arith, append-nil}
 use Rattle.std.proofs.lemmas.Bool.{cases_eq}
 use Rattle.std.proofs.lemmas.Option.{same_Some}
 use Rattle.mako_words.specs.declared.name.Name.{Name}

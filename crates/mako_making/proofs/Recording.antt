@@ -1,5 +1,6 @@
 -- The steps of a search that store the record of its object and raise the top over it.
-use Rattle.std.proofs.Common.{◌≡◌, ℕ, zero, suc, ◌+◌, ◌-◌, ◌*◌, ◌<◌, Bool, if◌then◌else◌, List, map, set, replicate, get_or, Option, Some, None, sym, ap, subst, refl, ◌∙◌, arith}
+use Rattle.std.proofs.Common.{◌≡◌, ℕ, zero, suc, ◌+◌, ◌-◌, ◌*◌, ◌<◌, Bool, if◌then◌else◌, List, map, set, replicate}
+use Rattle.std.proofs.Common.{get_or, Option, Some, None, sym, ap, subst, refl, ◌∙◌, arith}
 use Rattle.std.proofs.lemmas.List.{length-replicate}
 use Rattle.mako_words.specs.declared.name.Name.{Name}
 use Rattle.mako_words.specs.declared.value.Value.TheVariants.{Null}
@@ -29,7 +30,8 @@ use Rattle.mako_state.proofs.Words.{sets_words}
 use Rattle.mako_mutating.specs.Mutators.{with_view}
 use Rattle.mako_making.proofs.Placed.{NextKeeps}
 use Rattle.mako_making.proofs.SeatKinds.{laid}
-use Rattle.mako_making.proofs.Searches.{y, seeking, on, present, know, AtStage, low_tablet, on_to, progress, phase_stays}
+use Rattle.mako_making.proofs.Searches.{y, seeking, on, present, know, AtStage, low_tablet, on_to, progress}
+use Rattle.mako_making.proofs.Searches.{phase_stays}
 use Rattle.mako_making.proofs.Seeking.{in_with, IsUnseen, unseen_top, unseen_record, stores}
 use Rattle.mako_making.proofs.Trials.{Trial, driver, Goal, left}
 

@@ -1,5 +1,6 @@
 -- The steps of a search that look at the entries of a tablet, and keep its home.
-use Rattle.std.proofs.Common.{◌≡◌, ℕ, ◌+◌, ◌*◌, ◌<◌, ◌≤◌, ◌⊎◌, inl, inr, ⊎_elim, true, false, if◌then◌else◌, set, Option, Some, None, sym, ap, subst, refl, ◌∙◌, arith}
+use Rattle.std.proofs.Common.{◌≡◌, ℕ, ◌+◌, ◌*◌, ◌<◌, ◌≤◌, ◌⊎◌, inl, inr, ⊎_elim, true, false, if◌then◌else◌, set}
+use Rattle.std.proofs.Common.{Option, Some, None, sym, ap, subst, refl, ◌∙◌, arith}
 use Rattle.mako_words.specs.declared.name.Name.{Name}
 use Rattle.mako_words.specs.Entries.{entry_at}
 use Rattle.mako_shape.specs.Places.{entry, home, index, word_at}
@@ -10,7 +11,8 @@ use Rattle.mako_model.specs.declared.attempt.Pause.{Pause as Reason}
 use Rattle.mako_alloc.specs.Allocating as allocating
 use Rattle.mako_alloc.specs.Seen.{IsUsed}
 use Rattle.mako_alloc.specs.declared.progress.NewStage.{NewStage}
-use Rattle.mako_alloc.specs.declared.progress.NewStage.TheVariants.{LoadingEntry as NewEntry, LoadingHome as NewHome, Making, GivingTurn as PassingTurn}
+use Rattle.mako_alloc.specs.declared.progress.NewStage.TheVariants.{LoadingEntry as NewEntry, LoadingHome as NewHome}
+use Rattle.mako_alloc.specs.declared.progress.NewStage.TheVariants.{Making, GivingTurn as PassingTurn}
 use Rattle.mako_alloc.specs.declared.progress.NewRecord.{NewRecord}
 use Rattle.mako_alloc.specs.declared.progress.Part.TheVariants.{Header}
 use Rattle.mako_alloc.proofs.Frees.{by_entry}

@@ -1,5 +1,6 @@
 -- The steps of a search that find room in a tablet and an entry of it, or none.
-use Rattle.std.proofs.Common.{◌≡◌, ℕ, ◌+◌, ◌*◌, ◌%◌, ◌<◌, ◌≤◌, ◌==◌, if◌then◌else◌, set, Option, Some, None, sym, ap, subst, refl, ◌∙◌, arith, eq-eqb}
+use Rattle.std.proofs.Common.{◌≡◌, ℕ, ◌+◌, ◌*◌, ◌%◌, ◌<◌, ◌≤◌, ◌==◌, if◌then◌else◌, set, Option, Some, None, sym, ap}
+use Rattle.std.proofs.Common.{subst, refl, ◌∙◌, arith, eq-eqb}
 use Rattle.mako_shape.specs.Places.{top, leaving, index, word_at}
 use Rattle.mako_shape.specs.Belongings.{tablet_of_entry}
 use Rattle.mako_shape.proofs.BelongingLaws.{parts_belong}
@@ -12,7 +13,8 @@ use Rattle.mako_model.specs.Starved.{words_made}
 use Rattle.mako_alloc.specs.Allocating as allocating
 use Rattle.mako_alloc.specs.Allocating.{first, noted}
 use Rattle.mako_alloc.specs.declared.progress.NewStage.{NewStage}
-use Rattle.mako_alloc.specs.declared.progress.NewStage.TheVariants.{LoadingLeaving, LoadingTop, LoadingEntry as NewEntry, GivingTurn as PassingTurn}
+use Rattle.mako_alloc.specs.declared.progress.NewStage.TheVariants.{LoadingLeaving, LoadingTop}
+use Rattle.mako_alloc.specs.declared.progress.NewStage.TheVariants.{LoadingEntry as NewEntry, GivingTurn as PassingTurn}
 use Rattle.mako_names.specs.Steps.{NamesHoldIn, Notes, Lacks, LacksWords}
 use Rattle.mako_names.specs.Trying as trying
 use Rattle.mako_names.specs.Trying.{Trying}

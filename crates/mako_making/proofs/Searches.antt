@@ -1,5 +1,6 @@
 -- A search for room in a scene: what all groups read of it, by its stage, and its steps at gates and turns.
-use Rattle.std.proofs.Common.{◌≡◌, ℕ, ◌+◌, ◌*◌, ◌<◌, Bool, if◌then◌else◌, List, set, Option, Some, None, sym, ap, subst, refl, ◌∙◌, arith}
+use Rattle.std.proofs.Common.{◌≡◌, ℕ, ◌+◌, ◌*◌, ◌<◌, Bool, if◌then◌else◌, List, set, Option, Some, None, sym, ap, subst}
+use Rattle.std.proofs.Common.{refl, ◌∙◌, arith}
 use Rattle.std.proofs.lemmas.Bool.{ne_eqb}
 use prog.Atomic.{either}
 use Rattle.mako_words.specs.Gates.{is_shut}
@@ -19,7 +20,11 @@ use Rattle.mako_alloc.specs.Allocating.{Allocation, tablet_at, first, noted, out
 use Rattle.mako_alloc.specs.Standings as allocating
 use Rattle.mako_alloc.specs.declared.job.Job.{Job}
 use Rattle.mako_alloc.specs.declared.progress.NewStage.{NewStage}
-use Rattle.mako_alloc.specs.declared.progress.NewStage.TheVariants.{Arriving as NewArriving, TurnedAway as NewTurnedAway, TakingTurn as NewTakingTurn, LoadingLeaving, GivingTurn as PassingTurn, Leaving as NewLeaving, Ended as NewEnded}
+use Rattle.mako_alloc.specs.declared.progress.NewStage.TheVariants.{Arriving as NewArriving}
+use Rattle.mako_alloc.specs.declared.progress.NewStage.TheVariants.{TurnedAway as NewTurnedAway}
+use Rattle.mako_alloc.specs.declared.progress.NewStage.TheVariants.{TakingTurn as NewTakingTurn, LoadingLeaving}
+use Rattle.mako_alloc.specs.declared.progress.NewStage.TheVariants.{GivingTurn as PassingTurn, Leaving as NewLeaving}
+use Rattle.mako_alloc.specs.declared.progress.NewStage.TheVariants.{Ended as NewEnded}
 use Rattle.mako_alloc.specs.declared.progress.Progress.{Progress}
 use Rattle.mako_alloc.proofs.Bounds.{tablet_below}
 use Rattle.mako_call.specs.declared.call_stage.CallStage.{CallStage}
@@ -41,7 +46,8 @@ use Rattle.mako_mutating.specs.Mutators.{IsSeen, View, with_view}
 use Rattle.mako_making.specs.Makings.{IsAt, IsNoted}
 use Rattle.mako_making.proofs.Placed.{NextKeeps}
 use Rattle.mako_making.proofs.Seated.{quiet_at}
-use Rattle.mako_making.proofs.Seeking.{in_with, IsUnseen, unseen_gate, unseen_turn, knowing, as_before, learns_of, looks, makes, acts_at}
+use Rattle.mako_making.proofs.Seeking.{in_with, IsUnseen, unseen_gate, unseen_turn, knowing, as_before, learns_of}
+use Rattle.mako_making.proofs.Seeking.{looks, makes, acts_at}
 use Rattle.mako_making.proofs.Trials.{Trial, driver, Goal, left, left_same}
 
 -- a note is made, if there was none

@@ -19,7 +19,8 @@ use Rattle.mako_model.specs.Legal.{Facts, state_of}
 use Rattle.mako_model.specs.Starved.{words_made, words_by}
 use Rattle.mako_model.proofs.Histories.{state_push}
 use Rattle.mako_model.proofs.Lists.{get_set_same}
-use Rattle.mako_names.specs.Steps.{NameScene, NamesHoldIn, LeavesNames, Stores, Tries, AttemptStep, Decision, Decides, answered}
+use Rattle.mako_names.specs.Steps.{NameScene, NamesHoldIn, LeavesNames, Stores, Tries, AttemptStep, Decision, Decides}
+use Rattle.mako_names.specs.Steps.{answered}
 use Rattle.mako_names.specs.Tables.{phase_of}
 use Rattle.mako_names.specs.Trying.{Trying}
 use Rattle.mako_names.specs.Trying as trying

@@ -1,6 +1,7 @@
 -- A mutator inside of its gate, on its way to a new object: acts at gates and turns, loads, and stores of words that
 -- names, tracing and the order of the phases do not read.
-use Rattle.std.proofs.Common.{◌≡◌, ℕ, ◌<◌, inl, Bool, true, false, List, [], set, None, Some, sym, ap, subst, refl, ◌∙◌, arith}
+use Rattle.std.proofs.Common.{◌≡◌, ℕ, ◌<◌, inl, Bool, true, false, List, [], set, None, Some, sym, ap, subst, refl, ◌∙◌}
+use Rattle.std.proofs.Common.{arith}
 use Rattle.mako_shape.specs.declared.numbers.Numbers.{Numbers}
 use Rattle.mako_shape.specs.Places.{Place, tablet_gate, turn, top, region_word, index, Within, word_at}
 use Rattle.mako_gate.specs.Changes.{Makes}
@@ -29,7 +30,8 @@ use Rattle.mako_state.proofs.Words.{stored_off_layout}
 use Rattle.mako_mutating.specs.MutatorFacets.{last_at}
 use Rattle.mako_mutating.specs.Mutators.{IsSeen, View, with_view}
 use Rattle.mako_making.proofs.Seated.{IsQuietPlace, quiet_all, quiet_at}
-use Rattle.mako_making.proofs.SeatKinds.{tried, not_tried, tries, tries_twice, order_looks, order_unseen, laid, laid_gate, laid_work, laid_neither, goes}
+use Rattle.mako_making.proofs.SeatKinds.{tried, not_tried, tries, tries_twice, order_looks, order_unseen, laid}
+use Rattle.mako_making.proofs.SeatKinds.{laid_gate, laid_work, laid_neither, goes}
 
 -- inside of its gate, with no name to use
 abbrev pub in_with : Standing → Work → Trying → List Call → View

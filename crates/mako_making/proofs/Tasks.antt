@@ -11,9 +11,11 @@ use Rattle.mako_model.specs.declared.call.Call.TheVariants as call
 use Rattle.mako_model.specs.Legal.{Facts}
 use Rattle.mako_call.specs.declared.caller.Caller.{Caller}
 use Rattle.mako_call.specs.declared.call_stage.CallStage.{CallStage}
-use Rattle.mako_call.specs.declared.call_stage.CallStage.TheVariants.{Arriving, Rooting, Entering, Moving, Getting, Putting, Allocating, Asking, Leaving, Ended}
+use Rattle.mako_call.specs.declared.call_stage.CallStage.TheVariants.{Arriving, Rooting, Entering, Moving, Getting}
+use Rattle.mako_call.specs.declared.call_stage.CallStage.TheVariants.{Putting, Allocating, Asking, Leaving, Ended}
 use Rattle.mako_call.specs.declared.asking.AskStage.{AskStage}
-use Rattle.mako_call.specs.declared.asking.AskStage.TheVariants.{LoadingPhase as AskPhase, RaisingDemand, Awaiting as AskAwaiting}
+use Rattle.mako_call.specs.declared.asking.AskStage.TheVariants.{LoadingPhase as AskPhase, RaisingDemand}
+use Rattle.mako_call.specs.declared.asking.AskStage.TheVariants.{Awaiting as AskAwaiting}
 use Rattle.mako_mutator.specs.declared.progress.Task.{Task}
 use Rattle.mako_mutator.specs.declared.progress.Task.TheVariants.{Attempting, Awaiting, Finishing, Ended as TaskEnded}
 use Rattle.mako_call.specs.declared.leaving.LeaveStage.{LeaveStage}
@@ -29,7 +31,8 @@ use Rattle.mako_making.specs.Makings.{IsAt}
 use Rattle.mako_making.proofs.Placed.{StepsHold, NextKeeps}
 use Rattle.mako_making.specs.Stages.{AttemptsCollect, AwaitsCycle, IsPastCalls, IsAsking}
 use Rattle.mako_making.proofs.Asking.{out_with, finishes}
-use Rattle.mako_making.proofs.AskStages.{phase_asked, demand_raised, cycle_awaited, wait_asked, wait_raised, wait_awaited}
+use Rattle.mako_making.proofs.AskStages.{phase_asked, demand_raised, cycle_awaited, wait_asked, wait_raised}
+use Rattle.mako_making.proofs.AskStages.{wait_awaited}
 use Rattle.mako_making.proofs.Trials.{Trial, attempt, driver, waiter}
 
 pub is_collect : (c : Call) → IsCollect c → c ≡ call.Collect

@@ -1,5 +1,6 @@
 -- The attempts of one mutator in a scene: what its machine is after a step, and what all groups then read of it.
-use Rattle.std.proofs.Common.{◌≡◌, ℕ, drop, length-append, append-nil, ◌+◌, ◌<◌, Bool, true, false, List, [], ◌∷◌, ◌++◌, length, slice_get, Option, Some, None, sym, ap, subst, refl, ◌∙◌, arith}
+use Rattle.std.proofs.Common.{◌≡◌, ℕ, drop, length-append, append-nil, ◌+◌, ◌<◌, Bool, true, false, List, [], ◌∷◌, ◌++◌}
+use Rattle.std.proofs.Common.{length, slice_get, Option, Some, None, sym, ap, subst, refl, ◌∙◌, arith}
 use Rattle.mako_shape.specs.declared.numbers.Numbers.{Numbers}
 use Rattle.mako_step.specs.Acts.{words_after}
 use Rattle.mako_step.specs.declared.act.Op.TheVariants.{Load}

@@ -8,12 +8,20 @@ use Rattle.mako_model.specs.declared.call.Call.TheVariants as call
 use Rattle.mako_model.specs.Legal.{Facts}
 use Rattle.mako_alloc.specs.Allocating.{Allocation}
 use Rattle.mako_alloc.specs.declared.progress.NewStage.{NewStage}
-use Rattle.mako_alloc.specs.declared.progress.NewStage.TheVariants.{Arriving as NewArriving, TurnedAway as NewTurnedAway, TakingTurn as NewTakingTurn, LoadingLeaving, LoadingTop, LoadingEntry as NewEntry, LoadingHome as NewHome, Making, GivingTurn as PassingTurn, Leaving as NewLeaving, Ended as NewEnded}
+use Rattle.mako_alloc.specs.declared.progress.NewStage.TheVariants.{Arriving as NewArriving}
+use Rattle.mako_alloc.specs.declared.progress.NewStage.TheVariants.{TurnedAway as NewTurnedAway}
+use Rattle.mako_alloc.specs.declared.progress.NewStage.TheVariants.{TakingTurn as NewTakingTurn, LoadingLeaving}
+use Rattle.mako_alloc.specs.declared.progress.NewStage.TheVariants.{LoadingTop, LoadingEntry as NewEntry}
+use Rattle.mako_alloc.specs.declared.progress.NewStage.TheVariants.{LoadingHome as NewHome, Making}
+use Rattle.mako_alloc.specs.declared.progress.NewStage.TheVariants.{GivingTurn as PassingTurn, Leaving as NewLeaving}
+use Rattle.mako_alloc.specs.declared.progress.NewStage.TheVariants.{Ended as NewEnded}
 use Rattle.mako_alloc.specs.declared.progress.Part.TheVariants.{Header, Field, Top, Entry}
 use Rattle.mako_call.specs.declared.call_stage.CallStage.{CallStage}
-use Rattle.mako_call.specs.declared.call_stage.CallStage.TheVariants.{Arriving, Rooting, Entering, Moving, Getting, Putting, Allocating, Asking, Leaving, Ended}
+use Rattle.mako_call.specs.declared.call_stage.CallStage.TheVariants.{Arriving, Rooting, Entering, Moving, Getting}
+use Rattle.mako_call.specs.declared.call_stage.CallStage.TheVariants.{Putting, Allocating, Asking, Leaving, Ended}
 use Rattle.mako_call.specs.declared.allocating.AllocStage.{AllocStage}
-use Rattle.mako_call.specs.declared.allocating.AllocStage.TheVariants.{LoadingPhase as NewPhase, Searching, StoringRoot, GivingTurn as GivingNewTurn}
+use Rattle.mako_call.specs.declared.allocating.AllocStage.TheVariants.{LoadingPhase as NewPhase, Searching, StoringRoot}
+use Rattle.mako_call.specs.declared.allocating.AllocStage.TheVariants.{GivingTurn as GivingNewTurn}
 use Rattle.mako_call.specs.declared.asking.AskStage.{AskStage}
 use Rattle.mako_call.specs.declared.leaving.LeaveStage.TheVariants.{Refused, TurnedAway, FromTablet, FromOwn}
 use Rattle.mako_mutator.specs.declared.progress.Task.{Task}
@@ -24,14 +32,17 @@ use Rattle.mako_mutator.specs.Drivers.{Driving}
 use Rattle.mako_joint.specs.Joints.{JointScene, Joint}
 use Rattle.mako_mutating.specs.Mutators.{MutatorKeeps, found_by}
 use Rattle.mako_making.specs.Makings.{IsAt, IsMaking}
-use Rattle.mako_making.specs.Stages.{StepsKeepAll, AttemptsCollect, AttemptsFilled, AttemptsObject, AwaitsCycle, IsAllocating, IsAsking, IsPastCalls, LeavesFilled}
+use Rattle.mako_making.specs.Stages.{StepsKeepAll, AttemptsCollect, AttemptsFilled, AttemptsObject, AwaitsCycle}
+use Rattle.mako_making.specs.Stages.{IsAllocating, IsAsking, IsPastCalls, LeavesFilled}
 use Rattle.mako_making.proofs.FullStages.{full_kept}
-use Rattle.mako_making.proofs.Lights.{SelfKept, light_kept, ask_light, wait_light, full_light, phase_light, turn_light, search_light}
+use Rattle.mako_making.proofs.Lights.{SelfKept, light_kept, ask_light, wait_light, full_light, phase_light, turn_light}
+use Rattle.mako_making.proofs.Lights.{search_light}
 use Rattle.mako_making.proofs.NewStages.{object_kept, allocates}
 use Rattle.mako_making.proofs.OwnRoots.{publication_kept, root_kept, end_light}
 use Rattle.mako_making.proofs.Placed.{StepsHold, NextKeeps}
 use Rattle.mako_making.proofs.Searches.{y, seeking, search_at, AtStage}
-use Rattle.mako_making.proofs.Tasks.{collect_kept, wait_kept, end_kept, is_collect, only_asks, trial, ending, of_attempt, of_wait, of_task}
+use Rattle.mako_making.proofs.Tasks.{collect_kept, wait_kept, end_kept, is_collect, only_asks, trial, ending}
+use Rattle.mako_making.proofs.Tasks.{of_attempt, of_wait, of_task}
 use Rattle.mako_making.proofs.Trials.{Trial, at_task, driver, waiter}
 
 -- a mutator at its seat

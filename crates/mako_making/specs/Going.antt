@@ -1,4 +1,5 @@
--- What the next act of a mutator asks of the words where it makes an object, asks or waits for a cycle, finds no room, or
+-- What the next act of a mutator asks of the words where it makes an object, asks or waits for a cycle, finds no room,
+-- or
 -- is past its calls: it is of a word that there is, within its bounds, and finds what the machine can go on with.
 use Rattle.std.specs.Prelude.{ℕ, ◌≤◌}
 use Rattle.mako_shape.specs.declared.numbers.Numbers.{Numbers}

@@ -1,7 +1,8 @@
 //! What keeps all groups, in every phase. The functions do nothing; what they ensure is for contracts and proofs.
 
 ghost use Rattle.mako_making.specs.Going.{MakingsCanGo};
-ghost use Rattle.mako_making.specs.Stages.{StepsKeepAll, AttemptsCollect, AttemptsFilled, AttemptsObject, AwaitsCycle, IsPastCalls, NoneBeginsASearch, SearchesStay};
+ghost use Rattle.mako_making.specs.Stages.{StepsKeepAll, AttemptsCollect, AttemptsFilled, AttemptsObject, AwaitsCycle};
+ghost use Rattle.mako_making.specs.Stages.{IsPastCalls, NoneBeginsASearch, SearchesStay};
 
 /// Each step of a collect keeps all groups and what the mutator keeps of itself, each of the wait of a new that found
 /// no room, and that of a mutator past its calls.
@@ -30,7 +31,8 @@ pub fn searches_stay()
     ensures begin { NoneBeginsASearch }
 {}
 
-/// The next act in each of these is of a word that there is, stays within it, and finds what the machine can go on with.
+/// The next act in each of these is of a word that there is, stays within it, and finds what the machine can go on
+/// with.
 pub fn makings_can_go()
     ensures { MakingsCanGo }
 {}

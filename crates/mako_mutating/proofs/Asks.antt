@@ -1,6 +1,7 @@
 -- What the next step of an attempt asks of the words: that the word is there, that a sum or difference stays within it,
 -- and that the machine can go on with what it finds.
-use Rattle.std.proofs.Common.{◌≡◌, ℕ, ◌+◌, ◌*◌, ◌<◌, ◌≤◌, ◌^◌, Bool, length, get_or, slice_get, slice_index, Some, None, sym, ap, subst, refl, ◌∙◌, arith}
+use Rattle.std.proofs.Common.{◌≡◌, ℕ, ◌+◌, ◌*◌, ◌<◌, ◌≤◌, ◌^◌, Bool, length, get_or, slice_get, slice_index, Some, None}
+use Rattle.std.proofs.Common.{sym, ap, subst, refl, ◌∙◌, arith}
 use Rattle.std.proofs.lemmas.Option.{same_Some, slice_get-get_or}
 use Rattle.mako_words.specs.declared.name.Name.{Name}
 use Rattle.mako_words.specs.declared.value.Value.{Value}
@@ -11,7 +12,8 @@ use Rattle.mako_words.specs.Values.{FitsValue, IsPacked, value_at, value_word}
 use Rattle.mako_words.proofs.GateWords.{gate_forms}
 use Rattle.mako_words.proofs.PhaseWords.{phase_words}
 use Rattle.mako_words.proofs.ValueWords.{value_words}
-use Rattle.mako_shape.specs.Places.{Place, phase, mutator_gate, tablet_gate, home, entry, barrier, root, region_word, index, total, Within, word_at}
+use Rattle.mako_shape.specs.Places.{Place, phase, mutator_gate, tablet_gate, home, entry, barrier, root, region_word}
+use Rattle.mako_shape.specs.Places.{index, total, Within, word_at}
 use Rattle.mako_shape.specs.Belongings.{region_of_address, word_of_address}
 use Rattle.mako_shape.proofs.BelongingLaws.{belongings_in_range}
 use Rattle.mako_shape.proofs.PlaceLaws.{index_below}
@@ -25,15 +27,21 @@ use Rattle.mako_call.specs.declared.object.Get.{Get as GetArgs}
 use Rattle.mako_call.specs.declared.object.Put.{Put as PutArgs}
 use Rattle.mako_call.specs.declared.object.Located.{Located}
 use Rattle.mako_call.specs.declared.call_stage.CallStage.{CallStage}
-use Rattle.mako_call.specs.declared.call_stage.CallStage.TheVariants.{Arriving, Rooting, Entering, Getting, Putting, Leaving}
+use Rattle.mako_call.specs.declared.call_stage.CallStage.TheVariants.{Arriving, Rooting, Entering, Getting, Putting}
+use Rattle.mako_call.specs.declared.call_stage.CallStage.TheVariants.{Leaving}
 use Rattle.mako_call.specs.declared.rooting.RootStage.{RootStage}
-use Rattle.mako_call.specs.declared.rooting.RootStage.TheVariants.{StoringNumber, StoringNull, LoadingCopied, StoringCopied, LoadingShown, LoadingSource, LoadingTarget, LoadingValue, LoadingPhase}
+use Rattle.mako_call.specs.declared.rooting.RootStage.TheVariants.{StoringNumber, StoringNull, LoadingCopied}
+use Rattle.mako_call.specs.declared.rooting.RootStage.TheVariants.{StoringCopied, LoadingShown, LoadingSource}
+use Rattle.mako_call.specs.declared.rooting.RootStage.TheVariants.{LoadingTarget, LoadingValue, LoadingPhase}
 use Rattle.mako_call.specs.declared.entering.EnterStage.{EnterStage}
-use Rattle.mako_call.specs.declared.entering.EnterStage.TheVariants.{Arriving as EnterArriving, LoadingEntry, LoadingHome}
+use Rattle.mako_call.specs.declared.entering.EnterStage.TheVariants.{Arriving as EnterArriving, LoadingEntry}
+use Rattle.mako_call.specs.declared.entering.EnterStage.TheVariants.{LoadingHome}
 use Rattle.mako_call.specs.declared.getting.GetStage.{GetStage}
-use Rattle.mako_call.specs.declared.getting.GetStage.TheVariants.{LoadingHeader as GetHeader, LoadingField as GetField, StoringRoot as StoringGot}
+use Rattle.mako_call.specs.declared.getting.GetStage.TheVariants.{LoadingHeader as GetHeader, LoadingField as GetField}
+use Rattle.mako_call.specs.declared.getting.GetStage.TheVariants.{StoringRoot as StoringGot}
 use Rattle.mako_call.specs.declared.putting.PutStage.{PutStage}
-use Rattle.mako_call.specs.declared.putting.PutStage.TheVariants.{LoadingHeader as PutHeader, LoadingOld, LookingAtBarrier, StoringBarrier, StoringField}
+use Rattle.mako_call.specs.declared.putting.PutStage.TheVariants.{LoadingHeader as PutHeader, LoadingOld}
+use Rattle.mako_call.specs.declared.putting.PutStage.TheVariants.{LookingAtBarrier, StoringBarrier, StoringField}
 use Rattle.mako_call.specs.declared.leaving.LeaveStage.{LeaveStage}
 use Rattle.mako_call.specs.declared.leaving.LeaveStage.TheVariants.{Refused, TurnedAway, FromTablet, FromOwn}
 use Rattle.mako_mutator.specs.Drivers as drivers

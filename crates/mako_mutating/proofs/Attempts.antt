@@ -1,5 +1,6 @@
 -- The attempts of one mutator: what its steps have to show, by the stage.
-use Rattle.std.proofs.Common.{◌≡◌, ℕ, drop, length-append, ◌+◌, Bool, true, List, [], ◌∷◌, ◌++◌, length, set, slice_get, None, sym, ap, subst, refl, ◌∙◌, arith, append-nil}
+use Rattle.std.proofs.Common.{◌≡◌, ℕ, drop, length-append, ◌+◌, Bool, true, List, [], ◌∷◌, ◌++◌, length, set, slice_get}
+use Rattle.std.proofs.Common.{None, sym, ap, subst, refl, ◌∙◌, arith, append-nil}
 use Rattle.mako_words.specs.declared.name.Name.{Name}
 use Rattle.mako_shape.specs.declared.numbers.Numbers.{Numbers}
 use Rattle.mako_shape.specs.Places.{Place, index, Within, word_at}

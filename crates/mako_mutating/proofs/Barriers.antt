@@ -1,5 +1,6 @@
 -- The steps of a put with its barrier, while servers trace.
-use Rattle.std.proofs.Common.{◌≡◌, ℕ, ◌+◌, ◌<◌, inr, Bool, true, false, List, length, set, slice_index, Some, None, sym, ap, subst, refl, ◌∙◌, arith}
+use Rattle.std.proofs.Common.{◌≡◌, ℕ, ◌+◌, ◌<◌, inr, Bool, true, false, List, length, set, slice_index, Some, None, sym}
+use Rattle.std.proofs.Common.{ap, subst, refl, ◌∙◌, arith}
 use Rattle.mako_words.specs.declared.name.Name.{Name}
 use Rattle.mako_words.specs.declared.phase_word.PhaseWord.TheVariants.{Trace}
 use Rattle.mako_words.specs.declared.value.Value.{Value}
@@ -19,7 +20,8 @@ use Rattle.mako_call.specs.declared.object.Put.{Put as PutArgs}
 use Rattle.mako_call.specs.declared.object.Located.{Located}
 use Rattle.mako_call.specs.declared.call_stage.CallStage.{CallStage}
 use Rattle.mako_call.specs.declared.call_stage.CallStage.TheVariants.{Putting}
-use Rattle.mako_call.specs.declared.putting.PutStage.TheVariants.{LoadingOld, LookingAtBarrier, StoringBarrier, StoringField}
+use Rattle.mako_call.specs.declared.putting.PutStage.TheVariants.{LoadingOld, LookingAtBarrier, StoringBarrier}
+use Rattle.mako_call.specs.declared.putting.PutStage.TheVariants.{StoringField}
 use Rattle.mako_mutator.specs.Drivers as drivers
 use Rattle.mako_call.specs.Leaving.{leaving_tablet}
 use Rattle.mako_call.specs.Objects.{tablet_of}
@@ -52,14 +54,17 @@ use Rattle.mako_joint.specs.Joints.{names_in, trace_in, phases_in, TracksFit}
 use Rattle.mako_joint.proofs.EachKind.{polls_stay}
 use Rattle.mako_joint.proofs.Heaps.{heaps_stand}
 use Rattle.mako_joint.proofs.Pauses.{gates_drain}
-use Rattle.mako_mutating.specs.MutatorFacets.{stage_trace, stage_trying, stage_admission, storing_in, kept_at_store, last_at}
+use Rattle.mako_mutating.specs.MutatorFacets.{stage_trace, stage_trying, stage_admission, storing_in, kept_at_store}
+use Rattle.mako_mutating.specs.MutatorFacets.{last_at}
 use Rattle.mako_mutating.specs.Mutators.{View, view_of, StageKeeps}
-use Rattle.mako_mutating.proofs.Attempts.{Scene, At, Holds, Result, after, heap, st, before, onward, loads, layout_stored, names_kept, left_same}
+use Rattle.mako_mutating.proofs.Attempts.{Scene, At, Holds, Result, after, heap, st, before, onward, loads}
+use Rattle.mako_mutating.proofs.Attempts.{layout_stored, names_kept, left_same}
 use Rattle.mako_mutating.proofs.Gates.{roots_else}
 use Rattle.mako_mutating.proofs.Objects.{read, forgotten}
 use Rattle.mako_mutating.proofs.Roots.{root_word, looked}
 use Rattle.mako_mutating.proofs.Stages.{IsLoaded, stage_good}
-use Rattle.mako_mutating.proofs.Views.{Turns, keeps_on, lets_go, framed_same, names_after, tracks_by, order_turned, laid, gate_back, work_back}
+use Rattle.mako_mutating.proofs.Views.{Turns, keeps_on, lets_go, framed_same, names_after, tracks_by, order_turned}
+use Rattle.mako_mutating.proofs.Views.{laid, gate_back, work_back}
 use Rattle.mako_mutating.proofs.Puts.{IsTraceAt, trace_is, kept_trace, Aims, aims, field_inside}
 
 -- a put tries nothing

@@ -1,5 +1,6 @@
 -- A mutator beside the steps of other seats, and the sizes of objects.
-use Rattle.std.proofs.Common.{◌≡◌, ℕ, ◌<◌, ◌≤◌, ⊎_elim, ◌==◌, cond, map, true, false, List, [], ◌∷◌, ◌++◌, length, length-set, set, replicate, sym, ap, subst, refl, ◌∙◌, arith}
+use Rattle.std.proofs.Common.{◌≡◌, ℕ, ◌<◌, ◌≤◌, ⊎_elim, ◌==◌, cond, map, true, false, List, [], ◌∷◌, ◌++◌, length}
+use Rattle.std.proofs.Common.{length-set, set, replicate, sym, ap, subst, refl, ◌∙◌, arith}
 use Rattle.std.specs.FinMap as finite
 use Rattle.std.proofs.lemmas.List.{length-replicate}
 use Rattle.mako_words.specs.declared.name.Name.{Name}
@@ -7,7 +8,10 @@ use Rattle.mako_words.specs.declared.value.Value.{Value}
 use Rattle.mako_words.specs.declared.value.Value.TheVariants as value
 use Rattle.mako_shape.specs.declared.numbers.Numbers.{Numbers}
 use Rattle.mako_record.specs.declared.copier.CopyStage.{CopyStage}
-use Rattle.mako_record.specs.declared.copier.CopyStage.TheVariants.{LoadingTop as CopyTop, LoadingHeader as CopyHeader, StoringHeader, LoadingField as CopyField, StoringField as CopyStore, StoringEntry, RaisingTop, Ended as CopyEnded}
+use Rattle.mako_record.specs.declared.copier.CopyStage.TheVariants.{LoadingTop as CopyTop, LoadingHeader as CopyHeader}
+use Rattle.mako_record.specs.declared.copier.CopyStage.TheVariants.{StoringHeader, LoadingField as CopyField}
+use Rattle.mako_record.specs.declared.copier.CopyStage.TheVariants.{StoringField as CopyStore, StoringEntry, RaisingTop}
+use Rattle.mako_record.specs.declared.copier.CopyStage.TheVariants.{Ended as CopyEnded}
 use Rattle.mako_model.specs.declared.call.Call.{Call}
 use Rattle.mako_model.specs.declared.call.Call.TheVariants as call
 use Rattle.mako_model.specs.declared.reply.Reply.{Reply}
@@ -27,19 +31,24 @@ use Rattle.mako_shades.proofs.Serving.{sizes_stay, sizes_same}
 use Rattle.mako_call.specs.declared.object.Errand.{Errand}
 use Rattle.mako_call.specs.declared.object.Put.{Put as PutArgs}
 use Rattle.mako_call.specs.declared.call_stage.CallStage.{CallStage}
-use Rattle.mako_call.specs.declared.call_stage.CallStage.TheVariants.{Arriving, Rooting, Entering, Moving, Getting, Putting, Allocating, Asking, Leaving, Ended}
+use Rattle.mako_call.specs.declared.call_stage.CallStage.TheVariants.{Arriving, Rooting, Entering, Moving, Getting}
+use Rattle.mako_call.specs.declared.call_stage.CallStage.TheVariants.{Putting, Allocating, Asking, Leaving, Ended}
 use Rattle.mako_call.specs.declared.moving.MoveStage.{MoveStage}
-use Rattle.mako_call.specs.declared.moving.MoveStage.TheVariants.{TakingTurn, LoadingEntry as LoadingAgain, Copying as Copies, GivingTurn}
+use Rattle.mako_call.specs.declared.moving.MoveStage.TheVariants.{TakingTurn, LoadingEntry as LoadingAgain}
+use Rattle.mako_call.specs.declared.moving.MoveStage.TheVariants.{Copying as Copies, GivingTurn}
 use Rattle.mako_call.specs.declared.putting.PutStage.{PutStage}
-use Rattle.mako_call.specs.declared.putting.PutStage.TheVariants.{LoadingHeader as PutHeader, LoadingOld, LookingAtBarrier, StoringBarrier, StoringField}
+use Rattle.mako_call.specs.declared.putting.PutStage.TheVariants.{LoadingHeader as PutHeader, LoadingOld}
+use Rattle.mako_call.specs.declared.putting.PutStage.TheVariants.{LookingAtBarrier, StoringBarrier, StoringField}
 use Rattle.mako_mutator.specs.declared.progress.Task.{Task}
 use Rattle.mako_mutator.specs.declared.progress.Task.TheVariants.{Attempting, Awaiting, Finishing, Ended as TaskEnded}
 use Rattle.mako_mutator.specs.Drivers as drivers
 use Rattle.mako_mutator.specs.Drivers.{Driving, TaskIsKnown}
 use Rattle.mako_state.specs.Carried.{carried_of, WordStands}
 use Rattle.mako_state.proofs.Points.{Preserves, preserves, says_kept, other_reply}
-use Rattle.mako_mutating.specs.Mutators.{ObjectsAreSmall, HasFields, CopyCounts, MoveCounts, PutKeeps, StageKeeps, TaskKeeps}
-use Rattle.mako_mutating.specs.Beside.{LeavesToMutator, GoesOnBeside, Silent, Told, Snapped, OthersLeave, IsSmallCall, IsSmallPoint, ObjectsStaySmall}
+use Rattle.mako_mutating.specs.Mutators.{ObjectsAreSmall, HasFields, CopyCounts, MoveCounts, PutKeeps, StageKeeps}
+use Rattle.mako_mutating.specs.Mutators.{TaskKeeps}
+use Rattle.mako_mutating.specs.Beside.{LeavesToMutator, GoesOnBeside, Silent, Told, Snapped, OthersLeave, IsSmallCall}
+use Rattle.mako_mutating.specs.Beside.{IsSmallPoint, ObjectsStaySmall}
 
 -- ---- what a mutator keeps
 

@@ -1,5 +1,6 @@
 -- The steps of an attempt that copies its object's record into the home of the tablet, under the turn.
-use Rattle.std.proofs.Common.{◌≡◌, ◌≢◌, ℕ, ◌+◌, ◌*◌, ◌<◌, ◌≤◌, if◌then◌else◌, Bool, true, false, List, [], ◌++◌, set, slice_index, Some, sym, ap, subst, refl, ◌∙◌, arith, append-nil}
+use Rattle.std.proofs.Common.{◌≡◌, ◌≢◌, ℕ, ◌+◌, ◌*◌, ◌<◌, ◌≤◌, if◌then◌else◌, Bool, true, false, List, [], ◌++◌, set}
+use Rattle.std.proofs.Common.{slice_index, Some, sym, ap, subst, refl, ◌∙◌, arith, append-nil}
 use Rattle.mako_words.specs.declared.entry_word.EntryWord.{EntryWord}
 use Rattle.mako_words.specs.Entries.{entry_word}
 use Rattle.mako_shape.specs.Places.{Place, top, entry, region_word, rank, index, Within, word_at}
@@ -12,7 +13,9 @@ use Rattle.mako_phases.specs.Facets.{mutating}
 use Rattle.mako_record.specs.Copying as copying
 use Rattle.mako_record.specs.Copying.{copied_to, before_field}
 use Rattle.mako_record.specs.declared.copier.CopyStage.{CopyStage}
-use Rattle.mako_record.specs.declared.copier.CopyStage.TheVariants.{LoadingTop as CopyTop, LoadingHeader as CopyHeader, StoringHeader, LoadingField as CopyField, StoringField as CopyStore, StoringEntry, RaisingTop}
+use Rattle.mako_record.specs.declared.copier.CopyStage.TheVariants.{LoadingTop as CopyTop, LoadingHeader as CopyHeader}
+use Rattle.mako_record.specs.declared.copier.CopyStage.TheVariants.{StoringHeader, LoadingField as CopyField}
+use Rattle.mako_record.specs.declared.copier.CopyStage.TheVariants.{StoringField as CopyStore, StoringEntry, RaisingTop}
 use Rattle.mako_step.specs.Acts.{words_after}
 use Rattle.mako_step.specs.declared.act.Op.TheVariants.{Store}
 use Rattle.mako_step.proofs.Cases.{by_lt}
@@ -40,7 +43,8 @@ use Rattle.mako_joint.proofs.Moving.{moves_entry}
 use Rattle.mako_joint.proofs.Epochs.{held_within}
 use Rattle.mako_mutating.specs.MutatorFacets.{access_kept, stage_admission}
 use Rattle.mako_mutating.specs.Mutators.{View, view_of, with_view, IsSeen, HasFields, CopyCounts}
-use Rattle.mako_mutating.proofs.Attempts.{Scene, At, Holds, after, heap, st, seat, before, plainly, left_same, keeps_after}
+use Rattle.mako_mutating.proofs.Attempts.{Scene, At, Holds, after, heap, st, seat, before, plainly, left_same}
+use Rattle.mako_mutating.proofs.Attempts.{keeps_after}
 use Rattle.mako_mutating.proofs.Gates.{roots_else}
 use Rattle.mako_mutating.proofs.Moves.{Recorded, recorded, size_of, IsEvac, away_is_evac, turn_admits}
 use Rattle.mako_mutating.proofs.Objects.{read, works_on, has_object}

@@ -1,5 +1,6 @@
 -- The steps of an attempt that leaves its own gate: the next call, or another attempt.
-use Rattle.std.proofs.Common.{◌≡◌, ℕ, Bool, true, false, List, [], ◌++◌, slice_get, Option, Some, None, ◌+◌, sym, subst, refl, ◌∙◌, append-nil}
+use Rattle.std.proofs.Common.{◌≡◌, ℕ, Bool, true, false, List, [], ◌++◌, slice_get, Option, Some, None, ◌+◌, sym, subst}
+use Rattle.std.proofs.Common.{refl, ◌∙◌, append-nil}
 use Rattle.std.specs.List.{Contains}
 use Rattle.mako_shape.specs.Places.{mutator_gate, word_at}
 use Rattle.mako_gate.specs.GateActions as gate
@@ -33,7 +34,8 @@ use Rattle.mako_state.specs.Says.{TaskSays}
 use Rattle.mako_state.specs.Standings.{task_standing}
 use Rattle.mako_state.specs.Works.{task_work}
 use Rattle.mako_state.proofs.Ends.{answer_asks, pause_asks}
-use Rattle.mako_mutating.specs.MutatorFacets.{task_trying, task_trace, task_held, task_admission, stage_trying, stage_trace, stage_admission}
+use Rattle.mako_mutating.specs.MutatorFacets.{task_trying, task_trace, task_held, task_admission, stage_trying}
+use Rattle.mako_mutating.specs.MutatorFacets.{stage_trace, stage_admission}
 use Rattle.mako_mutating.specs.Mutators.{TaskKeeps}
 use Rattle.mako_mutating.proofs.Attempts.{Scene, At, Holds, Result, k, fed_to, heap}
 use Rattle.mako_mutating.proofs.Views.{Turns, keeps_on, goes_out}

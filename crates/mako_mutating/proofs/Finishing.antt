@@ -1,5 +1,6 @@
 -- A mutator at the end of its program counts itself.
-use Rattle.std.proofs.Common.{◌≡◌, ℕ, drop, Bool, List, [], ◌++◌, length, set, slice_index, sym, ap, subst, refl, ◌∙◌, append-nil}
+use Rattle.std.proofs.Common.{◌≡◌, ℕ, drop, Bool, List, [], ◌++◌, length, set, slice_index, sym, ap, subst, refl, ◌∙◌}
+use Rattle.std.proofs.Common.{append-nil}
 use Rattle.mako_shape.specs.declared.numbers.Numbers.{Numbers}
 use Rattle.mako_shape.specs.Places.{finished, root, index, word_at}
 use Rattle.mako_shape.proofs.PlaceLaws.{word_same, word_other}
@@ -24,7 +25,8 @@ use Rattle.mako_joint.specs.Joints.{JointScene, layout_in, Joint}
 use Rattle.mako_mutating.specs.MutatorFacets.{left_of}
 use Rattle.mako_mutating.specs.Mutators.{view_of, IsSeen, MutatorKeeps, StepKeeps}
 use Rattle.mako_mutating.specs.Laws.{FinishesKeep}
-use Rattle.mako_mutating.proofs.Views.{Framed, framed_at, joined, names_onward, tracks_framed, order_same, laid, gate_back, work_back}
+use Rattle.mako_mutating.proofs.Views.{Framed, framed_at, joined, names_onward, tracks_framed, order_same, laid}
+use Rattle.mako_mutating.proofs.Views.{gate_back, work_back}
 
 module _ (n : Numbers) (w : Facts) (s : JointScene) (j : Joint n w s) (m done : ℕ) (within : Bool) (calls : List Call)
     (replies : List Reply) where

@@ -1,5 +1,6 @@
 -- The steps of an attempt at gates.
-use Rattle.std.proofs.Common.{◌≡◌, ◌≢◌, ℕ, inl, Bool, true, false, drop, List, length, set, slice_index, Some, None, ◌*◌, ◌<◌, sym, ap, subst, refl, ◌∙◌, arith, append-nil}
+use Rattle.std.proofs.Common.{◌≡◌, ◌≢◌, ℕ, inl, Bool, true, false, drop, List, length, set, slice_index, Some, None}
+use Rattle.std.proofs.Common.{◌*◌, ◌<◌, sym, ap, subst, refl, ◌∙◌, arith, append-nil}
 use Rattle.std.specs.List.{Contains}
 use Rattle.mako_words.specs.Gates.{is_shut}
 use Rattle.mako_words.specs.declared.name.Name.{Name}
@@ -45,11 +46,13 @@ use Rattle.mako_state.specs.Carried.{stage_carried, carried_of, WordStands}
 use Rattle.mako_state.specs.Says.{StageSays, TaskSays}
 use Rattle.mako_state.specs.Standings.{stage_standing, standing_of}
 use Rattle.mako_state.specs.Works.{stage_work, work_of}
-use Rattle.mako_mutating.specs.MutatorFacets.{access_kept, left_of, trying_of, trace_of, held_of, task_admission, stage_trying, stage_trace, stage_admission}
+use Rattle.mako_mutating.specs.MutatorFacets.{access_kept, left_of, trying_of, trace_of, held_of, task_admission}
+use Rattle.mako_mutating.specs.MutatorFacets.{stage_trying, stage_trace, stage_admission}
 use Rattle.mako_mutating.specs.Mutators.{view_of, StageKeeps, TaskKeeps, RootsStand}
 use Rattle.mako_mutating.proofs.Attempts.{Scene, At, Holds, Result, k, driver, after, fed_to, heap, st, seat, before}
 use Rattle.mako_mutating.proofs.Stages.{stage_gates, stage_good, IsLoaded}
-use Rattle.mako_mutating.proofs.Views.{Turns, keeps_on, comes_in, lets_go, framed_at, IsUnread, joined, names_onward, tracks_framed, order_turned, laid, work_back}
+use Rattle.mako_mutating.proofs.Views.{Turns, keeps_on, comes_in, lets_go, framed_at, IsUnread, joined, names_onward}
+use Rattle.mako_mutating.proofs.Views.{tracks_framed, order_turned, laid, work_back}
 
 module _ (x : Scene) (within : Bool) where
   -- what the driver is after a step that tells nothing, with nothing in hand

@@ -1,5 +1,6 @@
 -- The steps of a get at its object's record, and answers there.
-use Rattle.std.proofs.Common.{◌≡◌, ℕ, ◌+◌, ◌<◌, ◌≤◌, ⊎_elim, Bool, [], length, set, slice_get, slice_index, get_or, Option, Some, None, sym, ap, subst, refl, ◌∙◌, arith}
+use Rattle.std.proofs.Common.{◌≡◌, ℕ, ◌+◌, ◌<◌, ◌≤◌, ⊎_elim, Bool, [], length, set, slice_get, slice_index, get_or}
+use Rattle.std.proofs.Common.{Option, Some, None, sym, ap, subst, refl, ◌∙◌, arith}
 use Rattle.std.proofs.lemmas.Bool.{cases_eq}
 use Rattle.std.proofs.lemmas.Option.{same_Some, slice_get-get_or}
 use Rattle.mako_words.specs.declared.name.Name.{Name}
@@ -22,7 +23,8 @@ use Rattle.mako_call.specs.declared.object.Get.{Get as GetArgs}
 use Rattle.mako_call.specs.declared.object.Located.{Located}
 use Rattle.mako_call.specs.declared.call_stage.CallStage.{CallStage}
 use Rattle.mako_call.specs.declared.call_stage.CallStage.TheVariants.{Getting}
-use Rattle.mako_call.specs.declared.getting.GetStage.TheVariants.{LoadingHeader as GetHeader, LoadingField as GetField, StoringRoot as StoringGot}
+use Rattle.mako_call.specs.declared.getting.GetStage.TheVariants.{LoadingHeader as GetHeader, LoadingField as GetField}
+use Rattle.mako_call.specs.declared.getting.GetStage.TheVariants.{StoringRoot as StoringGot}
 use Rattle.mako_call.specs.Calls.{decided}
 use Rattle.mako_mutator.specs.Drivers as drivers
 use Rattle.mako_call.specs.Leaving.{answered_at}
@@ -39,12 +41,14 @@ use Rattle.mako_state.specs.Works.{stage_work, uses_at}
 use Rattle.mako_state.proofs.StageCalls.{gets_into}
 use Rattle.mako_mutating.specs.MutatorFacets.{stage_held, stage_trace, stage_trying, stage_admission}
 use Rattle.mako_mutating.specs.Mutators.{view_of, with_view, StageKeeps, RootsStand}
-use Rattle.mako_mutating.proofs.Attempts.{Scene, At, Holds, Result, after, replied_at, heap, before, plainly, loads, answers, layout_stored, layout_told}
+use Rattle.mako_mutating.proofs.Attempts.{Scene, At, Holds, Result, after, replied_at, heap, before, plainly, loads}
+use Rattle.mako_mutating.proofs.Attempts.{answers, layout_stored, layout_told}
 use Rattle.mako_mutating.proofs.Objects.{read, forgotten, Present, present}
 use Rattle.mako_mutating.proofs.Roots.{root_word, rooted, has_value, has_root, looked}
 use Rattle.mako_mutating.proofs.Stages.{IsLoaded}
 use Rattle.mako_joint.specs.Joints.{layout_in}
-use Rattle.mako_mutating.proofs.Views.{Turns, keeps_on, framed_same, framed_root, tracks_told, order_turned, laid, gate_back, work_back}
+use Rattle.mako_mutating.proofs.Views.{Turns, keeps_on, framed_same, framed_root, tracks_told, order_turned, laid}
+use Rattle.mako_mutating.proofs.Views.{gate_back, work_back}
 
 module _ (x : Scene) (within : Bool) where
   -- ---- an answer at a record that changes no more than a root, which is still to be stored, if any

@@ -13,17 +13,27 @@ use Rattle.mako_step.specs.declared.step.Step.TheVariants.{Do, Ended as NoStep}
 use Rattle.mako_record.specs.Copying as copying
 use Rattle.mako_record.specs.Copying.{copied_to}
 use Rattle.mako_record.specs.declared.copier.CopyStage.{CopyStage}
-use Rattle.mako_record.specs.declared.copier.CopyStage.TheVariants.{LoadingTop as CopyTop, LoadingHeader as CopyHeader, StoringHeader, LoadingField as CopyField, StoringField as CopyStore, StoringEntry, RaisingTop, Ended as CopyEnded}
+use Rattle.mako_record.specs.declared.copier.CopyStage.TheVariants.{LoadingTop as CopyTop, LoadingHeader as CopyHeader}
+use Rattle.mako_record.specs.declared.copier.CopyStage.TheVariants.{StoringHeader, LoadingField as CopyField}
+use Rattle.mako_record.specs.declared.copier.CopyStage.TheVariants.{StoringField as CopyStore, StoringEntry, RaisingTop}
+use Rattle.mako_record.specs.declared.copier.CopyStage.TheVariants.{Ended as CopyEnded}
 use Rattle.mako_model.specs.Heaps.{fields_of}
 use Rattle.mako_call.specs.declared.object.Errand.{Errand}
 use Rattle.mako_call.specs.declared.call_stage.CallStage.{CallStage}
-use Rattle.mako_call.specs.declared.call_stage.CallStage.TheVariants.{Arriving, Rooting, Entering, Moving, Getting, Putting, Allocating, Asking, Leaving, Ended}
-use Rattle.mako_call.specs.declared.rooting.RootStage.TheVariants.{StoringNumber, StoringNull, LoadingCopied, StoringCopied, LoadingShown, LoadingSource, LoadingTarget, LoadingValue, LoadingPhase}
-use Rattle.mako_call.specs.declared.entering.EnterStage.TheVariants.{Arriving as EnterArriving, LoadingEntry, LoadingHome}
+use Rattle.mako_call.specs.declared.call_stage.CallStage.TheVariants.{Arriving, Rooting, Entering, Moving, Getting}
+use Rattle.mako_call.specs.declared.call_stage.CallStage.TheVariants.{Putting, Allocating, Asking, Leaving, Ended}
+use Rattle.mako_call.specs.declared.rooting.RootStage.TheVariants.{StoringNumber, StoringNull, LoadingCopied}
+use Rattle.mako_call.specs.declared.rooting.RootStage.TheVariants.{StoringCopied, LoadingShown, LoadingSource}
+use Rattle.mako_call.specs.declared.rooting.RootStage.TheVariants.{LoadingTarget, LoadingValue, LoadingPhase}
+use Rattle.mako_call.specs.declared.entering.EnterStage.TheVariants.{Arriving as EnterArriving, LoadingEntry}
+use Rattle.mako_call.specs.declared.entering.EnterStage.TheVariants.{LoadingHome}
 use Rattle.mako_call.specs.declared.moving.MoveStage.{MoveStage}
-use Rattle.mako_call.specs.declared.moving.MoveStage.TheVariants.{TakingTurn, LoadingEntry as LoadingAgain, Copying as Copies, GivingTurn}
-use Rattle.mako_call.specs.declared.getting.GetStage.TheVariants.{LoadingHeader as GetHeader, LoadingField as GetField, StoringRoot as StoringGot}
-use Rattle.mako_call.specs.declared.putting.PutStage.TheVariants.{LoadingHeader as PutHeader, LoadingOld, LookingAtBarrier, StoringBarrier, StoringField}
+use Rattle.mako_call.specs.declared.moving.MoveStage.TheVariants.{TakingTurn, LoadingEntry as LoadingAgain}
+use Rattle.mako_call.specs.declared.moving.MoveStage.TheVariants.{Copying as Copies, GivingTurn}
+use Rattle.mako_call.specs.declared.getting.GetStage.TheVariants.{LoadingHeader as GetHeader, LoadingField as GetField}
+use Rattle.mako_call.specs.declared.getting.GetStage.TheVariants.{StoringRoot as StoringGot}
+use Rattle.mako_call.specs.declared.putting.PutStage.TheVariants.{LoadingHeader as PutHeader, LoadingOld}
+use Rattle.mako_call.specs.declared.putting.PutStage.TheVariants.{LookingAtBarrier, StoringBarrier, StoringField}
 use Rattle.mako_call.specs.declared.leaving.LeaveStage.TheVariants.{Refused, TurnedAway, FromTablet, FromOwn}
 use Rattle.mako_mutator.specs.Drivers as drivers
 use Rattle.mako_call.specs.Moving.{CopyGoesOn}
@@ -37,7 +47,8 @@ use Rattle.mako_joint.proofs.Epochs.{held_within}
 use Rattle.mako_joint.proofs.Heaps.{header_at}
 use Rattle.mako_mutating.specs.Laws.{IsOfACall}
 use Rattle.mako_mutating.specs.Mutators.{ObjectsAreSmall, found_by}
-use Rattle.mako_mutating.proofs.Asks.{Asks, at_address, at_place, arriving_asks, leaving_asks, rooting_asks, entering_asks, getting_asks, putting_asks}
+use Rattle.mako_mutating.proofs.Asks.{Asks, at_address, at_place, arriving_asks, leaving_asks, rooting_asks}
+use Rattle.mako_mutating.proofs.Asks.{entering_asks, getting_asks, putting_asks}
 use Rattle.mako_mutating.proofs.Attempts.{Scene, At, driver, heap, st, seat}
 use Rattle.mako_mutating.proofs.Copies.{copy, record_here, knows_fills}
 use Rattle.mako_mutating.proofs.Moves.{may_write}

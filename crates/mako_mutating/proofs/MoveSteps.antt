@@ -7,7 +7,10 @@ use Rattle.mako_shape.proofs.BelongingLaws.{belongings_in_range}
 use Rattle.mako_record.specs.Regions.{is_in_region}
 use Rattle.mako_record.specs.Copying.{Copying, opening_copy, copied_to}
 use Rattle.mako_record.specs.declared.copier.CopyStage.{CopyStage}
-use Rattle.mako_record.specs.declared.copier.CopyStage.TheVariants.{LoadingTop as CopyTop, LoadingHeader as CopyHeader, StoringHeader, LoadingField as CopyField, StoringField as CopyStore, StoringEntry, RaisingTop, Ended as CopyEnded}
+use Rattle.mako_record.specs.declared.copier.CopyStage.TheVariants.{LoadingTop as CopyTop, LoadingHeader as CopyHeader}
+use Rattle.mako_record.specs.declared.copier.CopyStage.TheVariants.{StoringHeader, LoadingField as CopyField}
+use Rattle.mako_record.specs.declared.copier.CopyStage.TheVariants.{StoringField as CopyStore, StoringEntry, RaisingTop}
+use Rattle.mako_record.specs.declared.copier.CopyStage.TheVariants.{Ended as CopyEnded}
 use Rattle.mako_step.specs.Acts.{words_after}
 use Rattle.mako_step.specs.declared.act.Op.TheVariants.{Store, Exchange}
 use Rattle.mako_step.proofs.Cases.{by_bool, by_eq, by_lt}
@@ -18,25 +21,30 @@ use Rattle.mako_call.specs.declared.object.Access.TheVariants.{Get as Gets, Put 
 use Rattle.mako_call.specs.declared.object.Errand.{Errand}
 use Rattle.mako_call.specs.declared.object.Located.{Located}
 use Rattle.mako_call.specs.declared.call_stage.CallStage.{CallStage}
-use Rattle.mako_call.specs.declared.call_stage.CallStage.TheVariants.{Arriving, Rooting, Entering, Moving, Getting, Putting, Allocating, Asking, Leaving, Ended}
+use Rattle.mako_call.specs.declared.call_stage.CallStage.TheVariants.{Arriving, Rooting, Entering, Moving, Getting}
+use Rattle.mako_call.specs.declared.call_stage.CallStage.TheVariants.{Putting, Allocating, Asking, Leaving, Ended}
 use Rattle.mako_call.specs.declared.moving.MoveStage.{MoveStage}
-use Rattle.mako_call.specs.declared.moving.MoveStage.TheVariants.{TakingTurn, LoadingEntry as LoadingAgain, Copying as Copies, GivingTurn}
+use Rattle.mako_call.specs.declared.moving.MoveStage.TheVariants.{TakingTurn, LoadingEntry as LoadingAgain}
+use Rattle.mako_call.specs.declared.moving.MoveStage.TheVariants.{Copying as Copies, GivingTurn}
 use Rattle.mako_mutator.specs.Drivers as drivers
 use Rattle.mako_mutator.specs.Drivers.{Driving}
 use Rattle.mako_call.specs.Leaving.{leaving_tablet}
 use Rattle.mako_call.specs.Moving.{giving_turn, copy_fed}
 use Rattle.mako_call.specs.Objects.{tablet_of, at_record}
 use Rattle.mako_step.specs.Machines.{CanStep}
-use Rattle.mako_mutating.specs.Laws.{ArrivalsKeep, RootsKeep, EntersKeep, MovesKeep, GetsKeep, PutsKeep, LeavesKeep, IsOfACall, AttemptsKeep, AttemptsCanGo}
+use Rattle.mako_mutating.specs.Laws.{ArrivalsKeep, RootsKeep, EntersKeep, MovesKeep, GetsKeep, PutsKeep, LeavesKeep}
+use Rattle.mako_mutating.specs.Laws.{IsOfACall, AttemptsKeep, AttemptsCanGo}
 use Rattle.mako_mutating.specs.Mutators.{StepKeeps}
 use Rattle.mako_mutating.proofs.MoveAsks.{stage_asks, stage_fits}
 use Rattle.mako_mutating.proofs.Scenes.{scene_of, at_scene, of_scene}
 use Rattle.mako_mutating.proofs.Attempts.{Scene, At, Holds, Result, after, fed_to}
-use Rattle.mako_mutating.proofs.Copies.{top_loaded, header_loaded, header_stored, field_copied, field_stored_there, entry_stored, top_raised}
+use Rattle.mako_mutating.proofs.Copies.{top_loaded, header_loaded, header_stored, field_copied, field_stored_there}
+use Rattle.mako_mutating.proofs.Copies.{entry_stored, top_raised}
 use Rattle.mako_mutating.proofs.Gates.{operated}
 use Rattle.mako_mutating.proofs.Moves.{turn_taken, turn_busy, turn_given, again_home, again_away}
 use Rattle.mako_mutating.proofs.Objects.{read}
-use Rattle.mako_mutating.proofs.Steps.{Kept, Fitting, known_then, goes_trying, arriving_kept, rooting_kept, entering_kept, getting_kept, putting_kept, leaving_kept}
+use Rattle.mako_mutating.proofs.Steps.{Kept, Fitting, known_then, goes_trying, arriving_kept, rooting_kept}
+use Rattle.mako_mutating.proofs.Steps.{entering_kept, getting_kept, putting_kept, leaving_kept}
 
 module _ (x : Scene) (within : Bool) (e : Errand) where
   -- ---- the copy, whose geometry and entry are those of the view

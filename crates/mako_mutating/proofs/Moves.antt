@@ -1,5 +1,6 @@
 -- The steps of an attempt that moves its object's record: the turn, and the entry under it.
-use Rattle.std.proofs.Common.{◌≡◌, ◌≢◌, ℕ, ◌+◌, ◌*◌, ◌<◌, ◌≤◌, ◌==◌, ⊎_elim, Bool, true, false, length, set, slice_index, Option, Some, None, sym, ap, subst, refl, ◌∙◌, arith, eq-eqb}
+use Rattle.std.proofs.Common.{◌≡◌, ◌≢◌, ℕ, ◌+◌, ◌*◌, ◌<◌, ◌≤◌, ◌==◌, ⊎_elim, Bool, true, false, length, set}
+use Rattle.std.proofs.Common.{slice_index, Option, Some, None, sym, ap, subst, refl, ◌∙◌, arith, eq-eqb}
 use Rattle.std.proofs.lemmas.Bool.{and_from, le-leb, lt-ltb, ne_eqb}
 use Rattle.std.proofs.lemmas.Option.{same_Some}
 use Rattle.mako_words.specs.declared.name.Name.{Name}
@@ -33,7 +34,8 @@ use Rattle.mako_call.specs.declared.object.Errand.{Errand}
 use Rattle.mako_call.specs.declared.object.Located.{Located}
 use Rattle.mako_call.specs.declared.call_stage.CallStage.{CallStage}
 use Rattle.mako_call.specs.declared.call_stage.CallStage.TheVariants.{Moving, Getting, Putting}
-use Rattle.mako_call.specs.declared.moving.MoveStage.TheVariants.{TakingTurn, LoadingEntry as LoadingAgain, Copying as Copies, GivingTurn}
+use Rattle.mako_call.specs.declared.moving.MoveStage.TheVariants.{TakingTurn, LoadingEntry as LoadingAgain}
+use Rattle.mako_call.specs.declared.moving.MoveStage.TheVariants.{Copying as Copies, GivingTurn}
 use Rattle.mako_call.specs.declared.getting.GetStage.TheVariants.{LoadingHeader as GetHeader}
 use Rattle.mako_call.specs.declared.putting.PutStage.TheVariants.{LoadingHeader as PutHeader}
 use Rattle.mako_mutator.specs.Drivers as drivers
@@ -50,7 +52,8 @@ use Rattle.mako_layout.specs.Steps.Step.{acts_in_use, finds_home, finds_away, fo
 use Rattle.mako_layout.proofs.EachStep.{each_step_keeps}
 use Rattle.mako_layout.proofs.Frames.{places_are_apart}
 use Rattle.mako_layout.proofs.Stays.{size_is}
-use Rattle.mako_phases.specs.Facets.{Part, idle as part_idle, pausing, rooting, tracing, choosing, evacuating, stopped, inside, mutating, collecting, phase_during}
+use Rattle.mako_phases.specs.Facets.{Part, idle as part_idle, pausing, rooting, tracing, choosing, evacuating, stopped}
+use Rattle.mako_phases.specs.Facets.{inside, mutating, collecting, phase_during}
 use Rattle.mako_phases.specs.Laws.{IsStaying}
 use Rattle.mako_phases.proofs.Says.{part_phase}
 use Rattle.mako_state.specs.Carried.{stage_carried}
@@ -60,7 +63,8 @@ use Rattle.mako_state.specs.Works.{stage_work}
 use Rattle.mako_joint.specs.Joints.{HasName, names_in}
 use Rattle.mako_joint.proofs.Epochs.{held_have_epoch, held_within}
 use Rattle.mako_joint.proofs.Pauses.{gates_drain, nothing_given}
-use Rattle.mako_mutating.specs.MutatorFacets.{access_held, access_kept, stage_held, stage_trace, stage_trying, stage_admission}
+use Rattle.mako_mutating.specs.MutatorFacets.{access_held, access_kept, stage_held, stage_trace, stage_trying}
+use Rattle.mako_mutating.specs.MutatorFacets.{stage_admission}
 use Rattle.mako_mutating.specs.Mutators.{view_of, StageKeeps, HasFields}
 use Rattle.mako_mutating.proofs.Attempts.{Scene, At, Holds, Result, after, heap, st, seat, before, plainly}
 use Rattle.mako_mutating.proofs.Gates.{operated, makes, IsGate, a_turn, roots_else}

@@ -1,5 +1,6 @@
 -- A mutator at the opening.
-use Rattle.std.proofs.Common.{◌≡◌, ℕ, zero, suc, ◌-◌, ◌==◌, cond, false, List, [], length, get_or, replicate, slice_get, Option, Some, None, sym, ap, subst, refl, ◌∙◌, arith, ne_eqb}
+use Rattle.std.proofs.Common.{◌≡◌, ℕ, zero, suc, ◌-◌, ◌==◌, cond, false, List, [], length, get_or, replicate, slice_get}
+use Rattle.std.proofs.Common.{Option, Some, None, sym, ap, subst, refl, ◌∙◌, arith, ne_eqb}
 use Rattle.std.proofs.lemmas.Option.{same_Some, none-some}
 use Rattle.mako_words.specs.Names.{name_word}
 use Rattle.mako_words.specs.Values.{value_word}

@@ -1,9 +1,11 @@
 -- What the steps of a mutator leave to the others: its acts are of words of its own, or of words that no mutator owns.
-use Rattle.std.proofs.Common.{◌≡◌, ◌≢◌, ℕ, ◌+◌, ◌*◌, ◌<◌, inl, Bool, List, [], set, slice_index, Option, Some, None, sym, subst, refl, arith}
+use Rattle.std.proofs.Common.{◌≡◌, ◌≢◌, ℕ, ◌+◌, ◌*◌, ◌<◌, inl, Bool, List, [], set, slice_index, Option, Some, None}
+use Rattle.std.proofs.Common.{sym, subst, refl, arith}
 use Rattle.mako_words.specs.declared.entry_word.EntryWord.{EntryWord}
 use Rattle.mako_words.specs.Values.{value_word}
 use Rattle.mako_shape.specs.declared.numbers.Numbers.{Numbers}
-use Rattle.mako_shape.specs.Places.{Place, mutator_gate, tablet_gate, turn, root, barrier, top, entry, region_word, index, Within}
+use Rattle.mako_shape.specs.Places.{Place, mutator_gate, tablet_gate, turn, root, barrier, top, entry, region_word}
+use Rattle.mako_shape.specs.Places.{index, Within}
 use Rattle.mako_shape.specs.Belongings.{region_of_address, word_of_address, tablet_of_entry}
 use Rattle.mako_shape.proofs.BelongingLaws.{belongings_in_range, word_after}
 use Rattle.mako_shape.proofs.PlaceLaws.{word_other}
@@ -13,7 +15,10 @@ use Rattle.mako_step.specs.declared.act.Op.TheVariants.{Load, Store, Add, Sub}
 use Rattle.mako_step.specs.declared.step.Step.{Step}
 use Rattle.mako_record.specs.Copying.{copied_to}
 use Rattle.mako_record.specs.declared.copier.CopyStage.{CopyStage}
-use Rattle.mako_record.specs.declared.copier.CopyStage.TheVariants.{LoadingTop as CopyTop, LoadingHeader as CopyHeader, StoringHeader, LoadingField as CopyField, StoringField as CopyStore, StoringEntry, RaisingTop, Ended as CopyEnded}
+use Rattle.mako_record.specs.declared.copier.CopyStage.TheVariants.{LoadingTop as CopyTop, LoadingHeader as CopyHeader}
+use Rattle.mako_record.specs.declared.copier.CopyStage.TheVariants.{StoringHeader, LoadingField as CopyField}
+use Rattle.mako_record.specs.declared.copier.CopyStage.TheVariants.{StoringField as CopyStore, StoringEntry, RaisingTop}
+use Rattle.mako_record.specs.declared.copier.CopyStage.TheVariants.{Ended as CopyEnded}
 use Rattle.mako_model.specs.declared.call.Call.{Call}
 use Rattle.mako_model.specs.declared.reply.Reply.{Reply}
 use Rattle.mako_model.specs.declared.point.Point.TheVariants.{Did}
@@ -22,12 +27,19 @@ use Rattle.mako_model.specs.Legal.{Facts, IsLegal}
 use Rattle.mako_model.proofs.Histories.{legal_at}
 use Rattle.mako_call.specs.declared.object.Errand.{Errand}
 use Rattle.mako_call.specs.declared.call_stage.CallStage.{CallStage}
-use Rattle.mako_call.specs.declared.call_stage.CallStage.TheVariants.{Arriving, Rooting, Entering, Moving, Getting, Putting, Allocating, Asking, Leaving, Ended}
-use Rattle.mako_call.specs.declared.rooting.RootStage.TheVariants.{StoringNumber, StoringNull, LoadingCopied, StoringCopied, LoadingShown, LoadingSource, LoadingTarget, LoadingValue, LoadingPhase}
-use Rattle.mako_call.specs.declared.entering.EnterStage.TheVariants.{Arriving as EnterArriving, LoadingEntry, LoadingHome}
-use Rattle.mako_call.specs.declared.moving.MoveStage.TheVariants.{TakingTurn, LoadingEntry as LoadingAgain, Copying as Copies, GivingTurn}
-use Rattle.mako_call.specs.declared.getting.GetStage.TheVariants.{LoadingHeader as GetHeader, LoadingField as GetField, StoringRoot as StoringGot}
-use Rattle.mako_call.specs.declared.putting.PutStage.TheVariants.{LoadingHeader as PutHeader, LoadingOld, LookingAtBarrier, StoringBarrier, StoringField}
+use Rattle.mako_call.specs.declared.call_stage.CallStage.TheVariants.{Arriving, Rooting, Entering, Moving, Getting}
+use Rattle.mako_call.specs.declared.call_stage.CallStage.TheVariants.{Putting, Allocating, Asking, Leaving, Ended}
+use Rattle.mako_call.specs.declared.rooting.RootStage.TheVariants.{StoringNumber, StoringNull, LoadingCopied}
+use Rattle.mako_call.specs.declared.rooting.RootStage.TheVariants.{StoringCopied, LoadingShown, LoadingSource}
+use Rattle.mako_call.specs.declared.rooting.RootStage.TheVariants.{LoadingTarget, LoadingValue, LoadingPhase}
+use Rattle.mako_call.specs.declared.entering.EnterStage.TheVariants.{Arriving as EnterArriving, LoadingEntry}
+use Rattle.mako_call.specs.declared.entering.EnterStage.TheVariants.{LoadingHome}
+use Rattle.mako_call.specs.declared.moving.MoveStage.TheVariants.{TakingTurn, LoadingEntry as LoadingAgain}
+use Rattle.mako_call.specs.declared.moving.MoveStage.TheVariants.{Copying as Copies, GivingTurn}
+use Rattle.mako_call.specs.declared.getting.GetStage.TheVariants.{LoadingHeader as GetHeader, LoadingField as GetField}
+use Rattle.mako_call.specs.declared.getting.GetStage.TheVariants.{StoringRoot as StoringGot}
+use Rattle.mako_call.specs.declared.putting.PutStage.TheVariants.{LoadingHeader as PutHeader, LoadingOld}
+use Rattle.mako_call.specs.declared.putting.PutStage.TheVariants.{LookingAtBarrier, StoringBarrier, StoringField}
 use Rattle.mako_call.specs.declared.leaving.LeaveStage.TheVariants.{Refused, TurnedAway, FromTablet, FromOwn}
 use Rattle.mako_call.specs.Calls.{event_by, decided}
 use Rattle.mako_call.specs.Calls as calling

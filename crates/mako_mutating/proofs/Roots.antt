@@ -26,7 +26,9 @@ use Rattle.mako_model.proofs.RootRows.{has_roots}
 use Rattle.mako_call.specs.declared.object.Access.TheVariants.{Get as Gets, Put as Puts}
 use Rattle.mako_call.specs.declared.call_stage.CallStage.{CallStage}
 use Rattle.mako_call.specs.declared.call_stage.CallStage.TheVariants.{Rooting}
-use Rattle.mako_call.specs.declared.rooting.RootStage.TheVariants.{StoringNumber, StoringNull, LoadingCopied, StoringCopied, LoadingShown, LoadingSource, LoadingTarget, LoadingValue, LoadingPhase}
+use Rattle.mako_call.specs.declared.rooting.RootStage.TheVariants.{StoringNumber, StoringNull, LoadingCopied}
+use Rattle.mako_call.specs.declared.rooting.RootStage.TheVariants.{StoringCopied, LoadingShown, LoadingSource}
+use Rattle.mako_call.specs.declared.rooting.RootStage.TheVariants.{LoadingTarget, LoadingValue, LoadingPhase}
 use Rattle.mako_call.specs.Calls.{decided}
 use Rattle.mako_mutator.specs.Drivers as drivers
 use Rattle.mako_call.specs.Leaving.{answered as answering}
@@ -44,9 +46,11 @@ use Rattle.mako_state.proofs.StageCalls.{numbers, drops, shows, copies_into, cop
 use Rattle.mako_joint.proofs.Heaps.{values_fit}
 use Rattle.mako_mutating.specs.MutatorFacets.{stage_trying, stage_trace, stage_held, stage_admission}
 use Rattle.mako_mutating.specs.Mutators.{view_of, StageKeeps, RootsStand}
-use Rattle.mako_mutating.proofs.Attempts.{Scene, At, Holds, Result, after, replied_at, heap, st, before, plainly, loads, answers, layout_stored, layout_told}
+use Rattle.mako_mutating.proofs.Attempts.{Scene, At, Holds, Result, after, replied_at, heap, st, before, plainly, loads}
+use Rattle.mako_mutating.proofs.Attempts.{answers, layout_stored, layout_told}
 use Rattle.mako_mutating.proofs.Stages.{IsLoaded}
-use Rattle.mako_mutating.proofs.Views.{Turns, keeps_on, Framed, framed_same, framed_root, tracks_told, order_turned, order_keeps, laid, gate_back, work_back}
+use Rattle.mako_mutating.proofs.Views.{Turns, keeps_on, Framed, framed_same, framed_root, tracks_told, order_turned}
+use Rattle.mako_mutating.proofs.Views.{order_keeps, laid, gate_back, work_back}
 
 module _ (x : Scene) where
   -- a root of the mutator

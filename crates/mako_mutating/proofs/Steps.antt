@@ -24,16 +24,22 @@ use Rattle.mako_call.specs.declared.object.Put.{Put as PutArgs}
 use Rattle.mako_call.specs.declared.object.Located.{Located}
 use Rattle.mako_call.specs.declared.object.Errand.{Errand}
 use Rattle.mako_call.specs.declared.call_stage.CallStage.{CallStage}
-use Rattle.mako_call.specs.declared.call_stage.CallStage.TheVariants.{Arriving, Rooting, Entering, Moving, Getting, Putting, Leaving, Ended}
+use Rattle.mako_call.specs.declared.call_stage.CallStage.TheVariants.{Arriving, Rooting, Entering, Moving, Getting}
+use Rattle.mako_call.specs.declared.call_stage.CallStage.TheVariants.{Putting, Leaving, Ended}
 use Rattle.mako_call.specs.declared.rooting.RootStage.{RootStage}
-use Rattle.mako_call.specs.declared.rooting.RootStage.TheVariants.{StoringNumber, StoringNull, LoadingCopied, StoringCopied, LoadingShown, LoadingSource, LoadingTarget, LoadingValue, LoadingPhase}
+use Rattle.mako_call.specs.declared.rooting.RootStage.TheVariants.{StoringNumber, StoringNull, LoadingCopied}
+use Rattle.mako_call.specs.declared.rooting.RootStage.TheVariants.{StoringCopied, LoadingShown, LoadingSource}
+use Rattle.mako_call.specs.declared.rooting.RootStage.TheVariants.{LoadingTarget, LoadingValue, LoadingPhase}
 use Rattle.mako_call.specs.declared.entering.EnterStage.{EnterStage}
-use Rattle.mako_call.specs.declared.entering.EnterStage.TheVariants.{Arriving as EnterArriving, LoadingEntry, LoadingHome}
+use Rattle.mako_call.specs.declared.entering.EnterStage.TheVariants.{Arriving as EnterArriving, LoadingEntry}
+use Rattle.mako_call.specs.declared.entering.EnterStage.TheVariants.{LoadingHome}
 use Rattle.mako_call.specs.declared.moving.MoveStage.TheVariants.{TakingTurn}
 use Rattle.mako_call.specs.declared.getting.GetStage.{GetStage}
-use Rattle.mako_call.specs.declared.getting.GetStage.TheVariants.{LoadingHeader as GetHeader, LoadingField as GetField, StoringRoot as StoringGot}
+use Rattle.mako_call.specs.declared.getting.GetStage.TheVariants.{LoadingHeader as GetHeader, LoadingField as GetField}
+use Rattle.mako_call.specs.declared.getting.GetStage.TheVariants.{StoringRoot as StoringGot}
 use Rattle.mako_call.specs.declared.putting.PutStage.{PutStage}
-use Rattle.mako_call.specs.declared.putting.PutStage.TheVariants.{LoadingHeader as PutHeader, LoadingOld, LookingAtBarrier, StoringBarrier, StoringField}
+use Rattle.mako_call.specs.declared.putting.PutStage.TheVariants.{LoadingHeader as PutHeader, LoadingOld}
+use Rattle.mako_call.specs.declared.putting.PutStage.TheVariants.{LookingAtBarrier, StoringBarrier, StoringField}
 use Rattle.mako_call.specs.declared.leaving.LeaveStage.{LeaveStage}
 use Rattle.mako_call.specs.declared.leaving.LeaveStage.TheVariants.{Refused, TurnedAway, FromTablet, FromOwn}
 use Rattle.mako_call.specs.Agreeing.{AccessOf}
@@ -50,8 +56,11 @@ use Rattle.mako_mutating.specs.MutatorFacets.{last_at}
 use Rattle.mako_mutating.specs.Mutators.{StepKeeps, found_by}
 use Rattle.mako_mutating.specs.Laws.{LeavesPlainly}
 use Rattle.mako_mutating.proofs.Attempts.{Scene, At, Holds, Result, driver, after, fed_to}
-use Rattle.mako_mutating.proofs.Gates.{operated, own_refused, own_arrived, tablet_arrived, tablet_turned_away, turned_back, tablet_left}
-use Rattle.mako_mutating.proofs.Roots.{loaded, root_word, copied_loaded, source_loaded, target_loaded, put_value_loaded, put_phase_loaded, number_stored, null_stored, copied_stored, shown_loaded, source_no_ref, target_no_ref}
+use Rattle.mako_mutating.proofs.Gates.{operated, own_refused, own_arrived, tablet_arrived, tablet_turned_away}
+use Rattle.mako_mutating.proofs.Gates.{turned_back, tablet_left}
+use Rattle.mako_mutating.proofs.Roots.{loaded, root_word, copied_loaded, source_loaded, target_loaded, put_value_loaded}
+use Rattle.mako_mutating.proofs.Roots.{put_phase_loaded, number_stored, null_stored, copied_stored, shown_loaded}
+use Rattle.mako_mutating.proofs.Roots.{source_no_ref, target_no_ref}
 use Rattle.mako_mutating.proofs.Objects.{read, entry_loaded, home_loaded, away_found}
 use Rattle.mako_mutating.proofs.Gets.{get_header_loaded, get_no_field, field_loaded, got_stored}
 use Rattle.mako_mutating.proofs.Puts.{put_header_loaded, put_no_field}

@@ -1,5 +1,6 @@
 -- A mutator's view changes: what each group owes then.
-use Rattle.std.proofs.Common.{◌≡◌, ◌≢◌, ℕ, ◌+◌, ◌<◌, inl, inr, ⊎_elim, List, [], ◌∷◌, ◌++◌, set, slice_get, Option, Some, None, zero, suc, sym, ap, subst, refl, ◌∙◌, arith}
+use Rattle.std.proofs.Common.{◌≡◌, ◌≢◌, ℕ, ◌+◌, ◌<◌, inl, inr, ⊎_elim, List, [], ◌∷◌, ◌++◌, set, slice_get, Option}
+use Rattle.std.proofs.Common.{Some, None, zero, suc, sym, ap, subst, refl, ◌∙◌, arith}
 use Rattle.std.proofs.lemmas.List.{set-get_or}
 use Rattle.std.specs.List.{Contains}
 use Rattle.mako_words.specs.declared.name.Name.{Name}
@@ -43,7 +44,8 @@ use Rattle.mako_phases.specs.Steps.{PhaseScene, PhaseOrderIn, IsPhaseWord}
 use Rattle.mako_phases.specs.Steps as phases
 use Rattle.mako_phases.proofs.AllPhases.{phase_kept}
 use Rattle.mako_state.proofs.Seating.{set_again}
-use Rattle.mako_joint.specs.Joints.{JointScene, names_in, trace_in, layout_in, polls_in, phases_in, TracksFit, ReadsAreHeld, GatesMatch, ChoiceMatches, Joint}
+use Rattle.mako_joint.specs.Joints.{JointScene, names_in, trace_in, layout_in, polls_in, phases_in, TracksFit}
+use Rattle.mako_joint.specs.Joints.{ReadsAreHeld, GatesMatch, ChoiceMatches, Joint}
 use Rattle.mako_joint.proofs.EachKind.{polls_stay}
 use Rattle.mako_joint.proofs.Heaps.{heaps_stand}
 use Rattle.mako_joint.proofs.Pauses.{gates_drain}

@@ -10,7 +10,8 @@ use Rattle.mako_call.specs.declared.object.Get.{Get as GetArgs}
 use Rattle.mako_call.specs.declared.object.Put.{Put as PutArgs}
 use Rattle.mako_call.specs.declared.object.Located.{Located}
 use Rattle.mako_call.specs.declared.call_stage.CallStage.{CallStage}
-use Rattle.mako_call.specs.declared.call_stage.CallStage.TheVariants.{Arriving, Rooting, Entering, Moving, Getting, Putting, Allocating, Asking, Leaving, Ended}
+use Rattle.mako_call.specs.declared.call_stage.CallStage.TheVariants.{Arriving, Rooting, Entering, Moving, Getting}
+use Rattle.mako_call.specs.declared.call_stage.CallStage.TheVariants.{Putting, Allocating, Asking, Leaving, Ended}
 use Rattle.mako_call.specs.declared.rooting.RootStage.{RootStage}
 use Rattle.mako_call.specs.declared.entering.EnterStage.{EnterStage}
 use Rattle.mako_call.specs.declared.moving.MoveStage.{MoveStage}

@@ -12,22 +12,35 @@ use Rattle.mako_model.specs.declared.attempt.Pause.{Pause}
 use Rattle.mako_model.specs.declared.call.Call.{Call}
 use Rattle.mako_model.specs.declared.call.Call.TheVariants as call
 use Rattle.mako_alloc.specs.declared.progress.NewStage.{NewStage}
-use Rattle.mako_alloc.specs.declared.progress.NewStage.TheVariants.{Arriving as NewArriving, TurnedAway as NewTurnedAway, TakingTurn as NewTakingTurn, LoadingLeaving, LoadingTop, LoadingEntry as NewEntry, LoadingHome as NewHome, Making, GivingTurn as PassingTurn, Leaving as NewLeaving, Ended as NewEnded}
+use Rattle.mako_alloc.specs.declared.progress.NewStage.TheVariants.{Arriving as NewArriving}
+use Rattle.mako_alloc.specs.declared.progress.NewStage.TheVariants.{TurnedAway as NewTurnedAway}
+use Rattle.mako_alloc.specs.declared.progress.NewStage.TheVariants.{TakingTurn as NewTakingTurn, LoadingLeaving}
+use Rattle.mako_alloc.specs.declared.progress.NewStage.TheVariants.{LoadingTop, LoadingEntry as NewEntry}
+use Rattle.mako_alloc.specs.declared.progress.NewStage.TheVariants.{LoadingHome as NewHome, Making}
+use Rattle.mako_alloc.specs.declared.progress.NewStage.TheVariants.{GivingTurn as PassingTurn, Leaving as NewLeaving}
+use Rattle.mako_alloc.specs.declared.progress.NewStage.TheVariants.{Ended as NewEnded}
 use Rattle.mako_call.specs.declared.object.Access.{Access}
 use Rattle.mako_call.specs.declared.object.Access.TheVariants.{Get as Gets, Put as Puts}
 use Rattle.mako_call.specs.declared.object.Put.{Put as PutArgs}
 use Rattle.mako_call.specs.declared.call_stage.CallStage.{CallStage}
-use Rattle.mako_call.specs.declared.call_stage.CallStage.TheVariants.{Arriving, Rooting, Entering, Moving, Getting, Putting, Allocating, Asking, Leaving, Ended}
+use Rattle.mako_call.specs.declared.call_stage.CallStage.TheVariants.{Arriving, Rooting, Entering, Moving, Getting}
+use Rattle.mako_call.specs.declared.call_stage.CallStage.TheVariants.{Putting, Allocating, Asking, Leaving, Ended}
 use Rattle.mako_call.specs.declared.rooting.RootStage.{RootStage}
-use Rattle.mako_call.specs.declared.rooting.RootStage.TheVariants.{StoringNumber, StoringNull, LoadingCopied, StoringCopied, LoadingShown, LoadingSource, LoadingTarget, LoadingValue, LoadingPhase}
+use Rattle.mako_call.specs.declared.rooting.RootStage.TheVariants.{StoringNumber, StoringNull, LoadingCopied}
+use Rattle.mako_call.specs.declared.rooting.RootStage.TheVariants.{StoringCopied, LoadingShown, LoadingSource}
+use Rattle.mako_call.specs.declared.rooting.RootStage.TheVariants.{LoadingTarget, LoadingValue, LoadingPhase}
 use Rattle.mako_call.specs.declared.getting.GetStage.{GetStage}
-use Rattle.mako_call.specs.declared.getting.GetStage.TheVariants.{LoadingHeader as GetHeader, LoadingField as GetField, StoringRoot as StoringGot}
+use Rattle.mako_call.specs.declared.getting.GetStage.TheVariants.{LoadingHeader as GetHeader, LoadingField as GetField}
+use Rattle.mako_call.specs.declared.getting.GetStage.TheVariants.{StoringRoot as StoringGot}
 use Rattle.mako_call.specs.declared.putting.PutStage.{PutStage}
-use Rattle.mako_call.specs.declared.putting.PutStage.TheVariants.{LoadingHeader as PutHeader, LoadingOld, LookingAtBarrier, StoringBarrier, StoringField}
+use Rattle.mako_call.specs.declared.putting.PutStage.TheVariants.{LoadingHeader as PutHeader, LoadingOld}
+use Rattle.mako_call.specs.declared.putting.PutStage.TheVariants.{LookingAtBarrier, StoringBarrier, StoringField}
 use Rattle.mako_call.specs.declared.allocating.AllocStage.{AllocStage}
-use Rattle.mako_call.specs.declared.allocating.AllocStage.TheVariants.{LoadingPhase as NewPhase, Searching, StoringRoot, GivingTurn as GivingNewTurn}
+use Rattle.mako_call.specs.declared.allocating.AllocStage.TheVariants.{LoadingPhase as NewPhase, Searching, StoringRoot}
+use Rattle.mako_call.specs.declared.allocating.AllocStage.TheVariants.{GivingTurn as GivingNewTurn}
 use Rattle.mako_call.specs.declared.asking.AskStage.{AskStage}
-use Rattle.mako_call.specs.declared.asking.AskStage.TheVariants.{LoadingPhase as AskPhase, RaisingDemand, Awaiting as AskAwaiting}
+use Rattle.mako_call.specs.declared.asking.AskStage.TheVariants.{LoadingPhase as AskPhase, RaisingDemand}
+use Rattle.mako_call.specs.declared.asking.AskStage.TheVariants.{Awaiting as AskAwaiting}
 use Rattle.mako_call.specs.declared.leaving.LeaveStage.{LeaveStage}
 use Rattle.mako_call.specs.declared.leaving.LeaveStage.TheVariants.{Refused, TurnedAway, FromTablet, FromOwn}
 use Rattle.mako_mutator.specs.declared.progress.Task.{Task}

@@ -8,7 +8,9 @@ use Rattle.mako_shape.specs.Places.{root, barrier, word_at}
 use Rattle.mako_gate.specs.Standings.{Standing, mutator_at}
 use Rattle.mako_step.specs.Acts.{finds, words_stepped}
 use Rattle.mako_record.specs.declared.copier.CopyStage.{CopyStage}
-use Rattle.mako_record.specs.declared.copier.CopyStage.TheVariants.{LoadingTop, LoadingHeader, StoringHeader, LoadingField, StoringField, StoringEntry, RaisingTop, Ended as CopyEnded}
+use Rattle.mako_record.specs.declared.copier.CopyStage.TheVariants.{LoadingTop, LoadingHeader, StoringHeader}
+use Rattle.mako_record.specs.declared.copier.CopyStage.TheVariants.{LoadingField, StoringField, StoringEntry}
+use Rattle.mako_record.specs.declared.copier.CopyStage.TheVariants.{RaisingTop, Ended as CopyEnded}
 use Rattle.mako_model.specs.declared.call.Call.{Call}
 use Rattle.mako_model.specs.Fronts.{Seen, replies_to}
 use Rattle.mako_model.specs.Heaps.{Heap, root_of, fields_of}
@@ -16,11 +18,15 @@ use Rattle.mako_model.specs.Legal.{Facts, state_of}
 use Rattle.mako_call.specs.declared.object.Errand.{Errand}
 use Rattle.mako_call.specs.declared.object.Put.{Put as PutArgs}
 use Rattle.mako_call.specs.declared.call_stage.CallStage.{CallStage}
-use Rattle.mako_call.specs.declared.call_stage.CallStage.TheVariants.{Arriving, Rooting, Entering, Moving, Getting, Putting, Allocating, Asking, Leaving, Ended}
+use Rattle.mako_call.specs.declared.call_stage.CallStage.TheVariants.{Arriving, Rooting, Entering, Moving, Getting}
+use Rattle.mako_call.specs.declared.call_stage.CallStage.TheVariants.{Putting, Allocating, Asking, Leaving, Ended}
 use Rattle.mako_call.specs.declared.moving.MoveStage.{MoveStage}
-use Rattle.mako_call.specs.declared.moving.MoveStage.TheVariants.{TakingTurn, LoadingEntry as LoadingAgain, Copying as Copies, GivingTurn}
+use Rattle.mako_call.specs.declared.moving.MoveStage.TheVariants.{TakingTurn, LoadingEntry as LoadingAgain}
+use Rattle.mako_call.specs.declared.moving.MoveStage.TheVariants.{Copying as Copies, GivingTurn}
 use Rattle.mako_call.specs.declared.putting.PutStage.{PutStage}
-use Rattle.mako_call.specs.declared.putting.PutStage.TheVariants.{LoadingHeader as PutHeader, LoadingOld, LookingAtBarrier, StoringBarrier, StoringField as StoringPut}
+use Rattle.mako_call.specs.declared.putting.PutStage.TheVariants.{LoadingHeader as PutHeader, LoadingOld}
+use Rattle.mako_call.specs.declared.putting.PutStage.TheVariants.{LookingAtBarrier, StoringBarrier}
+use Rattle.mako_call.specs.declared.putting.PutStage.TheVariants.{StoringField as StoringPut}
 use Rattle.mako_mutator.specs.declared.progress.Task.{Task}
 use Rattle.mako_mutator.specs.declared.progress.Task.TheVariants.{Attempting, Awaiting, Finishing, Ended as TaskEnded}
 use Rattle.mako_call.specs.Calls.{Calling}

@@ -2,7 +2,8 @@
 //! proofs.
 
 ghost use Rattle.mako_mutating.specs.Beside.{ObjectsStaySmall, OpeningsKeep, OthersLeave, StepsLeaveOthers};
-ghost use Rattle.mako_mutating.specs.Laws.{ArrivalsKeep, AttemptsCanGo, AttemptsKeep, EntersKeep, FinishesKeep, GetsKeep, LeavesKeep, MovesKeep, PutsKeep, RootsKeep};
+ghost use Rattle.mako_mutating.specs.Laws.{ArrivalsKeep, AttemptsCanGo, AttemptsKeep, EntersKeep, FinishesKeep};
+ghost use Rattle.mako_mutating.specs.Laws.{GetsKeep, LeavesKeep, MovesKeep, PutsKeep, RootsKeep};
 
 /// In every phase, the step of a mutator's attempt keeps all groups, and what the mutator keeps of itself; and its act
 /// finds what it can go on with. The facets of its seat are those of the machine, before and after. Left out are the

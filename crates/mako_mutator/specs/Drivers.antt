@@ -1,5 +1,6 @@
 -- A mutator's whole program, as a machine.
-use Rattle.std.specs.Prelude.{◌≡◌, ℕ, Bool, true, false, ◌+◌, ◌<◌, ◌≤◌, ◌++◌, List, [], ◌∷◌, Option, Some, None, is_some, length, slice_get}
+use Rattle.std.specs.Prelude.{◌≡◌, ℕ, Bool, true, false, ◌+◌, ◌<◌, ◌≤◌, ◌++◌, List, [], ◌∷◌, Option, Some, None}
+use Rattle.std.specs.Prelude.{is_some, length, slice_get}
 use Rattle.mako_shape.specs.declared.numbers.Numbers.{Numbers}
 use Rattle.mako_shape.specs.Places.{index, finished}
 use Rattle.mako_step.specs.Acts.{does}
@@ -44,7 +45,8 @@ awaiting k keep = Awaiting (calling.opening k Collect false keep.asked keep.barr
 
 -- before the first call, with nothing asked and no name in the barrier ring
 abbrev pub begun : Caller → List Call → Progress
-begun k calls = record { done = 0; within = false; task = task_for k (slice_get calls 0) false (record { asked = None; barrier_at = 0 }) }
+begun k calls = record { done = 0; within = false;
+    task = task_for k (slice_get calls 0) false (record { asked = None; barrier_at = 0 }) }
 
 abbrev pub opening : Caller → List Call → Driving
 opening k calls = record { caller = k; calls = calls; replies = []; progress = begun k calls }
@@ -64,15 +66,18 @@ within p task = record { done = p.done; within = true; task = task }
 
 -- before the call behind the next one
 abbrev pub moved_on : Caller → List Call → Progress → Keep → Progress
-moved_on k calls p keep = record { done = p.done + 1; within = false; task = task_for k (slice_get calls (p.done + 1)) false keep }
+moved_on k calls p keep = record { done = p.done + 1; within = false;
+    task = task_for k (slice_get calls (p.done + 1)) false keep }
 
--- after an answer it goes on to the next call; after a finding of no room it waits for a cycle; after a pause it attempts again
+-- after an answer it goes on to the next call; after a finding of no room it waits for a cycle; after a pause it
+-- attempts again
 abbrev pub attempted : Caller → List Call → Progress → Calling → Attempt → Progress
 attempted k calls p m (Answer reply) = moved_on k calls p (kept m (Answer reply))
 attempted k calls p m Full = within p (awaiting k (kept m Full))
 attempted k calls p m (Paused pause) = within p (task_for k (Some m.call) m.last (kept m (Paused pause)))
 
--- once the cycle has finished, or none is left, it makes the last attempt of the call that found no room; else it looks again
+-- once the cycle has finished, or none is left, it makes the last attempt of the call that found no room; else it looks
+-- again
 abbrev pub awaited : Caller → List Call → Progress → Calling → Attempt → Progress
 awaited k calls p m (Answer reply) = within p (task_for k (slice_get calls p.done) true (kept m (Answer reply)))
 awaited k calls p m Full = within p (awaiting k (kept m Full))
@@ -124,7 +129,8 @@ told_reply (Snapped cycle) = []
 told_reply (Finished cycle) = []
 
 abbrev pub fed : Driving → ℕ → Driving
-fed d w = record { caller = d.caller; calls = d.calls; replies = d.replies ++ told_reply (event_of d w); progress = progress_fed d.caller d.calls d.progress w }
+fed d w = record { caller = d.caller; calls = d.calls; replies = d.replies ++ told_reply (event_of d w);
+    progress = progress_fed d.caller d.calls d.progress w }
 
 abbrev pub TaskFits : Task → ℕ → Type 0
 TaskFits (Attempting m) w = calling.Fits m w

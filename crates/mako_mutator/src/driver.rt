@@ -1,6 +1,7 @@
 //! A mutator's whole program, as a machine.
 
-ghost use Rattle.std.specs.Prelude.{◌≡◌, ◌<◌, ◌≤◌, ◌+◌, ◌++◌, ℕ, false, IfOk, length, slice_get, Some, vec_len, vec_capacity, ◌↔◌, IsTrue};
+ghost use Rattle.std.specs.Prelude.{◌≡◌, ◌<◌, ◌≤◌, ◌+◌, ◌++◌, ℕ, false, IfOk, length, slice_get, Some, vec_len};
+ghost use Rattle.std.specs.Prelude.{vec_capacity, ◌↔◌, IsTrue};
 ghost use Rattle.mako_shape.specs.Places.{total};
 ghost use Rattle.mako_step.specs.Acts.{IsWithin};
 ghost use Rattle.mako_mutator.specs.Drivers as drivers;
@@ -44,7 +45,8 @@ impl Driver {
     pub fn new(alloc: Global, script: &Script, mutator: u32) -> Result<Driver, Memory>
         requires { mutator < length script.now.programs }
         ensures { (program : ProgramView) → slice_get script.now.programs mutator ≡ Some program →
-            IfOk result (λ d. d ≡ drivers.opening (record { shape = script.now.numbers; mutator = mutator }) program.calls) }
+            IfOk result (λ d. d ≡ drivers.opening (record { shape = script.now.numbers;
+                mutator = mutator }) program.calls) }
     {
         let program = &script.programs[mutator as usize];
         let Ok(calls) = Vec::from_slice(alloc, program.calls.as_slice()) else {

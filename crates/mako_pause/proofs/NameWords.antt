@@ -7,5 +7,8 @@ use Rattle.mako_words.specs.declared.value.Value.{Value}
 use Rattle.mako_words.specs.declared.value.Value.TheVariants.{Ref}
 use Rattle.mako_words.proofs.ValueWords.{value_words}
 
-pub name_read : (w : ℕ) (answer : Option Value) → IsPackedName w → Unpacks FitsValue value_word value_at w answer → answer ≡ Some (Ref (name_at w))
-name_read w answer p read = value_words.read_back (Ref (name_at w)) answer p.fits (subst (λ (x : ℕ). Unpacks FitsValue value_word value_at x answer) (sym p.same) read)
+pub name_read : (w : ℕ) (answer : Option Value) → IsPackedName w → Unpacks FitsValue value_word value_at w answer
+    → answer ≡ Some (Ref (name_at w))
+name_read w answer p read =
+    value_words.read_back (Ref (name_at w)) answer p.fits
+    (subst (λ (x : ℕ). Unpacks FitsValue value_word value_at x answer) (sym p.same) read)

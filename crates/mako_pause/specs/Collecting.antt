@@ -1,5 +1,7 @@
 -- The collector as a machine: what it keeps, what it does next, and what it becomes by the word found.
-use Rattle.std.specs.Prelude.{◌≡◌, ℕ, Bool, true, false, ◌+◌, ◌*◌, ◌%◌, ◌<◌, ◌≤◌, ◌==◌, ◌⊎◌, nat_lt, if◌then◌else◌, Option, Some, None, List, [], ◌∷◌, ◌++◌, length, map, position, sum_by, slice_index, slice_index_or, slice_set}
+use Rattle.std.specs.Prelude.{◌≡◌, ℕ, Bool, true, false, ◌+◌, ◌*◌, ◌%◌, ◌<◌, ◌≤◌, ◌==◌, ◌⊎◌, nat_lt, if◌then◌else◌}
+use Rattle.std.specs.Prelude.{Option, Some, None, List, [], ◌∷◌, ◌++◌, length, map, position, sum_by, slice_index}
+use Rattle.std.specs.Prelude.{slice_index_or, slice_set}
 use Rattle.mako_words.specs.Gates.{IsPackedGate, count_of}
 use Rattle.mako_words.specs.Lives.{live_at, IsPackedLive}
 use Rattle.mako_words.specs.Names.{name_word, name_at, IsPackedName}
@@ -16,7 +18,8 @@ use Rattle.mako_words.specs.declared.value.Value.{Value}
 use Rattle.mako_words.specs.declared.value.Value.TheVariants.{Null, Num, Ref}
 use Rattle.mako_shape.specs.declared.numbers.Numbers.{Numbers}
 use Rattle.mako_shape.specs.Belongings.{server_of_tablet}
-use Rattle.mako_shape.specs.Places.{Place, index, phase, demand, finished, mutator_gate, root, barrier, work, notice, home, top, leaving, live}
+use Rattle.mako_shape.specs.Places.{Place, index, phase, demand, finished, mutator_gate, root, barrier, work, notice}
+use Rattle.mako_shape.specs.Places.{home, top, leaving, live}
 use Rattle.mako_step.specs.Acts.{does}
 use Rattle.mako_step.specs.declared.act.Op.TheVariants.{Load, Store, Or, And}
 use Rattle.mako_step.specs.declared.step.Step.{Step}
@@ -43,17 +46,22 @@ use Rattle.mako_pause.specs.declared.stage.Pause.TheVariants.{Snapshot, Choice}
 use Rattle.mako_pause.specs.declared.stage.IdleStage.{IdleStage}
 use Rattle.mako_pause.specs.declared.stage.IdleStage.TheVariants.{LoadingDemand, LookingFinished, StoringStop}
 use Rattle.mako_pause.specs.declared.stage.PauseStage.{PauseStage}
-use Rattle.mako_pause.specs.declared.stage.PauseStage.TheVariants.{Shutting, Draining, LoadingRoot, StoringTrace, Opening}
+use Rattle.mako_pause.specs.declared.stage.PauseStage.TheVariants.{Shutting, Draining, LoadingRoot, StoringTrace}
+use Rattle.mako_pause.specs.declared.stage.PauseStage.TheVariants.{Opening}
 use Rattle.mako_pause.specs.declared.stage.ForwardStage.{ForwardStage}
 use Rattle.mako_pause.specs.declared.stage.ForwardStage.TheVariants.{Looking, Storing}
 use Rattle.mako_pause.specs.declared.stage.BarrierStage.{BarrierStage}
 use Rattle.mako_pause.specs.declared.stage.BarrierStage.TheVariants.{Loading, Clearing}
 use Rattle.mako_pause.specs.declared.stage.ChoiceStage.{ChoiceStage}
-use Rattle.mako_pause.specs.declared.stage.ChoiceStage.TheVariants.{LoadingLive, LoadingTop, LoadingHome, StoringLeaving, StoringHome, StoringTop, StoringEvac, Opening as Reopening}
+use Rattle.mako_pause.specs.declared.stage.ChoiceStage.TheVariants.{LoadingLive, LoadingTop, LoadingHome}
+use Rattle.mako_pause.specs.declared.stage.ChoiceStage.TheVariants.{StoringLeaving, StoringHome, StoringTop}
+use Rattle.mako_pause.specs.declared.stage.ChoiceStage.TheVariants.{StoringEvac, Opening as Reopening}
 use Rattle.mako_pause.specs.declared.stage.NoticeStage.{NoticeStage}
-use Rattle.mako_pause.specs.declared.stage.NoticeStage.TheVariants.{Looking as NoticeLook, Clearing as NoticeClear, StoringIdle}
+use Rattle.mako_pause.specs.declared.stage.NoticeStage.TheVariants.{Looking as NoticeLook, Clearing as NoticeClear}
+use Rattle.mako_pause.specs.declared.stage.NoticeStage.TheVariants.{StoringIdle}
 use Rattle.mako_pause.specs.declared.stage.CollectStage.{CollectStage}
-use Rattle.mako_pause.specs.declared.stage.CollectStage.TheVariants.{Idle, Pausing, Forwarding, Barriers, Emptying, Polling, Choosing, Noticing, Ended}
+use Rattle.mako_pause.specs.declared.stage.CollectStage.TheVariants.{Idle, Pausing, Forwarding, Barriers, Emptying}
+use Rattle.mako_pause.specs.declared.stage.CollectStage.TheVariants.{Polling, Choosing, Noticing, Ended}
 
 -- What the collector keeps: the last finished cycle, whether completion is awaited with the gates shut, the pending
 -- names, a window of each server's work ring, its positions in the barrier and the notice rings, the poll, what was
@@ -173,7 +181,8 @@ barriers_from k m = if m == k.shape.mutators then empty k else at k (Barriers (L
 
 -- completion is told: with the gates open the second pause, with the gates shut the choice
 abbrev pub told : Holdings → Collecting
-told k = if k.gates_shut then at (record k { used = []; chosen = [] }) (Choosing (LoadingLive 0 0)) else at k (Pausing (Shutting Choice 0))
+told k = if k.gates_shut then at (record k { used = []; chosen = [] }) (Choosing (LoadingLive 0 0)) else at k
+    (Pausing (Shutting Choice 0))
 
 abbrev pub polled_at : Holdings → PollStage → Collecting
 polled_at k (Asking s) = at k Polling
@@ -192,7 +201,8 @@ gifts_from k i = if nat_lt i (length k.chosen) then at k (Choosing (LoadingHome 
 
 -- the lowest region that the server of a tablet has to give
 abbrev pub spare_for : Holdings → ℕ → Option ℕ
-spare_for k t = spare_between k.roles (running k) (server_of_tablet k.shape t * (k.shape.tablets + k.shape.spare)) (k.shape.tablets + k.shape.spare)
+spare_for k t = spare_between k.roles (running k) (server_of_tablet k.shape t * (k.shape.tablets + k.shape.spare))
+    (k.shape.tablets + k.shape.spare)
 
 abbrev pub gift_of : Holdings → ℕ → ℕ → Option ℕ → Collecting
 gift_of k i former (Some region) = at k (Choosing (StoringLeaving i (record { former = former; region = region })))
@@ -200,14 +210,17 @@ gift_of k i former None = at k (Choosing StoringEvac)
 
 -- the tablets of a server are loaded: those chosen go behind the others
 abbrev pub server_chosen : Holdings → ℕ → Holdings
-server_chosen k s = record k { used = []; chosen = k.chosen ++ map (λ place. s * k.shape.tablets + place) (choice k.used k.shape.spare) }
+server_chosen k s = record k { used = [];
+    chosen = k.chosen ++ map (λ place. s * k.shape.tablets + place) (choice k.used k.shape.spare) }
 
 abbrev pub servers_from : Holdings → ℕ → Collecting
 servers_from k s = if s == k.shape.servers then gifts_from k 0 else at k (Choosing (LoadingLive s 0))
 
 -- the tablets behind one, and past the last of a server its choice
 abbrev pub after_tablet : Holdings → ℕ → ℕ → Collecting
-after_tablet k s place = if place + 1 == k.shape.tablets then servers_from (server_chosen k s) (s + 1) else at k (Choosing (LoadingLive s (place + 1)))
+after_tablet k s place =
+    if place + 1 == k.shape.tablets then servers_from (server_chosen k s) (s + 1) else at k
+    (Choosing (LoadingLive s (place + 1)))
 
 -- the words of a live word, which count in its cycle alone
 abbrev pub live_words : Holdings → ℕ → ℕ
@@ -221,33 +234,40 @@ names_of Null = []
 
 -- ---- what it becomes by the word found
 abbrev pub idle_fed : Holdings → IdleStage → ℕ → Collecting
-idle_fed k LoadingDemand w = if nat_lt k.cycle w then at k (Pausing (Shutting Snapshot 0)) else at k (Idle LookingFinished)
+idle_fed k LoadingDemand w =
+    if nat_lt k.cycle w then at k (Pausing (Shutting Snapshot 0)) else at k (Idle LookingFinished)
 idle_fed k LookingFinished w = if w == k.shape.mutators then at k (Idle StoringStop) else at k (Idle LoadingDemand)
 idle_fed k StoringStop w = at k Ended
 
 -- the roots behind one, and past the last of all the snapshot
 abbrev pub after_root : Holdings → ℕ → ℕ → PauseStage
-after_root k m q = if nat_lt (q + 1) k.shape.roots then LoadingRoot m (q + 1) else (if nat_lt (m + 1) k.shape.mutators then LoadingRoot (m + 1) 0 else StoringTrace)
+after_root k m q = if nat_lt (q + 1) k.shape.roots then LoadingRoot m (q + 1) else
+    (if nat_lt (m + 1) k.shape.mutators then LoadingRoot (m + 1) 0 else StoringTrace)
 
 abbrev pub pause_fed : Holdings → PauseStage → ℕ → Collecting
-pause_fed k (Shutting pause m) w = if m + 1 == k.shape.mutators then at k (Pausing (Draining pause 0)) else at k (Pausing (Shutting pause (m + 1)))
+pause_fed k (Shutting pause m) w =
+    if m + 1 == k.shape.mutators then at k (Pausing (Draining pause 0)) else at k (Pausing (Shutting pause (m + 1)))
 pause_fed k (Draining pause m) w =
     if nat_lt 0 (count_of w) then at k (Pausing (Draining pause m))
     else (if m + 1 == k.shape.mutators then paused k pause else at k (Pausing (Draining pause (m + 1))))
-pause_fed k (LoadingRoot m q) w = at (record k { pending = k.pending ++ names_of (value_at w) }) (Pausing (after_root k m q))
+pause_fed k (LoadingRoot m q) w =
+    at (record k { pending = k.pending ++ names_of (value_at w) }) (Pausing (after_root k m q))
 pause_fed k StoringTrace w = at k (Pausing (Opening 0))
 pause_fed k (Opening m) w = if m + 1 == k.shape.mutators then forward k else at k (Pausing (Opening (m + 1)))
 
 abbrev pub forward_fed : Holdings → ForwardStage → ℕ → Collecting
 forward_fed k (Looking x) w =
-    if w == 0 then at (set_window k (owner k.shape x) (found_room k.shape.ring (window_of k (owner k.shape x)))) (Forwarding (Storing x))
+    if w == 0 then at (set_window k (owner k.shape x) (found_room k.shape.ring (window_of k (owner k.shape x))))
+        (Forwarding (Storing x))
     else at k (Forwarding (Looking x))
 forward_fed k (Storing x) w = forward (set_window k (owner k.shape x) (head_up (window_of k (owner k.shape x))))
 
 abbrev pub barrier_fed : Holdings → BarrierStage → ℕ → Collecting
 barrier_fed k (Loading m) w = if w == 0 then barriers_from k (m + 1) else at k (Barriers (Clearing m (name_at w)))
 -- nothing else is pending now
-barrier_fed k (Clearing m x) w = at (record k { barrier_at = slice_set k.barrier_at m (after_place k.shape.ring (slice_index k.barrier_at m)) }) (Forwarding (Looking x))
+barrier_fed k (Clearing m x) w =
+    at (record k { barrier_at = slice_set k.barrier_at m (after_place k.shape.ring (slice_index k.barrier_at m)) })
+    (Forwarding (Looking x))
 
 abbrev pub empty_fed : Holdings → ℕ → ℕ → Collecting
 empty_fed k s w = if w == 0 then empty (set_window k s (tail_up k.shape.ring (window_of k s))) else at k (Emptying s)
@@ -257,28 +277,36 @@ poll_fed k w = let poll = polls.fed k.poll w in polled_at (record k { poll = pol
 
 abbrev pub choice_fed : Holdings → ChoiceStage → ℕ → Collecting
 choice_fed k (LoadingLive s place) w = at k (Choosing (LoadingTop s place (live_words k w)))
-choice_fed k (LoadingTop s place words) w = after_tablet (record k { used = k.used ++ record { top = w; live = words } ∷ [] }) s place
+choice_fed k (LoadingTop s place words) w =
+    after_tablet (record k { used = k.used ++ record { top = w; live = words } ∷ [] }) s place
 choice_fed k (LoadingHome i) w = gift_of k i w (spare_for k (chosen_tablet k i))
 choice_fed k (StoringLeaving i gift) w = at k (Choosing (StoringHome i gift))
 -- the former region may be given out from the next cycle on
 choice_fed k (StoringHome i gift) w =
-    at (record k { roles = slice_set (slice_set k.roles gift.region Home) gift.former (Spare (running k + 1)) }) (Choosing (StoringTop i))
+    at (record k { roles = slice_set (slice_set k.roles gift.region Home) gift.former (Spare (running k + 1)) })
+        (Choosing (StoringTop i))
 choice_fed k (StoringTop i) w = gifts_from k (i + 1)
 choice_fed k StoringEvac w = at (record k { gates_shut = false }) (Choosing (Reopening 0))
-choice_fed k (Reopening m) w = if m + 1 == k.shape.mutators then at k (Noticing (NoticeLook 0)) else at k (Choosing (Reopening (m + 1)))
+choice_fed k (Reopening m) w =
+    if m + 1 == k.shape.mutators then at k (Noticing (NoticeLook 0)) else at k (Choosing (Reopening (m + 1)))
 
 -- what a server tells: a freed name is kept, and with Done the next server has its turn
 abbrev pub noticed : Holdings → ℕ → NoticeWord → Collecting
 noticed k s (Freed x) = at (record k { freed = k.freed ++ x ∷ [] }) (Noticing (NoticeLook s))
-noticed k s Done = if s + 1 == k.shape.servers then at k (Noticing StoringIdle) else at k (Noticing (NoticeLook (s + 1)))
+noticed k s Done = if s + 1 == k.shape.servers then at k (Noticing StoringIdle) else at k
+    (Noticing (NoticeLook (s + 1)))
 
 -- the running cycle is finished
 abbrev pub finish : Holdings → Holdings
-finish k = record k { cycle = running k; freed = []; cycles = record k.cycles { lists = k.cycles.lists ++ k.freed ∷ [] } }
+finish k = record k { cycle = running k; freed = [];
+    cycles = record k.cycles { lists = k.cycles.lists ++ k.freed ∷ [] } }
 
 abbrev pub notice_fed : Holdings → NoticeStage → ℕ → Collecting
-notice_fed k (NoticeLook s) w = if w == 0 then at k (Noticing (NoticeLook s)) else at k (Noticing (NoticeClear s (notice_at w)))
-notice_fed k (NoticeClear s told) w = noticed (record k { notice_at = slice_set k.notice_at s (after_place k.shape.ring (slice_index k.notice_at s)) }) s told
+notice_fed k (NoticeLook s) w =
+    if w == 0 then at k (Noticing (NoticeLook s)) else at k (Noticing (NoticeClear s (notice_at w)))
+notice_fed k (NoticeClear s told) w =
+    noticed (record k { notice_at = slice_set k.notice_at s (after_place k.shape.ring (slice_index k.notice_at s)) }) s
+    told
 notice_fed k StoringIdle w = at (finish k) (Idle LoadingDemand)
 
 abbrev pub stage_fed : Holdings → CollectStage → ℕ → Collecting
@@ -326,7 +354,8 @@ abbrev pub PauseFits : Holdings → PauseStage → ℕ → Type 0
 PauseFits k (Shutting pause m) w = Unit {0}
 PauseFits k (Draining pause m) w = IsPackedGate w
 -- there is room for the name
-PauseFits k (LoadingRoot m q) w = IsPacked w × FieldFits k.shape (value_at w) × (length k.pending < k.shape.mutators * k.shape.roots)
+PauseFits k (LoadingRoot m q) w = IsPacked w × FieldFits k.shape (value_at w)
+    × (length k.pending < k.shape.mutators * k.shape.roots)
 PauseFits k StoringTrace w = Unit {0}
 PauseFits k (Opening m) w = Unit {0}
 

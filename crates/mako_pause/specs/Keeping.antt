@@ -11,17 +11,22 @@ use Rattle.mako_poll.specs.Polls as polls
 use Rattle.mako_pause.specs.Collecting.{Holdings, window_of}
 use Rattle.mako_pause.specs.declared.kept.Kept.TheInside.{Inside}
 use Rattle.mako_pause.specs.declared.stage.PauseStage.{PauseStage}
-use Rattle.mako_pause.specs.declared.stage.PauseStage.TheVariants.{Shutting, Draining, LoadingRoot, StoringTrace, Opening}
+use Rattle.mako_pause.specs.declared.stage.PauseStage.TheVariants.{Shutting, Draining, LoadingRoot, StoringTrace}
+use Rattle.mako_pause.specs.declared.stage.PauseStage.TheVariants.{Opening}
 use Rattle.mako_pause.specs.declared.stage.ForwardStage.{ForwardStage}
 use Rattle.mako_pause.specs.declared.stage.ForwardStage.TheVariants.{Looking, Storing}
 use Rattle.mako_pause.specs.declared.stage.BarrierStage.{BarrierStage}
 use Rattle.mako_pause.specs.declared.stage.BarrierStage.TheVariants.{Loading, Clearing}
 use Rattle.mako_pause.specs.declared.stage.ChoiceStage.{ChoiceStage}
-use Rattle.mako_pause.specs.declared.stage.ChoiceStage.TheVariants.{LoadingLive, LoadingTop, LoadingHome, StoringLeaving, StoringHome, StoringTop, StoringEvac, Opening as Reopening}
+use Rattle.mako_pause.specs.declared.stage.ChoiceStage.TheVariants.{LoadingLive, LoadingTop, LoadingHome}
+use Rattle.mako_pause.specs.declared.stage.ChoiceStage.TheVariants.{StoringLeaving, StoringHome, StoringTop}
+use Rattle.mako_pause.specs.declared.stage.ChoiceStage.TheVariants.{StoringEvac, Opening as Reopening}
 use Rattle.mako_pause.specs.declared.stage.NoticeStage.{NoticeStage}
-use Rattle.mako_pause.specs.declared.stage.NoticeStage.TheVariants.{Looking as NoticeLook, Clearing as NoticeClear, StoringIdle}
+use Rattle.mako_pause.specs.declared.stage.NoticeStage.TheVariants.{Looking as NoticeLook, Clearing as NoticeClear}
+use Rattle.mako_pause.specs.declared.stage.NoticeStage.TheVariants.{StoringIdle}
 use Rattle.mako_pause.specs.declared.stage.CollectStage.{CollectStage}
-use Rattle.mako_pause.specs.declared.stage.CollectStage.TheVariants.{Idle, Pausing, Forwarding, Barriers, Emptying, Polling, Choosing, Noticing, Ended}
+use Rattle.mako_pause.specs.declared.stage.CollectStage.TheVariants.{Idle, Pausing, Forwarding, Barriers, Emptying}
+use Rattle.mako_pause.specs.declared.stage.CollectStage.TheVariants.{Polling, Choosing, Noticing, Ended}
 
 -- the regions of all servers
 abbrev pub all_regions : Holdings → ℕ
@@ -65,7 +70,8 @@ PauseIsKnown k (Opening m) = m < k.shape.mutators
 -- past the look there is room in the window
 abbrev pub ForwardIsKnown : Holdings → ForwardStage → Type 0
 ForwardIsKnown k (Looking x) = IsKeptName k.shape x
-ForwardIsKnown k (Storing x) = IsKeptName k.shape x × ((window_of k (owner k.shape x)).head < (window_of k (owner k.shape x)).tail + k.shape.ring)
+ForwardIsKnown k (Storing x) = IsKeptName k.shape x
+    × ((window_of k (owner k.shape x)).head < (window_of k (owner k.shape x)).tail + k.shape.ring)
 
 abbrev pub BarrierIsKnown : Holdings → BarrierStage → Type 0
 BarrierIsKnown k (Loading m) = m < k.shape.mutators
@@ -85,8 +91,10 @@ abbrev pub ChoiceIsKnown : Holdings → ChoiceStage → Type 0
 ChoiceIsKnown k (LoadingLive s place) = AreLoaded k s place
 ChoiceIsKnown k (LoadingTop s place words) = AreLoaded k s place
 ChoiceIsKnown k (LoadingHome i) = i < length k.chosen
-ChoiceIsKnown k (StoringLeaving i gift) = (i < length k.chosen) × (gift.former < all_regions k) × (gift.region < all_regions k)
-ChoiceIsKnown k (StoringHome i gift) = (i < length k.chosen) × (gift.former < all_regions k) × (gift.region < all_regions k)
+ChoiceIsKnown k (StoringLeaving i gift) = (i < length k.chosen) × (gift.former < all_regions k)
+    × (gift.region < all_regions k)
+ChoiceIsKnown k (StoringHome i gift) = (i < length k.chosen) × (gift.former < all_regions k)
+    × (gift.region < all_regions k)
 ChoiceIsKnown k (StoringTop i) = i < length k.chosen
 ChoiceIsKnown k StoringEvac = Unit {0}
 ChoiceIsKnown k (Reopening m) = m < k.shape.mutators

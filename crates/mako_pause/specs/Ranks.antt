@@ -5,17 +5,22 @@ use Rattle.mako_pause.specs.Collecting.{Holdings, Collecting}
 use Rattle.mako_pause.specs.declared.stage.IdleStage.{IdleStage}
 use Rattle.mako_pause.specs.declared.stage.IdleStage.TheVariants.{LoadingDemand, LookingFinished, StoringStop}
 use Rattle.mako_pause.specs.declared.stage.PauseStage.{PauseStage}
-use Rattle.mako_pause.specs.declared.stage.PauseStage.TheVariants.{Shutting, Draining, LoadingRoot, StoringTrace, Opening}
+use Rattle.mako_pause.specs.declared.stage.PauseStage.TheVariants.{Shutting, Draining, LoadingRoot, StoringTrace}
+use Rattle.mako_pause.specs.declared.stage.PauseStage.TheVariants.{Opening}
 use Rattle.mako_pause.specs.declared.stage.ForwardStage.{ForwardStage}
 use Rattle.mako_pause.specs.declared.stage.ForwardStage.TheVariants.{Looking, Storing}
 use Rattle.mako_pause.specs.declared.stage.BarrierStage.{BarrierStage}
 use Rattle.mako_pause.specs.declared.stage.BarrierStage.TheVariants.{Loading, Clearing}
 use Rattle.mako_pause.specs.declared.stage.ChoiceStage.{ChoiceStage}
-use Rattle.mako_pause.specs.declared.stage.ChoiceStage.TheVariants.{LoadingLive, LoadingTop, LoadingHome, StoringLeaving, StoringHome, StoringTop, StoringEvac, Opening as Reopening}
+use Rattle.mako_pause.specs.declared.stage.ChoiceStage.TheVariants.{LoadingLive, LoadingTop, LoadingHome}
+use Rattle.mako_pause.specs.declared.stage.ChoiceStage.TheVariants.{StoringLeaving, StoringHome, StoringTop}
+use Rattle.mako_pause.specs.declared.stage.ChoiceStage.TheVariants.{StoringEvac, Opening as Reopening}
 use Rattle.mako_pause.specs.declared.stage.NoticeStage.{NoticeStage}
-use Rattle.mako_pause.specs.declared.stage.NoticeStage.TheVariants.{Looking as NoticeLook, Clearing as NoticeClear, StoringIdle}
+use Rattle.mako_pause.specs.declared.stage.NoticeStage.TheVariants.{Looking as NoticeLook, Clearing as NoticeClear}
+use Rattle.mako_pause.specs.declared.stage.NoticeStage.TheVariants.{StoringIdle}
 use Rattle.mako_pause.specs.declared.stage.CollectStage.{CollectStage}
-use Rattle.mako_pause.specs.declared.stage.CollectStage.TheVariants.{Idle, Pausing, Forwarding, Barriers, Emptying, Polling, Choosing, Noticing, Ended}
+use Rattle.mako_pause.specs.declared.stage.CollectStage.TheVariants.{Idle, Pausing, Forwarding, Barriers, Emptying}
+use Rattle.mako_pause.specs.declared.stage.CollectStage.TheVariants.{Polling, Choosing, Noticing, Ended}
 
 -- ---- waiting looks
 abbrev pub idle_waits : Holdings → IdleStage → ℕ → Bool
@@ -53,7 +58,8 @@ stage_waits k Ended w = false
 abbrev pub is_waiting : Collecting → ℕ → Bool
 is_waiting c w = stage_waits c.kept c.stage w
 
--- ---- jobs: a gate, a root, a name, a round of looks, a server that is polled, a tablet, a notice, or the store of a phase
+-- ---- jobs: a gate, a root, a name, a round of looks, a server that is polled, a tablet, a notice, or the store of a
+-- phase
 abbrev pub idle_renewed : Holdings → IdleStage → ℕ → Bool
 idle_renewed k LoadingDemand w = nat_lt k.cycle w
 idle_renewed k LookingFinished w = false

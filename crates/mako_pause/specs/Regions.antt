@@ -16,4 +16,5 @@ behind first (Some place) = Some (first + place)
 
 -- the lowest region that may be given out in a cycle, of so many from a first on
 abbrev pub spare_between : List Role → ℕ → ℕ → ℕ → Option ℕ
-spare_between roles cycle first count = behind first (position (is_spare cycle) (slice_range roles first (first + count)))
+spare_between roles cycle first count =
+    behind first (position (is_spare cycle) (slice_range roles first (first + count)))

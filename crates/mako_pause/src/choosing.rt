@@ -130,7 +130,8 @@ fn after_tablet(kept: &mut Kept, server: u32, place: u32) -> CollectStage
 /// What the tablet gets whose home was loaded.
 fn gift_of(kept: &Kept, number: usize, former: u32) -> CollectStage
     requires { number < length kept.now.chosen }
-    ensures { at kept.now result ≡ collecting.gift_of kept.now number former (collecting.spare_for kept.now (collecting.chosen_tablet kept.now number)) }
+    ensures { at kept.now result ≡ collecting.gift_of kept.now number former
+        (collecting.spare_for kept.now (collecting.chosen_tablet kept.now number)) }
 {
     match kept.spare_for(kept.chosen_tablet(number)) {
         Some(region) => {

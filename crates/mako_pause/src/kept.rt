@@ -1,6 +1,7 @@
 //! What the collector keeps from step to step.
 
-ghost use Rattle.std.specs.Prelude.{◌≡◌, ◌<◌, ◌≤◌, ◌+◌, ◌*◌, ◌%◌, ◌^◌, ◌++◌, ◌∷◌, [], false, IfOk, IfSome, length, position, replicate, sum_by};
+ghost use Rattle.std.specs.Prelude.{◌≡◌, ◌<◌, ◌≤◌, ◌+◌, ◌*◌, ◌%◌, ◌^◌, ◌++◌, ◌∷◌, [], false, IfOk, IfSome, length};
+ghost use Rattle.std.specs.Prelude.{position, replicate, sum_by};
 ghost use Rattle.mako_words.specs.Values.{FitsValue};
 ghost use Rattle.mako_shape.specs.Limits.{IsShape};
 ghost use Rattle.mako_shape.specs.Places.{index, total, work};
@@ -208,7 +209,8 @@ impl Kept {
     /// The look at the slot at the tail of a server's work ring.
     pub(crate) fn empty_next(&self, server: u32) -> Step
         requires { server < self.now.shape.servers }
-        ensures next { result ≡ does (index self.now.shape (work server ((window_of self.now server).tail % self.now.shape.ring))) Load }
+        ensures next { result ≡ does
+            (index self.now.shape (work server ((window_of self.now server).tail % self.now.shape.ring))) Load }
         ensures within { IsWithin (total self.now.shape) result }
     {
         let place = self.window(server).tail % u64::from(self.numbers().ring);

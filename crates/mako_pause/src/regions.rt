@@ -63,7 +63,8 @@ fn opening_role(shape: &Shape, region: u32) -> Role
 
 /// The roles of the regions at the start: of a server's regions the first are homes, one for each tablet.
 pub(crate) fn opening_roles(alloc: Global, shape: &Shape) -> Result<Vec<Role>, Memory>
-    ensures { IfOk result (λ roles. roles.items ≡ opening_roles shape.now (shape.now.servers * (shape.now.tablets + shape.now.spare))) }
+    ensures { IfOk result
+        (λ roles. roles.items ≡ opening_roles shape.now (shape.now.servers * (shape.now.tablets + shape.now.spare))) }
 {
     let numbers = shape.numbers();
     let count = numbers.servers * (numbers.tablets + numbers.spare);

@@ -1,5 +1,7 @@
 -- The seats that are not at their end.
-use Rattle.std.proofs.Common.{◌≡◌, ◌≢◌, ℕ, zero, suc, ◌+◌, ◌<◌, ◌≤◌, Bool, true, false, if◌then◌else◌, List, [], ◌∷◌, ◌++◌, length, take, remove, get_or, slice_get, slice_set, Some, None, nat_le, ◌↔◌, inl, inr, le_of_eq, le_of_lt, append-nil, length-take-le, refl, sym, ap, ◌∙◌, subst, arith}
+use Rattle.std.proofs.Common.{◌≡◌, ◌≢◌, ℕ, zero, suc, ◌+◌, ◌<◌, ◌≤◌, Bool, true, false, if◌then◌else◌, List, [], ◌∷◌}
+use Rattle.std.proofs.Common.{◌++◌, length, take, remove, get_or, slice_get, slice_set, Some, None, nat_le, ◌↔◌, inl}
+use Rattle.std.proofs.Common.{inr, le_of_eq, le_of_lt, append-nil, length-take-le, refl, sym, ap, ◌∙◌, subst, arith}
 use Rattle.std.proofs.lemmas.Bool.Decides.{leb_tells}
 use Rattle.std.proofs.lemmas.Option.{slice_get_cases}
 use Rattle.mako_shape.specs.declared.numbers.Numbers.{Numbers}
@@ -46,7 +48,8 @@ pub record Found (b : ℕ) (seats : List Seat) (x : ℕ) : Type 0 where
   pub live : is_end (place_of seat) ≡ false
 
 found_later : (b : ℕ) (v : Seat) (seats : List Seat) (x : ℕ) → Found (b + 1) seats x → Found b (v ∷ seats) x
-found_later b v seats x f = record { at = suc f.at; seat = f.seat; is = let e = f.is in omega arith; there = f.there; live = f.live }
+found_later b v seats x f = record { at = suc f.at; seat = f.seat; is = let e = f.is in omega arith; there = f.there;
+    live = f.live }
 
 found_by : (b : ℕ) (v : Seat) (seats : List Seat) (e : Bool) (xs : List ℕ) (p : ℕ) → is_end (place_of v) ≡ e
     → ((q : ℕ) → q < length xs → Found (b + 1) seats (get_or xs q 0))
@@ -55,7 +58,8 @@ found_by b v seats true xs p is later low = found_later b v seats (get_or xs p 0
 found_by b v seats false xs zero is later low = record { at = 0; seat = v; is = omega arith; there = refl; live = is }
 found_by b v seats false xs (suc p) is later low = found_later b v seats (get_or xs p 0) (later p (omega arith))
 
-pub found : (b : ℕ) (seats : List Seat) (p : ℕ) → p < length (live_from b seats) → Found b seats (get_or (live_from b seats) p 0)
+pub found : (b : ℕ) (seats : List Seat) (p : ℕ) → p < length (live_from b seats)
+    → Found b seats (get_or (live_from b seats) p 0)
 found b [] p low = absurd (omega arith)
 found b (v ∷ seats) p low =
     found_by b v seats (is_end (place_of v)) (live_from (b + 1) seats) p refl (found (b + 1) seats) low
@@ -74,7 +78,8 @@ kept_first : (b : ℕ) (e : Bool) (xs : List ℕ) → e ≡ false → Kept (if e
 kept_first b true xs is = absurd cc
 kept_first b false xs is = record { at = 0; within = omega arith; is = refl }
 
-pub kept : (b : ℕ) (seats : List Seat) (i : ℕ) (v : Seat) → slice_get seats i ≡ Some v → is_end (place_of v) ≡ false → Kept (live_from b seats) (b + i)
+pub kept : (b : ℕ) (seats : List Seat) (i : ℕ) (v : Seat) → slice_get seats i ≡ Some v → is_end (place_of v) ≡ false
+    → Kept (live_from b seats) (b + i)
 kept b [] i v there live = absurd cc
 kept b (u ∷ seats) zero v there live =
     let same : u ≡ v = cc in
@@ -87,7 +92,8 @@ kept b (u ∷ seats) (suc i) v there live =
     (kept_by b (is_end (place_of u)) (live_from (b + 1) seats) (b + 1 + i) (kept (b + 1) seats i v there live))
 
 -- a seat below the first of them is at its end
-pub passed : (b : ℕ) (seats : List Seat) (x i : ℕ) (v : Seat) → AscendsFrom x (live_from b seats) → b + i < x → slice_get seats i ≡ Some v → place_of v ≡ Ended
+pub passed : (b : ℕ) (seats : List Seat) (x i : ℕ) (v : Seat) → AscendsFrom x (live_from b seats) → b + i < x
+    → slice_get seats i ≡ Some v → place_of v ≡ Ended
 passed b seats x i v up low there = by (is_end (place_of v)) refl
   where
     by : (e : Bool) → is_end (place_of v) ≡ e → place_of v ≡ Ended
@@ -128,12 +134,14 @@ at_later b j false f xs ys (suc p) up later low is = behind_first b f xs ys p (l
 -- the seat of the number at p is another: the number goes if that one is at its end
 pub set_live : (b : ℕ) (seats : List Seat) (p j : ℕ) (v : Seat) → p < length (live_from b seats)
     → get_or (live_from b seats) p 0 ≡ b + j
-    → live_from b (slice_set seats j v) ≡ (if is_end (place_of v) then remove (live_from b seats) p else live_from b seats)
+    → live_from b (slice_set seats j v) ≡ (if is_end (place_of v) then remove
+        (live_from b seats) p else live_from b seats)
 set_live b [] p j v low is = absurd (omega arith)
 set_live b (u ∷ seats) p zero v low is =
     at_zero b (is_end (place_of u)) (is_end (place_of v)) (live_from (b + 1) seats) p (ascends (b + 1) seats) low is
 set_live b (u ∷ seats) p (suc j) v low is =
-    at_later b j (is_end (place_of u)) (is_end (place_of v)) (live_from (b + 1) seats) (live_from (b + 1) (slice_set seats j v)) p
+    at_later b j (is_end (place_of u)) (is_end (place_of v)) (live_from (b + 1) seats)
+        (live_from (b + 1) (slice_set seats j v)) p
     (ascends (b + 1) seats) (λ q. set_live (b + 1) seats q j v) low is
 
 -- ---- one seat more
@@ -156,7 +164,8 @@ push_live b (u ∷ seats) v =
     push_by b (length seats) (is_end (place_of u)) (is_end (place_of v)) (live_from (b + 1) seats)
     (live_from (b + 1) (seats ++ v ∷ [])) (push_live (b + 1) seats v)
 
-pub take_one_more : {A : Type 0} (xs : List A) (i : ℕ) (x : A) → slice_get xs i ≡ Some x → take (i + 1) xs ≡ take i xs ++ x ∷ []
+pub take_one_more : {A : Type 0} (xs : List A) (i : ℕ) (x : A) → slice_get xs i ≡ Some x
+    → take (i + 1) xs ≡ take i xs ++ x ∷ []
 take_one_more {A} xs i x there =
     let one : suc i ≡ i + 1 = omega arith in
     subst (λ (k : ℕ). take k xs ≡ take i xs ++ x ∷ []) one (at xs i there)
@@ -182,7 +191,8 @@ first_none : (xs : List ℕ) → None ≡ slice_get xs 0 → xs ≡ []
 first_none [] is = refl
 first_none (x ∷ xs) is = absurd cc
 
-first_some : (b : ℕ) (xs : List ℕ) (x : ℕ) → AscendsFrom b xs → Some x ≡ slice_get xs 0 → AscendsFrom x xs × (0 < length xs) × (x ≡ get_or xs 0 0)
+first_some : (b : ℕ) (xs : List ℕ) (x : ℕ) → AscendsFrom b xs → Some x ≡ slice_get xs 0 → AscendsFrom x xs
+    × (0 < length xs) × (x ≡ get_or xs 0 0)
 first_some b [] x up is = absurd cc
 first_some b (y ∷ xs) x up is = let same : x ≡ y = cc in ((le_of_eq same, up.1), omega arith, same)
 
@@ -212,7 +222,8 @@ first_tells n seats x first = elim (leb_tells n.mutators x) [
 
 -- ---- one seat more is looked at
 
-more_by : (b : ℕ) (e f : Bool) (xs ys : List ℕ) → e ≡ f → ys ≡ (if e then xs else xs ++ b ∷ []) → ys ≡ xs ++ (if f then [] else b ∷ [])
+more_by : (b : ℕ) (e f : Bool) (xs ys : List ℕ) → e ≡ f → ys ≡ (if e then xs else xs ++ b ∷ [])
+    → ys ≡ xs ++ (if f then [] else b ∷ [])
 more_by b true true xs ys same is = is ∙ sym (append-nil xs)
 more_by b true false xs ys same is = absurd cc
 more_by b false true xs ys same is = absurd cc

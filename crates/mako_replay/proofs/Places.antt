@@ -1,5 +1,6 @@
 -- Places among ascending numbers.
-use Rattle.std.proofs.Common.{◌≡◌, ℕ, zero, suc, ◌+◌, ◌<◌, ◌≤◌, true, false, List, [], ◌∷◌, length, remove, get_or, nat_le, inl, inr, refl, ap, ◌∙◌, arith}
+use Rattle.std.proofs.Common.{◌≡◌, ℕ, zero, suc, ◌+◌, ◌<◌, ◌≤◌, true, false, List, [], ◌∷◌, length, remove, get_or}
+use Rattle.std.proofs.Common.{nat_le, inl, inr, refl, ap, ◌∙◌, arith}
 use Rattle.std.proofs.lemmas.Bool.Decides.{leb_tells}
 use Rattle.mako_replay.specs.Schedules.{first_from}
 use Rattle.mako_replay.specs.Standing.{AscendsFrom, place_from}
@@ -29,7 +30,8 @@ above b (x ∷ xs) zero up low = up.0
 above b (x ∷ xs) (suc p) up low = let h = above (x + 1) xs p up.1 (omega arith) in let u = up.0 in omega arith
 
 -- behind the number at p stands the next
-pub next_place : (b : ℕ) (xs : List ℕ) (p : ℕ) → AscendsFrom b xs → p < length xs → place_from (get_or xs p 0 + 1) xs ≡ p + 1
+pub next_place : (b : ℕ) (xs : List ℕ) (p : ℕ) → AscendsFrom b xs → p < length xs
+    → place_from (get_or xs p 0 + 1) xs ≡ p + 1
 next_place b [] p up low = absurd (omega arith)
 next_place b (x ∷ xs) zero up low =
     let e = le_is_not (x + 1) x (omega arith) in
@@ -43,7 +45,8 @@ next_place b (x ∷ xs) (suc p) up low =
     rw e (ap suc n ∙ same)
 
 -- without it the next stands at p
-pub gone_place : (b : ℕ) (xs : List ℕ) (p : ℕ) → AscendsFrom b xs → p < length xs → place_from (get_or xs p 0 + 1) (remove xs p) ≡ p
+pub gone_place : (b : ℕ) (xs : List ℕ) (p : ℕ) → AscendsFrom b xs → p < length xs
+    → place_from (get_or xs p 0 + 1) (remove xs p) ≡ p
 gone_place b [] p up low = absurd (omega arith)
 gone_place b (x ∷ xs) zero up low = none_below (x + 1) (x + 1) xs up.1 (omega arith)
 gone_place b (x ∷ xs) (suc p) up low =

@@ -1,5 +1,7 @@
 -- One step of a schedule.
-use Rattle.std.proofs.Common.{◌≡◌, ◌≢◌, ℕ, zero, suc, ◌+◌, ◌-◌, ◌<◌, ◌≤◌, ◌⊎◌, inl, inr, ⊎_elim, Bool, if◌then◌else◌, List, [], ◌∷◌, length, remove, get_or, slice_index, slice_get, slice_set, Option, Some, refl, sym, ap, ◌∙◌, subst, arith}
+use Rattle.std.proofs.Common.{◌≡◌, ◌≢◌, ℕ, zero, suc, ◌+◌, ◌-◌, ◌<◌, ◌≤◌, ◌⊎◌, inl, inr, ⊎_elim, Bool, if◌then◌else◌}
+use Rattle.std.proofs.Common.{List, [], ◌∷◌, length, remove, get_or, slice_index, slice_get, slice_set, Option, Some}
+use Rattle.std.proofs.Common.{refl, sym, ap, ◌∙◌, subst, arith}
 use Rattle.std.proofs.lemmas.List.{get_or_read_under}
 use Rattle.std.proofs.lemmas.Option.{slice_get_within}
 use Rattle.mako_step.specs.Acts.{found as found_by}
@@ -21,7 +23,8 @@ record Changed (st : CoreState) (i : ℕ) (after : CoreState) : Type 0 where
   pub seat : Seat
   pub seats : after.seats ≡ slice_set st.seats i seat
 
-changed_by : (st : CoreState) (i : ℕ) (v : Seat) (next : Step) → slice_get st.seats i ≡ Some v → Changed st i (made st i v next)
+changed_by : (st : CoreState) (i : ℕ) (v : Seat) (next : Step) → slice_get st.seats i ≡ Some v
+    → Changed st i (made st i v next)
 changed_by st i v (Do act) there =
     record { seat = fed v (found_by act.op (slice_index st.words act.word)); seats = refl }
 changed_by st i v NoStep there = record { seat = v; seats = sym (set_same st.seats i v there) }
@@ -35,7 +38,8 @@ pub seat_at : (xs : List ℕ) (count place seat : ℕ) → count ≡ length xs �
     → seat ≡ slice_index xs place
 seat_at xs count place seat all low is = get_or_read_under xs place count seat 0 is low all
 
-module _ (st : CoreState) (xs : List ℕ) (p seat : ℕ) (is : xs ≡ live st.seats) (low : p < length xs) (read : seat ≡ slice_index xs p) where
+module _ (st : CoreState) (xs : List ℕ) (p seat : ℕ) (is : xs ≡ live st.seats) (low : p < length xs)
+    (read : seat ≡ slice_index xs p) where
   low_live : p < length (live st.seats)
   low_live = subst (λ (ys : List ℕ). p < length ys) is low
 
@@ -43,7 +47,8 @@ module _ (st : CoreState) (xs : List ℕ) (p seat : ℕ) (is : xs ≡ live st.se
   one = found 0 st.seats p low_live
 
   its_number : seat ≡ one.at
-  its_number = let e : 0 + one.at ≡ one.at = omega arith in read ∙ ap (λ (ys : List ℕ). slice_index ys p) is ∙ one.is ∙ e
+  its_number = let e : 0 + one.at ≡ one.at = omega arith in read ∙ ap (λ (ys : List ℕ). slice_index ys p) is ∙ one.is
+      ∙ e
 
   -- it is a seat
   pub seat_within : seat < length st.seats
@@ -59,7 +64,8 @@ module _ (st : CoreState) (xs : List ℕ) (p seat : ℕ) (is : xs ≡ live st.se
       let seats : after.seats ≡ slice_set st.seats one.at c.seat =
       ap (λ (s : CoreState). s.seats) (steps ∙ ap (step_of st) its_number) ∙ c.seats in
       let there : slice_get after.seats seat ≡ Some c.seat =
-      ap (slice_get after.seats) its_number ∙ ap (λ (ss : List Seat). slice_get ss one.at) seats ∙ set_read st.seats one.at c.seat within in
+      ap (slice_get after.seats) its_number ∙ ap (λ (ss : List Seat). slice_get ss one.at) seats
+          ∙ set_read st.seats one.at c.seat within in
       ap live seats ∙ set_live 0 st.seats p one.at c.seat low_live one.is
       ∙ ap (λ (b : Bool). if b then remove (live st.seats) p else live st.seats) (sym (tells c.seat there))
       ∙ ap (λ (ys : List ℕ). if e then remove ys p else ys) (sym is)
@@ -75,7 +81,8 @@ module _ (r : Running) (g : Going) (come : HasCome r g) (is : r.live.items ≡ l
   ascend = subst IsAscending (sym is) (ascends 0 r.core.state.seats)
 
   going : (place : ℕ) (xs : List ℕ) → live g.state.seats ≡ xs → xs ≢ [] → StandsFor r.schedule g.left xs
-      → ((first : ℕ) (others : List ℕ) → length xs ≡ length (first ∷ others) → StandsFor r.schedule g.left (first ∷ others)
+      → ((first : ℕ) (others : List ℕ) → length xs ≡ length (first ∷ others)
+          → StandsFor r.schedule g.left (first ∷ others)
       → slice_index (first ∷ others) place ≡ chosen g.left first others)
       → advanced g ≡ stepped g (slice_index xs place)
   going place [] same some at chooses = absurd (some refl)
@@ -84,7 +91,8 @@ module _ (r : Running) (g : Going) (come : HasCome r g) (is : r.live.items ≡ l
 
   -- the step of the chosen seat is the next of the run
   pub come_on : (new : Running) (place seat : ℕ) → r.live.items ≢ [] → seat ≡ slice_index r.live.items place
-      → ((first : ℕ) (others : List ℕ) → length r.live.items ≡ length (first ∷ others) → StandsFor r.schedule g.left (first ∷ others)
+      → ((first : ℕ) (others : List ℕ) → length r.live.items ≡ length (first ∷ others)
+          → StandsFor r.schedule g.left (first ∷ others)
       → slice_index (first ∷ others) place ≡ chosen g.left first others)
       → new.core.state ≡ step_of r.core.state seat → new.steps_made ≡ r.steps_made + 1
       → (xs : List ℕ) → live new.core.state.seats ≡ xs
@@ -111,14 +119,16 @@ no_more g k (suc d) none =
     ap (λ (n : ℕ). times n g) one ∙ ap advanced before ∙ ap (going_on (times k g)) none
 
 -- so the run that stopped is the whole run
-pub is_whole : (g : Going) (k steps : ℕ) → k ≤ steps → (k ≡ steps) ⊎ (live (times k g).state.seats ≡ []) → times steps g ≡ times k g
+pub is_whole : (g : Going) (k steps : ℕ) → k ≤ steps → (k ≡ steps) ⊎ (live (times k g).state.seats ≡ [])
+    → times steps g ≡ times k g
 is_whole g k steps most (inl same) = ap (λ (n : ℕ). times n g) (sym same)
 is_whole g k steps most (inr none) =
     let all : steps ≡ (steps - k) + k = omega arith in
     ap (λ (n : ℕ). times n g) all ∙ no_more g k (steps - k) none
 
 -- a run that stopped for want of seats, or of steps, is the run of the order
-pub whole_run : (r : Running) (s : ScriptView) (order : Order) (steps : ℕ) → HasCome r (times r.steps_made (at_start s order))
+pub whole_run : (r : Running) (s : ScriptView) (order : Order) (steps : ℕ)
+    → HasCome r (times r.steps_made (at_start s order))
     → r.live.items ≡ live r.core.state.seats → r.steps_made ≤ steps → (r.steps_made ≡ steps) ⊎ (r.live.items ≡ [])
     → HasCome r (after s order steps)
 whole_run r s order steps come is most stops =

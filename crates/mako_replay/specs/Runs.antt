@@ -53,6 +53,7 @@ times (suc k) g = advanced (times k g)
 abbrev pub at_start : ScriptView → Order → Going
 at_start s order = record { state = opening_core s; left = left_at_start order; made = 0 }
 
--- the run of the order: so many steps from the start of the script on, or fewer where all seats come to their ends before
+-- the run of the order: so many steps from the start of the script on, or fewer where all seats come to their ends
+-- before
 abbrev pub after : ScriptView → Order → ℕ → Going
 after s order steps = times steps (at_start s order)

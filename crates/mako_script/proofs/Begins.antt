@@ -1,5 +1,6 @@
 -- What the settings give: numbers in range, and a check of sections that starts with no fault before it.
-use Rattle.std.proofs.Common.{◌≡◌, ℕ, zero, suc, ◌∷◌, ◌*◌, ◌<◌, ◌≤◌, inl, inr, not, ◌&&◌, count_by, true, true≢false, List, [], length, drop, Result, Ok, Err, refl, sym, ap, subst, ◌∙◌, arith}
+use Rattle.std.proofs.Common.{◌≡◌, ℕ, zero, suc, ◌∷◌, ◌*◌, ◌<◌, ◌≤◌, inl, inr, not, ◌&&◌, count_by, true, true≢false}
+use Rattle.std.proofs.Common.{List, [], length, drop, Result, Ok, Err, refl, sym, ap, subst, ◌∙◌, arith}
 use Rattle.std.specs.Prelude.{◌↔◌, ◌≢◌, is_err, slice_index}
 use Rattle.std.specs.Str.{bytes_eq}
 use Rattle.mako_shape.specs.declared.fault.ShapeFault.{ShapeFault}
@@ -24,11 +25,13 @@ use Rattle.mako_script.proofs.GoodSettings.{number_is}
 pub are_settings : (lines : List (List ℕ)) (v : List ℕ) → HaveSettings lines v → length v ≡ 11 → AreSettings lines v
 are_settings lines v has count = record {
   count = count;
-  each = λ at below. (let s = has at (omega (arith, count)) in (ap (λ (ws : List (List ℕ)). word_in ws 1) s.words, s.few));
+  each = λ at below. (let s = has at (omega (arith, count)) in
+      (ap (λ (ws : List (List ℕ)). word_in ws 1) s.words, s.few));
 }
 
 -- the ranges of the keys are those of a geometry
-pub in_range : (lines : List (List ℕ)) (v : List ℕ) (m : ℕ) → HaveSettings lines v → length v ≡ 11 → 1 ≤ m → m ≤ 16 → AllInRange (numbers_in v m)
+pub in_range : (lines : List (List ℕ)) (v : List ℕ) (m : ℕ) → HaveSettings lines v → length v ≡ 11 → 1 ≤ m → m ≤ 16
+    → AllInRange (numbers_in v m)
 in_range lines v m has count some few =
     let s : (at : ℕ) → at < 11 → HasSetting lines at (slice_index v at) = λ at below. has at (omega (arith, count)) in
     let s1 = s 1 (omega arith) in
@@ -41,22 +44,29 @@ in_range lines v m has count some few =
     let s8 = s 8 (omega arith) in
     let s9 = s 9 (omega arith) in
     record {
-      each = (some, few, (s1.low, s1.high, (s2.low, s2.high, (s3.low, s3.high, (s4.low, s4.high, (s5.low, s5.high, (s6.low, s6.high, (s7.low, s7.high, (s8.low, s8.high, (s9.low, s9.high, tt))))))))));
+      each = (some, few, (s1.low, s1.high,
+          (s2.low, s2.high, (s3.low, s3.high,
+          (s4.low, s4.high, (s5.low, s5.high,
+          (s6.low, s6.high, (s7.low, s7.high, (s8.low, s8.high, (s9.low, s9.high, tt))))))))));
     }
 
 -- the number of roots is in its range
-pub some_roots : (lines : List (List ℕ)) (v : List ℕ) → HaveSettings lines v → length v ≡ 11 → (1 ≤ slice_index v 7) × (slice_index v 7 ≤ 32)
+pub some_roots : (lines : List (List ℕ)) (v : List ℕ) → HaveSettings lines v → length v ≡ 11 → (1 ≤ slice_index v 7)
+    × (slice_index v 7 ≤ 32)
 some_roots lines v has count = let s = has 7 (omega (arith, count)) in (s.low, s.high)
 
 -- numbers in range that are no geometry, and whose entries are few, have too many words
-pub too_many_words : (n : Numbers) (r : Result Numbers ShapeFault) → is_err r ≡ true → ((f : ShapeFault) → (r ≡ Err f) ↔ IsFault n f) → AllInRange n → ¬ (max_entries < all_entries n)
+pub too_many_words : (n : Numbers) (r : Result Numbers ShapeFault) → is_err r ≡ true
+    → ((f : ShapeFault) → (r ≡ Err f) ↔ IsFault n f) → AllInRange n → ¬ (max_entries < all_entries n)
     → max_words < total n
 too_many_words n (Ok s) e fault range few = absurd cc
-too_many_words n (Err (OutOfRange place)) e fault range few = absurd (in_range-no_first (tested n) place range.each ((fault (OutOfRange place)).0 refl))
+too_many_words n (Err (OutOfRange place)) e fault range few =
+    absurd (in_range-no_first (tested n) place range.each ((fault (OutOfRange place)).0 refl))
 too_many_words n (Err TooManyEntries) e fault range few = absurd (few ((fault TooManyEntries).0 refl).1)
 too_many_words n (Err TooManyWords) e fault range few = ((fault TooManyWords).0 refl).2
 
-module _ (text v : List ℕ) (has : HaveSettings (lines_of text) v) (count : length v ≡ 11) (few : ¬ (max_entries < all_entries (numbers_in v 0))) where
+module _ (text v : List ℕ) (has : HaveSettings (lines_of text) v) (count : length v ≡ 11)
+    (few : ¬ (max_entries < all_entries (numbers_in v 0))) where
   abbrev lines : List (List ℕ)
   lines = lines_of text
 
@@ -67,7 +77,8 @@ module _ (text v : List ℕ) (has : HaveSettings (lines_of text) v) (count : len
   pub number_at : (at n : ℕ) → at < 11 → IsNumber (word_in (words_at lines at) 1) n → n ≡ slice_index v at
   number_at at n below is =
       let s = setting at below in
-      number_is (word_in (words_at lines at) 1) (slice_index v at) n (ap (λ (ws : List (List ℕ)). word_in ws 1) s.words) s.few is
+      number_is (word_in (words_at lines at) 1) (slice_index v at) n
+          (ap (λ (ws : List (List ℕ)). word_in ws 1) s.words) s.few is
 
   few_entries : (w : List ℕ) → AreSettings lines w → max_entries < all_entries (numbers_in w 0) → ⊥
   few_entries w are many =
@@ -107,28 +118,37 @@ module _ (text v : List ℕ) (has : HaveSettings (lines_of text) v) (count : len
   }
 
 -- whether this answer for numbers in range tells too many entries
-pub tells_entries : (n : Numbers) (fault : ShapeFault) (v : List ℕ) (r : Result Numbers ShapeFault) → n ≡ numbers_in v 1 → r ≡ Err fault
-    → ((f : ShapeFault) → (r ≡ Err f) ↔ IsFault n f) → AllInRange (numbers_in v 1) → (max_entries < all_entries (numbers_in v 0)) → fault ≡ TooManyEntries
+pub tells_entries : (n : Numbers) (fault : ShapeFault) (v : List ℕ) (r : Result Numbers ShapeFault) → n ≡ numbers_in v 1
+    → r ≡ Err fault
+    → ((f : ShapeFault) → (r ≡ Err f) ↔ IsFault n f) → AllInRange (numbers_in v 1)
+        → (max_entries < all_entries (numbers_in v 0)) → fault ≡ TooManyEntries
 tells_entries n fault v r same is faults range many =
-    let told : r ≡ Err TooManyEntries = (faults TooManyEntries).1 (subst (λ (m : Numbers). AllInRange m × (max_entries < all_entries m)) (sym same) (range, many)) in
+    let told : r ≡ Err TooManyEntries =
+        (faults TooManyEntries).1 (subst (λ (m : Numbers). AllInRange m
+        × (max_entries < all_entries m)) (sym same) (range, many)) in
     cc
 
-module _ (text v : List ℕ) (has : HaveSettings (lines_of text) v) (count : length v ≡ 11) (few : ¬ (max_entries < all_entries (numbers_in v 0))) where
+module _ (text v : List ℕ) (has : HaveSettings (lines_of text) v) (count : length v ≡ 11)
+    (few : ¬ (max_entries < all_entries (numbers_in v 0))) where
   -- as the code has the number of roots, the line and the lines that are left
-  pub begins_at : (roots line : ℕ) (left : List (List ℕ)) → roots ≡ slice_index v 7 → line ≡ 11 → left ≡ drop 11 (lines_of text) → Between text roots 0 0 line left
+  pub begins_at : (roots line : ℕ) (left : List (List ℕ)) → roots ≡ slice_index v 7 → line ≡ 11
+      → left ≡ drop 11 (lines_of text) → Between text roots 0 0 line left
   begins_at roots line left same at behind =
       subst (λ (r : ℕ). Between text r 0 0 line left) (sym same)
       (subst (λ (n : ℕ). Between text (slice_index v 7) 0 0 n left) (sym at)
       (subst (Between text (slice_index v 7) 0 0 11) (sym behind) (begins text v has count few)))
 
   -- the first fault where all areas have too many words together
-  pub words_first : (roots sections told m : ℕ) (n : Numbers) (r : Result Numbers ShapeFault) → Ends text roots sections told → m ≡ sections → sections ≢ 0 → sections ≤ 16 → n ≡ numbers_in v m
+  pub words_first : (roots sections told m : ℕ) (n : Numbers) (r : Result Numbers ShapeFault)
+      → Ends text roots sections told → m ≡ sections → sections ≢ 0 → sections ≤ 16 → n ≡ numbers_in v m
       → is_err r ≡ true → ((f : ShapeFault) → (r ≡ Err f) ↔ IsFault n f) → IsFirstFault text Words 11
   words_first roots sections told m n r ends same some small numbers fails fault =
       let whole : n ≡ numbers_in v sections = numbers ∙ ap (numbers_in v) same in
       let range = in_range (lines_of text) v sections has count (above_zero sections some) small in
-      let many = too_many_words n r fails fault (subst AllInRange (sym whole) range) (λ more. few (subst (λ (k : Numbers). max_entries < all_entries k) whole more)) in
-      many_words text roots sections ends.commands ends.line ([] ∷ []) ends.between refl (above_zero sections some) v (are_settings (lines_of text) v has count)
+      let many = too_many_words n r fails fault (subst AllInRange (sym whole) range)
+          (λ more. few (subst (λ (k : Numbers). max_entries < all_entries k) whole more)) in
+      many_words text roots sections ends.commands ends.line ([] ∷ []) ends.between refl (above_zero sections some) v
+          (are_settings (lines_of text) v has count)
       (subst (λ (k : Numbers). max_words < total k) whole many)
     where
       above_zero : (k : ℕ) → k ≢ 0 → 1 ≤ k

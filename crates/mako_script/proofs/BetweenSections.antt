@@ -1,5 +1,6 @@
 -- What a line between sections does to where the check stands, and the first fault there and at the end of the text.
-use Rattle.std.proofs.Common.{◌≡◌, ℕ, ◌+◌, ◌<◌, ◌≤◌, ◌⊎◌, inl, inr, Bool, not, ◌&&◌, true, false, true≢false, ◌||◌, List, [], ◌∷◌, length, refl, sym, ap, subst, ◌∙◌, arith}
+use Rattle.std.proofs.Common.{◌≡◌, ℕ, ◌+◌, ◌<◌, ◌≤◌, ◌⊎◌, inl, inr, Bool, not, ◌&&◌, true, false, true≢false, ◌||◌}
+use Rattle.std.proofs.Common.{List, [], ◌∷◌, length, refl, sym, ap, subst, ◌∙◌, arith}
 use Rattle.std.specs.Prelude.{◌≢◌, min}
 use Rattle.std.specs.List.{list_all}
 use Rattle.std.specs.Str.{bytes_eq}
@@ -10,7 +11,8 @@ use Rattle.mako_text.specs.Names.{board_name}
 use Rattle.mako_text.specs.Texts.{end_word, mutator_word}
 use Rattle.mako_reader.specs.Reading.{lines_of, numbers_in}
 use Rattle.mako_script.specs.declared.fault.Kind.{Kind}
-use Rattle.mako_script.specs.declared.fault.Kind.TheVariants.{Header, NotAscii, Word, Number, Range, Names, Undefined, NoMutator, Unclosed, Many, Entries, Words}
+use Rattle.mako_script.specs.declared.fault.Kind.TheVariants.{Header, NotAscii, Word, Number, Range, Names, Undefined}
+use Rattle.mako_script.specs.declared.fault.Kind.TheVariants.{NoMutator, Unclosed, Many, Entries, Words}
 use Rattle.mako_script.specs.Checks.{IsCut, IsLine}
 use Rattle.mako_script.specs.CommandLines.{is_among}
 use Rattle.mako_script.specs.Faults.{HasFault, IsFirstFault, LineFault, is_printable, rank}
@@ -29,7 +31,8 @@ only name is = by (bytes_eq board_name name) refl is
 board_among : (name : List ℕ) → name ≡ board_name → is_among (board_name ∷ []) name ≡ true
 board_among name same = ap (λ (b : Bool). b || false) ((bytes_eq-Decides board_name name).1 (sym same))
 
-module _ (text : List ℕ) (roots sections commands line : ℕ) (left : List (List ℕ)) (st : Between text roots sections commands line left) where
+module _ (text : List ℕ) (roots sections commands line : ℕ) (left : List (List ℕ))
+    (st : Between text roots sections commands line left) where
   abbrev lines : List (List ℕ)
   lines = lines_of text
 
@@ -38,7 +41,8 @@ module _ (text : List ℕ) (roots sections commands line : ℕ) (left : List (Li
 
   -- what may be wrong with the line
   abbrev Opening : Kind → Type 0
-  Opening k = ((k ≡ Word) × (line_in lines line ≢ mutator_word)) ⊎ ((k ≡ Many) × (line_in lines line ≡ mutator_word) × (16 ≤ sections))
+  Opening k = ((k ≡ Word) × (line_in lines line ≢ mutator_word))
+      ⊎ ((k ≡ Many) × (line_in lines line ≡ mutator_word) × (16 ≤ sections))
 
   opening_fault : (k : Kind) → LineFault lines line k → Opening k
   opening_fault Header fault = absurd (omega (arith, fault.0, st.reached.low))
@@ -60,10 +64,12 @@ module _ (text : List ℕ) (roots sections commands line : ℕ) (left : List (Li
   pub ends_here : left ≡ [] ∷ [] → (line_in lines line ≡ []) × (line ≡ ended lines)
   ends_here none = (
     sym (front lines line) ∙ ap (λ (ls : List (List ℕ)). line_in ls 0) (sym st.reached.left_is ∙ none),
-    (cut_is lines line Unclosed st.reached.within (subst (λ (ls : List (List ℕ)). IsCut ls Unclosed) (sym none ∙ st.reached.left_is) (refl, refl))).1,
+    (cut_is lines line Unclosed st.reached.within (subst (λ (ls : List (List ℕ)). IsCut ls Unclosed) (sym none
+        ∙ st.reached.left_is) (refl, refl))).1,
   )
 
-  pub cut_between : (kind : Kind) (told : ℕ) → IsCut left kind → left ≢ [] ∷ [] → told ≡ line + 1 → IsFirstFault text kind told
+  pub cut_between : (kind : Kind) (told : ℕ) → IsCut left kind → left ≢ [] ∷ [] → told ≡ line + 1
+      → IsFirstFault text kind told
   cut_between kind told cut some at = by kind cut
     where
       unclosed : list_all is_printable (line_in lines line) ≡ true → (k : Kind) → HasFault lines line k → 1 ≤ rank k
@@ -78,15 +84,20 @@ module _ (text : List ℕ) (roots sections commands line : ℕ) (left : List (Li
       one_left (l ∷ m ∷ more) count none = absurd (omega arith)
 
       not_empty : length left ≡ 1 → line_in lines line ≢ []
-      not_empty one none = some (one_left left one (ap (λ (ls : List (List ℕ)). line_in ls 0) st.reached.left_is ∙ front lines line ∙ none))
+      not_empty one none =
+          some (one_left left one (ap (λ (ls : List (List ℕ)). line_in ls 0) st.reached.left_is ∙ front lines line
+          ∙ none))
 
       by : (k : Kind) → IsCut left k → IsFirstFault text k told
       by NotAscii cut =
-          let bad = cut_is lines line NotAscii st.reached.within (subst (λ (ls : List (List ℕ)). IsCut ls NotAscii) st.reached.left_is cut) in
+          let bad = cut_is lines line NotAscii st.reached.within
+              (subst (λ (ls : List (List ℕ)). IsCut ls NotAscii) st.reached.left_is cut) in
           first_here text line NotAscii told st.reached.clean (inl (refl, bad)) at (λ k has. omega arith)
       by Unclosed cut =
-          let last = cut_is lines line Unclosed st.reached.within (subst (λ (ls : List (List ℕ)). IsCut ls Unclosed) st.reached.left_is cut) in
-          first_here text line Unclosed told st.reached.clean (inr (inr (last.1, inl (not_empty cut.1)))) at (unclosed last.0)
+          let last = cut_is lines line Unclosed st.reached.within
+              (subst (λ (ls : List (List ℕ)). IsCut ls Unclosed) st.reached.left_is cut) in
+          first_here text line Unclosed told st.reached.clean (inr (inr (last.1, inl (not_empty cut.1)))) at
+              (unclosed last.0)
       by _ cut = absurd cut
 
   -- ---- the end of the text
@@ -106,15 +117,19 @@ module _ (text : List ℕ) (roots sections commands line : ℕ) (left : List (Li
   ending_fault none _ (inr (inr end)) = absurd end.1
 
   pub no_section : left ≡ [] ∷ [] → sections ≡ 0 → (told : ℕ) → told ≡ line + 1 → IsFirstFault text NoMutator told
-  no_section none zero told at = first_here text line NoMutator told st.reached.clean (inr (inr ((ends_here none).1, st.reached.sections_are ∙ zero))) at
+  no_section none zero told at =
+      first_here text line NoMutator told st.reached.clean
+      (inr (inr ((ends_here none).1, st.reached.sections_are ∙ zero))) at
       (λ k has. elim (ending_fault none k has) [
         | inl same ↦ omega (arith, ap rank same.0)
         | inr same ↦ omega (arith, ap rank same)
       ])
 
-  pub many_words : left ≡ [] ∷ [] → 0 < sections → (v : List ℕ) → AreSettings lines v → max_words < total (numbers_in v sections) → IsFirstFault text Words 11
+  pub many_words : left ≡ [] ∷ [] → 0 < sections → (v : List ℕ) → AreSettings lines v
+      → max_words < total (numbers_in v sections) → IsFirstFault text Words 11
   many_words none some v are many = first_here text line Words 11 st.reached.clean
-      (inr (inr ((ends_here none).1, (v, are, subst (λ (n : ℕ). max_words < total (numbers_in v n)) (sym st.reached.sections_are) many)))) refl
+      (inr (inr ((ends_here none).1,
+          (v, are, subst (λ (n : ℕ). max_words < total (numbers_in v n)) (sym st.reached.sections_are) many)))) refl
       (λ k has. elim (ending_fault none k has) [
         | inl same ↦ absurd (omega (arith, same.1, some))
         | inr same ↦ omega (arith, ap rank same)
@@ -128,7 +143,8 @@ module _ (text : List ℕ) (roots sections commands line : ℕ) (left : List (Li
 
     -- a line that opens no section
     pub wrong_word : bytes_eq l mutator_word ≡ false → (told : ℕ) → told ≡ line + 1 → IsFirstFault text Word told
-    wrong_word other told at = first_here text line Word told st.reached.clean (inr (inl (nth.before_last, inl (st.between, differs)))) at
+    wrong_word other told at =
+        first_here text line Word told st.reached.clean (inr (inl (nth.before_last, inl (st.between, differs)))) at
         (λ k has. elim (opening_fault k (of_line lines line l rest nth is.2 k has)) [
           | inl same ↦ omega (arith, ap rank same.0)
           | inr same ↦ absurd (differs same.1)
@@ -151,19 +167,25 @@ module _ (text : List ℕ) (roots sections commands line : ℕ) (left : List (Li
           ])
 
       -- the section that is opened
-      pub go_open : 1 ≤ roots → sections < 16 → Inside text roots (sections + 1) commands (board_name ∷ []) (line + 1) rest
+      pub go_open : 1 ≤ roots → sections < 16
+          → Inside text roots (sections + 1) commands (board_name ∷ []) (line + 1) rest
       go_open some room = record {
         reached = record {
           left_is = nth.left_is;
           low = omega (arith, st.reached.low);
           within = omega (arith, nth.before_last);
-          clean = clean_more lines line st.reached.clean (λ k has. elim (opening_fault k (of_line lines line l rest nth is.2 k has)) [
+          clean = clean_more lines line st.reached.clean
+              (λ k has. elim (opening_fault k (of_line lines line l rest nth is.2 k has)) [
             | inl same ↦ same.1 here
             | inr same ↦ omega (arith, same.2, room)
           ]);
-          sections_are = counted_yes (bytes_eq mutator_word) lines line st.reached.low (omega (arith, nth.before_last)) (ap (bytes_eq mutator_word) here) ∙ ap (λ (n : ℕ). n + 1) st.reached.sections_are;
-          commands_are = counted_no (λ w. not (bytes_eq mutator_word w) && not (bytes_eq end_word w)) lines line st.reached.low (omega (arith, nth.before_last))
-              (ap (λ (w : List ℕ). not (bytes_eq mutator_word w) && not (bytes_eq end_word w)) here) ∙ st.reached.commands_are;
+          sections_are = counted_yes (bytes_eq mutator_word) lines line st.reached.low (omega (arith, nth.before_last))
+              (ap (bytes_eq mutator_word) here) ∙ ap (λ (n : ℕ). n + 1) st.reached.sections_are;
+          commands_are = counted_no
+              (λ w. not (bytes_eq mutator_word w) && not (bytes_eq end_word w)) lines line st.reached.low
+              (omega (arith, nth.before_last))
+              (ap (λ (w : List ℕ). not (bytes_eq mutator_word w) && not (bytes_eq end_word w)) here)
+                  ∙ st.reached.commands_are;
           number = st.reached.number;
           few_sections = omega (arith, room);
           few_commands = st.reached.few_commands;
@@ -188,14 +210,17 @@ module _ (text : List ℕ) (roots sections commands line : ℕ) (left : List (Li
 
 -- ---- as the code counts the lines, up to a greatest number
 
-module _ (text : List ℕ) (roots sections commands line next : ℕ) (left : List (List ℕ)) (st : Between text roots sections commands line left) where
+module _ (text : List ℕ) (roots sections commands line next : ℕ) (left : List (List ℕ))
+    (st : Between text roots sections commands line left) where
   pub next_line : next ≡ min (line + 1) 4294967295 → next ≡ line + 1
   next_line e = omega (arith, e, st.early, st.reached.few_sections, st.reached.few_commands)
 
-  pub opens_one : (l : List ℕ) (rest : List (List ℕ)) → IsLine left l rest → bytes_eq l mutator_word ≡ true → 1 ≤ roots → sections < 16 → next ≡ min (line + 1) 4294967295
+  pub opens_one : (l : List ℕ) (rest : List (List ℕ)) → IsLine left l rest → bytes_eq l mutator_word ≡ true → 1 ≤ roots
+      → sections < 16 → next ≡ min (line + 1) 4294967295
       → Inside text roots (sections + 1) commands (board_name ∷ []) next rest
   opens_one l rest is opens some room e =
-      subst (λ (n : ℕ). Inside text roots (sections + 1) commands (board_name ∷ []) n rest) (sym (next_line e)) (go_open text roots sections commands line left st l rest is opens some room)
+      subst (λ (n : ℕ). Inside text roots (sections + 1) commands (board_name ∷ []) n rest) (sym (next_line e))
+          (go_open text roots sections commands line left st l rest is opens some room)
 
   pub ends : left ≡ [] ∷ [] → next ≡ min (line + 1) 4294967295 → Ends text roots sections next
   ends none e = record {

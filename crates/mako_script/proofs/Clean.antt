@@ -1,5 +1,6 @@
 -- A command line that is read has no fault, and what it defines is among the names behind it.
-use Rattle.std.proofs.Common.{◌≡◌, ℕ, zero, suc, ◌+◌, ◌<◌, ◌≤◌, ◌⊎◌, inl, inr, Bool, true, false, true≢false, ◌||◌, List, [], ◌∷◌, ◌++◌, length, slice_get, Some, None, refl, sym, ap, subst, ◌∙◌, arith}
+use Rattle.std.proofs.Common.{◌≡◌, ℕ, zero, suc, ◌+◌, ◌<◌, ◌≤◌, ◌⊎◌, inl, inr, Bool, true, false, true≢false, ◌||◌}
+use Rattle.std.proofs.Common.{List, [], ◌∷◌, ◌++◌, length, slice_get, Some, None, refl, sym, ap, subst, ◌∙◌, arith}
 use Rattle.std.specs.Prelude.{is_some}
 use Rattle.std.specs.Fmt.{decimal}
 use Rattle.std.specs.Str.{bytes_eq}
@@ -18,7 +19,8 @@ use Rattle.mako_script.specs.CommandLines.{CommandFault, IsRead, is_among}
 use Rattle.mako_script.specs.Lines.{greatest, word_in, HasArgument, IsCommand}
 use Rattle.mako_script.specs.States.{AreApart}
 use Rattle.mako_text.specs.Names.{is_name, name_of}
-use Rattle.mako_reader.specs.Reading.{◌>>=◌, arguments_at, call_of, command_at, command_named, define_at, defines, kinds_of, name_at, names_after, word_at}
+use Rattle.mako_reader.specs.Reading.{◌>>=◌, arguments_at, call_of, command_at, command_named, define_at, defines}
+use Rattle.mako_reader.specs.Reading.{kinds_of, name_at, names_after, word_at}
 use Rattle.mako_script.proofs.Commands.{among_any, among_place, first_kind, not_placed}
 use Rattle.mako_reader.proofs.NameLists.{define_full, define_known, define_new}
 use Rattle.mako_script.proofs.GoodSettings.{number_is}
@@ -26,8 +28,10 @@ use Rattle.mako_reader.proofs.Takes.{Takes, TakesEach, arguments_take, bind_some
 
 -- ---- what is read
 
-taken_at : (names : List (List ℕ)) (kinds : List Argument) (words : List (List ℕ)) (vs : List ℕ) → TakesEach names kinds words vs
-    → (place : ℕ) (kind : Argument) → slice_get kinds place ≡ Some kind → (v : ℕ) × Takes names kind (word_in words place) v
+taken_at : (names : List (List ℕ)) (kinds : List Argument) (words : List (List ℕ)) (vs : List ℕ)
+    → TakesEach names kinds words vs
+    → (place : ℕ) (kind : Argument) → slice_get kinds place ≡ Some kind → (v : ℕ)
+        × Takes names kind (word_in words place) v
 taken_at names [] words vs h place kind e = absurd cc
 taken_at names (k ∷ ks) words vs h zero kind e =
     let same : k ≡ kind = some_is k kind e in
@@ -37,7 +41,8 @@ taken_at names (k ∷ ks) words vs h (suc place) kind e =
     let t = taken_at names ks h.1 h.3 h.7 place kind e in
     (t.0, subst (λ (ws : List (List ℕ)). Takes names kind (word_in ws (suc place)) t.0) (sym h.4) t.1)
 
-length_taken : (names : List (List ℕ)) (kinds : List Argument) (words : List (List ℕ)) (vs : List ℕ) → TakesEach names kinds words vs → length words ≡ length kinds
+length_taken : (names : List (List ℕ)) (kinds : List Argument) (words : List (List ℕ)) (vs : List ℕ)
+    → TakesEach names kinds words vs → length words ≡ length kinds
 length_taken names [] words vs h = ap length h.0
 length_taken names (k ∷ ks) words vs h = ap length h.4 ∙ ap suc (length_taken names ks h.1 h.3 h.7)
 
@@ -51,13 +56,19 @@ pub record CommandLine (roots : ℕ) (names words after : List (List ℕ)) : Typ
   pub each : TakesEach names (kinds_of command) behind values
   pub next : names_after (defines command) roots names behind ≡ Some after
 
-pub line_from : (roots : ℕ) (names words after : List (List ℕ)) → IsRead roots names words after → CommandLine roots names words after
+pub line_from : (roots : ℕ) (names words after : List (List ℕ)) → IsRead roots names words after
+    → CommandLine roots names words after
 unfolding command_at
 line_from roots names words after (call, e) =
     let c : Call × List (List ℕ) = (call, after) in
-    let w = bind_some (word_at words) (λ w. command_named w.0 >>= λ command. arguments_at names (kinds_of command) w.1 >>= λ vs. names_after (defines command) roots names w.1 >>= λ after. Some (call_of command vs, after)) c e in
-    let k = bind_some (command_named w.0.0) (λ command. arguments_at names (kinds_of command) w.0.1 >>= λ vs. names_after (defines command) roots names w.0.1 >>= λ after. Some (call_of command vs, after)) c w.2 in
-    let v = bind_some (arguments_at names (kinds_of k.0) w.0.1) (λ vs. names_after (defines k.0) roots names w.0.1 >>= λ after. Some (call_of k.0 vs, after)) c k.2 in
+    let w = bind_some (word_at words)
+        (λ w. command_named w.0 >>= λ command. arguments_at names (kinds_of command) w.1 >>= λ vs. names_after
+        (defines command) roots names w.1 >>= λ after. Some (call_of command vs, after)) c e in
+    let k = bind_some (command_named w.0.0)
+        (λ command. arguments_at names (kinds_of command) w.0.1 >>= λ vs. names_after
+        (defines command) roots names w.0.1 >>= λ after. Some (call_of command vs, after)) c w.2 in
+    let v = bind_some (arguments_at names (kinds_of k.0) w.0.1)
+        (λ vs. names_after (defines k.0) roots names w.0.1 >>= λ after. Some (call_of k.0 vs, after)) c k.2 in
     let n = bind_some (names_after (defines k.0) roots names w.0.1) (λ after. Some (call_of k.0 v.0, after)) c v.2 in
     record {
       word = w.0.0;
@@ -70,27 +81,34 @@ line_from roots names words after (call, e) =
       next = n.1 ∙ ap (λ (x : Call × List (List ℕ)). Some x.1) (some_is (call_of k.0 v.0, n.0) c n.2);
     }
 
-pub behind_at : (words : List (List ℕ)) (word : List ℕ) (behind : List (List ℕ)) (place : ℕ) → words ≡ word ∷ behind → word_in words (place + 1) ≡ word_in behind place
+pub behind_at : (words : List (List ℕ)) (word : List ℕ) (behind : List (List ℕ)) (place : ℕ) → words ≡ word ∷ behind
+    → word_in words (place + 1) ≡ word_in behind place
 behind_at words word behind place e =
     let next : place + 1 ≡ suc place = omega arith in
     ap (λ (t : List (List ℕ)). word_in t (place + 1)) e ∙ ap (word_in (word ∷ behind)) next
 
-spelled_name : (names : List (List ℕ)) (kind : Argument) (w : List ℕ) (v : ℕ) → greatest kind ≡ None → Takes names kind w v → is_name w ≡ true
+spelled_name : (names : List (List ℕ)) (kind : Argument) (w : List ℕ) (v : ℕ) → greatest kind ≡ None
+    → Takes names kind w v → is_name w ≡ true
 spelled_name names arguments.Defined w v none t = t.0
 spelled_name names arguments.Read w v none t = t.0
 spelled_name names arguments.Fields w v none t = absurd cc
 spelled_name names arguments.Index w v none t = absurd cc
 spelled_name names arguments.Number w v none t = absurd cc
 
-number_taken : (names : List (List ℕ)) (kind : Argument) (w : List ℕ) (v most : ℕ) → greatest kind ≡ Some most → Takes names kind w v → (w ≡ decimal v) × (v ≤ most) × (v < 10000000000)
+number_taken : (names : List (List ℕ)) (kind : Argument) (w : List ℕ) (v most : ℕ) → greatest kind ≡ Some most
+    → Takes names kind w v → (w ≡ decimal v) × (v ≤ most) × (v < 10000000000)
 number_taken names arguments.Defined w v most some t = absurd cc
 number_taken names arguments.Read w v most some t = absurd cc
-number_taken names arguments.Fields w v most some t = let same : 14 ≡ most = some_is 14 most some in (t.0, omega (arith, t.1), omega (arith, t.1))
-number_taken names arguments.Index w v most some t = let same : 13 ≡ most = some_is 13 most some in (t.0, omega (arith, t.1), omega (arith, t.1))
-number_taken names arguments.Number w v most some t = let same : 4294967295 ≡ most = some_is 4294967295 most some in (t.0, omega (arith, t.1), omega (arith, t.1))
+number_taken names arguments.Fields w v most some t = let same : 14 ≡ most = some_is 14 most some in
+    (t.0, omega (arith, t.1), omega (arith, t.1))
+number_taken names arguments.Index w v most some t = let same : 13 ≡ most = some_is 13 most some in
+    (t.0, omega (arith, t.1), omega (arith, t.1))
+number_taken names arguments.Number w v most some t = let same : 4294967295 ≡ most = some_is 4294967295 most some in
+    (t.0, omega (arith, t.1), omega (arith, t.1))
 
 -- only the first argument is defined, of the commands that define one
-defined_first : (command : Command) (place : ℕ) → slice_get (kinds_of command) place ≡ Some arguments.Defined → (defines command ≡ true) × (place ≡ 0)
+defined_first : (command : Command) (place : ℕ) → slice_get (kinds_of command) place ≡ Some arguments.Defined
+    → (defines command ≡ true) × (place ≡ 0)
 defined_first New zero e = (refl, refl)
 defined_first New (suc zero) e = absurd cc
 defined_first New (suc (suc place)) e = absurd cc
@@ -124,12 +142,15 @@ among_at names a below =
     let here = (bytes_eq-Decides (name_of names a) (name_of names a)).1 refl in
     among_any names (name_of names a) ∙ list_any_at (bytes_eq (name_of names a)) names a [] below here
 
-push_apart : (names : List (List ℕ)) (word : List ℕ) → AreApart names → is_among names word ≡ false → AreApart (names ++ word ∷ [])
+push_apart : (names : List (List ℕ)) (word : List ℕ) → AreApart names → is_among names word ≡ false
+    → AreApart (names ++ word ∷ [])
 push_apart names word apart none a b less below same = elim (cases_lt b (length names)) [
-  | inl old ↦ apart a b less old (sym (get_or_append_left names (word ∷ []) [] a (omega arith)) ∙ same ∙ get_or_append_left names (word ∷ []) [] b old)
+  | inl old ↦ apart a b less old (sym (get_or_append_left names (word ∷ []) [] a (omega arith)) ∙ same
+      ∙ get_or_append_left names (word ∷ []) [] b old)
   | inr new ↦ (
       let last : length names ≡ b = omega (arith, below, length_push names word) in
-      let is = sym (get_or_append_left names (word ∷ []) [] a (omega (arith, less, last))) ∙ same ∙ get_or_push names word [] b last in
+      let is = sym (get_or_append_left names (word ∷ []) [] a (omega (arith, less, last))) ∙ same
+          ∙ get_or_push names word [] b last in
       true≢false (sym (among_at names a (omega (arith, less, last))) ∙ ap (is_among names) is ∙ none))
 ]
 
@@ -137,10 +158,12 @@ module _ (roots : ℕ) (names words after : List (List ℕ)) (line : CommandLine
   pub is_command : IsCommand words line.command
   is_command = record {
     named = ap (λ (t : List (List ℕ)). command_named (word_in t 0)) line.words_are ∙ line.named;
-    count = omega (arith, ap length line.words_are, length_taken names (kinds_of line.command) line.behind line.values line.each);
+    count = omega (arith, ap length line.words_are, length_taken names
+        (kinds_of line.command) line.behind line.values line.each);
     names = λ place kind e none.
         let t = taken_at names (kinds_of line.command) line.behind line.values line.each place kind e in
-        ap is_name (behind_at words line.word line.behind place line.words_are) ∙ spelled_name names kind (word_in line.behind place) t.0 none t.1;
+        ap is_name (behind_at words line.word line.behind place line.words_are)
+            ∙ spelled_name names kind (word_in line.behind place) t.0 none t.1;
   }
 
   same_command : (command : Command) → IsCommand words command → command ≡ line.command
@@ -150,10 +173,12 @@ module _ (roots : ℕ) (names words after : List (List ℕ)) (line : CommandLine
   argument_taken kind word (command, place, is, among, spelled) =
       let at = ap (λ (c : Command). slice_get (kinds_of c) place) (sym (same_command command is)) ∙ among in
       let t = taken_at names (kinds_of line.command) line.behind line.values line.each place kind at in
-      (t.0, subst (λ (w : List ℕ). Takes names kind w t.0) (sym (spelled ∙ behind_at words line.word line.behind place line.words_are)) t.1)
+      (t.0, subst (λ (w : List ℕ). Takes names kind w t.0) (sym (spelled
+          ∙ behind_at words line.word line.behind place line.words_are)) t.1)
 
   -- the first argument, of a command that defines it
-  defined_is : (name : List ℕ) → HasArgument words arguments.Defined name → (defines line.command ≡ true) × (name ≡ word_in line.behind 0)
+  defined_is : (name : List ℕ) → HasArgument words arguments.Defined name → (defines line.command ≡ true)
+      × (name ≡ word_in line.behind 0)
   defined_is name (command, place, is, among, spelled) =
       let at = ap (λ (c : Command). slice_get (kinds_of c) place) (sym (same_command command is)) ∙ among in
       let first = defined_first line.command place at in
@@ -161,14 +186,17 @@ module _ (roots : ℕ) (names words after : List (List ℕ)) (line : CommandLine
 
   defines_it : defines line.command ≡ true → HasArgument words arguments.Defined (word_in line.behind 0)
   defines_it some =
-      (line.command, 0, is_command, first_kind line.command some, sym (behind_at words line.word line.behind 0 line.words_are))
+      (line.command, 0, is_command, first_kind line.command some, sym
+          (behind_at words line.word line.behind 0 line.words_are))
 
   defined_so : defines line.command ≡ true → define_at roots names (word_in line.behind 0) ≡ Some after
   defined_so some =
-      let next : names_after true roots names line.behind ≡ Some after = ap (λ (b : Bool). names_after b roots names line.behind) (sym some) ∙ line.next in
+      let next : names_after true roots names line.behind ≡ Some after =
+          ap (λ (b : Bool). names_after b roots names line.behind) (sym some) ∙ line.next in
       let w = bind_some (word_at line.behind) (λ w. name_at w.0 >>= λ name. define_at roots names name) after next in
       let n = bind_some (name_at w.0.0) (λ name. define_at roots names name) after w.2 in
-      let first : word_in line.behind 0 ≡ w.0.0 = ap (λ (t : List (List ℕ)). word_in t 0) (word_takes line.behind w.0 w.1) in
+      let first : word_in line.behind 0 ≡ w.0.0 =
+          ap (λ (t : List (List ℕ)). word_in t 0) (word_takes line.behind w.0 w.1) in
       ap (define_at roots names) (first ∙ (name_takes w.0.0 n.0 n.1).1) ∙ n.2
 
   pub no_fault : (k : Kind) → CommandFault names roots words k → ⊥
@@ -202,33 +230,42 @@ module _ (roots : ℕ) (names words after : List (List ℕ)) (line : CommandLine
   abbrev NamesAfter : Type 0
   NamesAfter =
       ((after ≡ names) × (defines line.command ≡ true → is_among names (word_in line.behind 0) ≡ true))
-      ⊎ ((defines line.command ≡ true) × (after ≡ names ++ word_in line.behind 0 ∷ []) × (is_among names (word_in line.behind 0) ≡ false) × (length names < roots))
+      ⊎ ((defines line.command ≡ true) × (after ≡ names ++ word_in line.behind 0 ∷ [])
+          × (is_among names (word_in line.behind 0) ≡ false) × (length names < roots))
 
   names_are : NamesAfter
   names_are = by (defines line.command) refl
     where
-      room : (w : List ℕ) → define_at roots names w ≡ Some after → is_among names w ≡ false → (after ≡ names ++ w ∷ []) × (length names < roots)
+      room : (w : List ℕ) → define_at roots names w ≡ Some after → is_among names w ≡ false → (after ≡ names ++ w ∷ [])
+          × (length names < roots)
       room w made none = elim (cases_lt (length names) roots) [
-        | inl below ↦ (sym (some_is (names ++ w ∷ []) after (sym (define_new roots names w (not_placed names w none) below) ∙ made)), below)
-        | inr full ↦ absurd (let no : None ≡ Some after = sym (define_full roots names w (not_placed names w none) full) ∙ made in cc)
+        | inl below ↦ (sym (some_is (names ++ w ∷ []) after
+            (sym (define_new roots names w (not_placed names w none) below) ∙ made)), below)
+        | inr full ↦ absurd (let no : None ≡ Some after = sym (define_full roots names w (not_placed names w none) full)
+            ∙ made in cc)
       ]
 
       same : defines line.command ≡ true → is_among names (word_in line.behind 0) ≡ true → after ≡ names
       same some known =
           let p = among_place names (word_in line.behind 0) known in
-          sym (some_is names after (sym (define_known roots names (word_in line.behind 0) (ap is_some p.1)) ∙ defined_so some))
+          sym (some_is names after (sym (define_known roots names (word_in line.behind 0) (ap is_some p.1))
+              ∙ defined_so some))
 
       defined : defines line.command ≡ true → (b : Bool) → is_among names (word_in line.behind 0) ≡ b → NamesAfter
       defined some true known = inl (same some known, λ e. known)
-      defined some false none = let made = room (word_in line.behind 0) (defined_so some) none in inr (some, made.0, none, made.1)
+      defined some false none = let made = room (word_in line.behind 0) (defined_so some) none in
+          inr (some, made.0, none, made.1)
 
       by : (b : Bool) → defines line.command ≡ b → NamesAfter
       by true some = defined some (is_among names (word_in line.behind 0)) refl
-      by false none = inl (sym (some_is names after (ap (λ (b : Bool). names_after b roots names line.behind) (sym none) ∙ line.next)), λ e. absurd (true≢false (sym e ∙ none)))
+      by false none = inl (sym (some_is names after (ap (λ (b : Bool). names_after b roots names line.behind) (sym none)
+          ∙ line.next)), λ e. absurd (true≢false (sym e ∙ none)))
 
-  pushed : (name : List ℕ) → after ≡ names ++ word_in line.behind 0 ∷ [] → is_among after name ≡ (is_among names name || (bytes_eq (word_in line.behind 0) name || false))
+  pushed : (name : List ℕ) → after ≡ names ++ word_in line.behind 0 ∷ []
+      → is_among after name ≡ (is_among names name || (bytes_eq (word_in line.behind 0) name || false))
   pushed name new =
-      ap (λ (t : List (List ℕ)). is_among t name) new ∙ list_any-append (λ (w : List ℕ). bytes_eq w name) names (word_in line.behind 0 ∷ [])
+      ap (λ (t : List (List ℕ)). is_among t name) new
+          ∙ list_any-append (λ (w : List ℕ). bytes_eq w name) names (word_in line.behind 0 ∷ [])
 
   -- a name that is there stays, and one that the line defines comes
   pub grows : (name : List ℕ) → is_among names name ≡ true → is_among after name ≡ true
@@ -243,21 +280,27 @@ module _ (roots : ℕ) (names words after : List (List ℕ)) (line : CommandLine
       elim names_are [
         | inl same ↦ ap (λ (t : List (List ℕ)). is_among t name) same.0 ∙ ap (is_among names) d.1 ∙ same.1 d.0
         | inr new ↦ (
-            let here : bytes_eq (word_in line.behind 0) name ≡ true = (bytes_eq-Decides (word_in line.behind 0) name).1 (sym d.1) in
-            pushed name new.1 ∙ ap (λ (b : Bool). is_among names name || (b || false)) here ∙ or_true (is_among names name))
+            let here : bytes_eq (word_in line.behind 0) name ≡ true =
+                (bytes_eq-Decides (word_in line.behind 0) name).1 (sym d.1) in
+            pushed name new.1 ∙ ap (λ (b : Bool). is_among names name || (b || false)) here
+                ∙ or_true (is_among names name))
       ]
 
-  pub known_after : (name : List ℕ) → is_among after name ≡ true → (is_among names name ≡ true) ⊎ HasArgument words arguments.Defined name
+  pub known_after : (name : List ℕ) → is_among after name ≡ true → (is_among names name ≡ true)
+      ⊎ HasArgument words arguments.Defined name
   known_after name is = elim names_are [
     | inl same ↦ inl (ap (λ (t : List (List ℕ)). is_among t name) (sym same.0) ∙ is)
-    | inr new ↦ by new.0 (is_among names name) (bytes_eq (word_in line.behind 0) name) refl refl (sym (pushed name new.1) ∙ is)
+    | inr new ↦ by new.0 (is_among names name) (bytes_eq (word_in line.behind 0) name) refl refl
+        (sym (pushed name new.1) ∙ is)
   ]
     where
-      by : defines line.command ≡ true → (a b : Bool) → is_among names name ≡ a → bytes_eq (word_in line.behind 0) name ≡ b → (a || (b || false)) ≡ true
+      by : defines line.command ≡ true → (a b : Bool) → is_among names name ≡ a
+          → bytes_eq (word_in line.behind 0) name ≡ b → (a || (b || false)) ≡ true
           → (is_among names name ≡ true) ⊎ HasArgument words arguments.Defined name
       by some true b known same e = inl known
       by some false true known same e =
-          inr (subst (HasArgument words arguments.Defined) ((bytes_eq-Decides (word_in line.behind 0) name).0 same) (defines_it some))
+          inr (subst (HasArgument words arguments.Defined) ((bytes_eq-Decides (word_in line.behind 0) name).0 same)
+              (defines_it some))
       by some false false known same e = absurd cc
 
   -- names that are apart and few stay so

@@ -1,5 +1,7 @@
 -- A command line whose words may all stand there is read.
-use Rattle.std.proofs.Common.{◌≡◌, ℕ, suc, ◌<◌, ◌⊎◌, inl, inr, Bool, true, false, true≢false, ltb, ◌||◌, List, [], ◌∷◌, ◌++◌, length, map, get_or, slice_get, Option, Some, None, refl, sym, ap, subst, ◌∙◌, arith}
+use Rattle.std.proofs.Common.{◌≡◌, ℕ, suc, ◌<◌, ◌⊎◌, inl, inr, Bool, true, false, true≢false, ltb, ◌||◌, List, [], ◌∷◌}
+use Rattle.std.proofs.Common.{◌++◌, length, map, get_or, slice_get, Option, Some, None, refl, sym, ap, subst, ◌∙◌}
+use Rattle.std.proofs.Common.{arith}
 use Rattle.std.specs.Prelude.{is_some, unwrap_or, Ok}
 use Rattle.std.specs.Bool.{one_answer}
 use Rattle.std.specs.List.{list_any}
@@ -14,17 +16,20 @@ use Rattle.mako_reader.specs.declared.command.Command.TheVariants.{New, Num, Cop
 use Rattle.mako_script.specs.Checks.{IsValue}
 use Rattle.mako_script.specs.CommandLines.{AreArguments, IsArgument, IsRead, is_among}
 use Rattle.mako_script.specs.Lines.{word_in}
-use Rattle.mako_reader.specs.Reading.{argument_at, arguments_at, call_of, command_at, command_named, defines, each_at, kinds_of, names_after, number_at, place_at, value_at, within_at}
+use Rattle.mako_reader.specs.Reading.{argument_at, arguments_at, call_of, command_at, command_named, defines, each_at}
+use Rattle.mako_reader.specs.Reading.{kinds_of, names_after, number_at, place_at, value_at, within_at}
 use Rattle.mako_reader.proofs.Digits.{ten_digits_again}
 use Rattle.mako_reader.proofs.NameLists.{define_known, define_new, no_place, place_takes}
 
 -- ---- names
 
-any_of_map : {X Y : Type 0} (t : Y → Bool) (f : X → Y) (xs : List X) → list_any t (map f xs) ≡ list_any (λ x. t (f x)) xs
+any_of_map : {X Y : Type 0} (t : Y → Bool) (f : X → Y) (xs : List X)
+    → list_any t (map f xs) ≡ list_any (λ x. t (f x)) xs
 any_of_map t f [] = refl
 any_of_map t f (x ∷ xs) = ap (λ (b : Bool). t (f x) || b) (any_of_map t f xs)
 
-pub among_all : {X : Type 0} (f : X → List ℕ) (xs : List X) (word : List ℕ) → list_any (λ x. bytes_eq (f x) word) xs ≡ is_among (map f xs) word
+pub among_all : {X : Type 0} (f : X → List ℕ) (xs : List X) (word : List ℕ)
+    → list_any (λ x. bytes_eq (f x) word) xs ≡ is_among (map f xs) word
 among_all f xs word = sym (any_of_map (λ (name : List ℕ). bytes_eq name word) f xs)
 
 pub turned : (word name : List ℕ) → bytes_eq name word ≡ bytes_eq word name
@@ -35,17 +40,20 @@ turned word name =
 pub among_any : (names : List (List ℕ)) (word : List ℕ) → is_among names word ≡ list_any (bytes_eq word) names
 among_any [] word = refl
 among_any (name ∷ names) word =
-    (λ i. turned word name i || list_any (λ (n : List ℕ). bytes_eq n word) names) ∙ ap (λ (b : Bool). bytes_eq word name || b) (among_any names word)
+    (λ i. turned word name i || list_any (λ (n : List ℕ). bytes_eq n word) names)
+        ∙ ap (λ (b : Bool). bytes_eq word name || b) (among_any names word)
 
 -- a name that is among others has a place there
-pub among_place : (names : List (List ℕ)) (word : List ℕ) → is_among names word ≡ true → (root : ℕ) × (place_at names word ≡ Some root)
+pub among_place : (names : List (List ℕ)) (word : List ℕ) → is_among names word ≡ true → (root : ℕ)
+    × (place_at names word ≡ Some root)
 among_place names word is = by (place_at names word) refl
   where
     by : (o : Option ℕ) → place_at names word ≡ o → (root : ℕ) × (place_at names word ≡ Some root)
     by (Some root) e = (root, e)
     by None e = absurd (true≢false (sym is ∙ among_any names word ∙ no_place names word e))
 
-pub not_placed : (names : List (List ℕ)) (word : List ℕ) → is_among names word ≡ false → is_some (place_at names word) ≡ false
+pub not_placed : (names : List (List ℕ)) (word : List ℕ) → is_among names word ≡ false
+    → is_some (place_at names word) ≡ false
 not_placed names word none = by (place_at names word) refl
   where
     by : (o : Option ℕ) → place_at names word ≡ o → is_some o ≡ false
@@ -53,7 +61,8 @@ not_placed names word none = by (place_at names word) refl
     by (Some root) e =
         let h = place_takes names word root e in
         let here = (bytes_eq-Decides word (get_or names root [])).1 (sym h.1) in
-        absurd (true≢false (sym (list_any_at (bytes_eq word) names root [] h.0 here) ∙ sym (among_any names word) ∙ none))
+        absurd (true≢false (sym (list_any_at (bytes_eq word) names root [] h.0 here) ∙ sym (among_any names word)
+            ∙ none))
 
 -- ---- arguments
 
@@ -64,7 +73,8 @@ within_is low high word n is =
     let test : (ltb n low || ltb high n) ≡ false = grind (arith, nat_tests, is.1, is.2) in
     rw (read, test) refl
 
-argument_reads : (names : List (List ℕ)) (roots : ℕ) (kind : Argument) (word : List ℕ) → IsArgument names roots kind word → (v : ℕ) × (argument_at names kind word ≡ Some v)
+argument_reads : (names : List (List ℕ)) (roots : ℕ) (kind : Argument) (word : List ℕ)
+    → IsArgument names roots kind word → (v : ℕ) × (argument_at names kind word ≡ Some v)
 unfolding argument_at
 argument_reads names roots arguments.Defined word is = (unwrap_or (place_at names word) (length names), rw is.0 refl)
 argument_reads names roots arguments.Read word is = let p = among_place names word is.1 in (p.0, rw is.0 p.1)
@@ -72,7 +82,8 @@ argument_reads names roots arguments.Fields word is = (is.0, within_is 0 14 word
 argument_reads names roots arguments.Index word is = (is.0, within_is 0 13 word is.0 is.1)
 argument_reads names roots arguments.Number word is = (is.0, within_is 0 4294967295 word is.0 is.1)
 
-each_reads : (names : List (List ℕ)) (roots : ℕ) (kinds : List Argument) (words : List (List ℕ)) → length words ≡ length kinds → AreArguments names roots kinds words
+each_reads : (names : List (List ℕ)) (roots : ℕ) (kinds : List Argument) (words : List (List ℕ))
+    → length words ≡ length kinds → AreArguments names roots kinds words
     → (vs : List ℕ) × (each_at (value_at names) kinds words ≡ Some (vs, []))
 unfolding each_at value_at
 each_reads names roots [] [] same are = ([], refl)
@@ -83,7 +94,8 @@ each_reads names roots (k ∷ ks) (w ∷ ws) same are =
     let others = each_reads names roots ks ws (omega arith) (λ place kind e. are (suc place) kind e) in
     (one.0 ∷ others.0, rw (one.1, others.1) refl)
 
-arguments_read : (names : List (List ℕ)) (roots : ℕ) (kinds : List Argument) (words : List (List ℕ)) → length words ≡ length kinds → AreArguments names roots kinds words
+arguments_read : (names : List (List ℕ)) (roots : ℕ) (kinds : List Argument) (words : List (List ℕ))
+    → length words ≡ length kinds → AreArguments names roots kinds words
     → (vs : List ℕ) × (arguments_at names kinds words ≡ Some vs)
 unfolding arguments_at
 arguments_read names roots kinds words same are =
@@ -103,15 +115,18 @@ first_kind Show e = absurd cc
 first_kind Collect e = absurd cc
 
 -- the words of a command's line, with its arguments
-pub record HasCommand (roots : ℕ) (names : List (List ℕ)) (words : List (List ℕ)) (command : Command) (behind : List (List ℕ)) : Type 0 where
+pub record HasCommand (roots : ℕ) (names : List (List ℕ)) (words : List (List ℕ)) (command : Command)
+    (behind : List (List ℕ)) : Type 0 where
   pub word : List ℕ
   pub words_are : words ≡ word ∷ behind
   pub named : command_named word ≡ Some command
   pub count : length behind ≡ length (kinds_of command)
   pub are : AreArguments names roots (kinds_of command) behind
 
-pub has_command : (roots : ℕ) (names words : List (List ℕ)) (command : Command) (behind : List (List ℕ)) (word : List ℕ) (rest : List (List ℕ)) (kinds : List Argument)
-    → words ≡ word ∷ rest → behind ≡ rest → command_named word ≡ Some command → length behind ≡ length kinds → kinds ≡ kinds_of command
+pub has_command : (roots : ℕ) (names words : List (List ℕ)) (command : Command) (behind : List (List ℕ)) (word : List ℕ)
+    (rest : List (List ℕ)) (kinds : List Argument)
+    → words ≡ word ∷ rest → behind ≡ rest → command_named word ≡ Some command → length behind ≡ length kinds
+        → kinds ≡ kinds_of command
     → AreArguments names roots kinds behind → HasCommand roots names words command behind
 has_command roots names words command behind word rest kinds words_are same named count kinds_are are = record {
   word = word;
@@ -121,7 +136,8 @@ has_command roots names words command behind word rest kinds words_are same name
   are = subst (λ (ks : List Argument). AreArguments names roots ks behind) kinds_are are;
 }
 
-reads : (roots : ℕ) (names words : List (List ℕ)) (command : Command) (behind after : List (List ℕ)) → HasCommand roots names words command behind
+reads : (roots : ℕ) (names words : List (List ℕ)) (command : Command) (behind after : List (List ℕ))
+    → HasCommand roots names words command behind
     → names_after (defines command) roots names behind ≡ Some after → IsRead roots names words after
 unfolding command_at
 reads roots names words command behind after has next =
@@ -129,7 +145,8 @@ reads roots names words command behind after has next =
     (call_of command values.0, rw (has.words_are, has.named, values.1, next) refl)
 
 -- the first argument of a command that defines it
-first_word : (names : List (List ℕ)) (roots : ℕ) (command : Command) (behind : List (List ℕ)) → defines command ≡ true → length behind ≡ length (kinds_of command)
+first_word : (names : List (List ℕ)) (roots : ℕ) (command : Command) (behind : List (List ℕ)) → defines command ≡ true
+    → length behind ≡ length (kinds_of command)
     → (ws : List (List ℕ)) × (behind ≡ word_in behind 0 ∷ ws)
 first_word names roots New [] e count = absurd (omega arith)
 first_word names roots Num [] e count = absurd (omega arith)
@@ -141,11 +158,13 @@ first_word names roots Show [] e count = absurd cc
 first_word names roots Collect [] e count = absurd cc
 first_word names roots command (w ∷ ws) e count = (ws, refl)
 
-pub reads_plain : (roots : ℕ) (names words : List (List ℕ)) (command : Command) (behind : List (List ℕ)) → HasCommand roots names words command behind
+pub reads_plain : (roots : ℕ) (names words : List (List ℕ)) (command : Command) (behind : List (List ℕ))
+    → HasCommand roots names words command behind
     → defines command ≡ false → IsRead roots names words names
 reads_plain roots names words command behind has none = reads roots names words command behind names has (rw none refl)
 
-pub reads_known : (roots : ℕ) (names words : List (List ℕ)) (command : Command) (behind : List (List ℕ)) → HasCommand roots names words command behind
+pub reads_known : (roots : ℕ) (names words : List (List ℕ)) (command : Command) (behind : List (List ℕ))
+    → HasCommand roots names words command behind
     → defines command ≡ true → is_among names (word_in behind 0) ≡ true → IsRead roots names words names
 reads_known roots names words command behind has some known =
     let first = first_word names roots command behind some has.count in
@@ -154,8 +173,10 @@ reads_known roots names words command behind has some known =
     let defined = define_known roots names (word_in behind 0) (ap is_some place.1) in
     reads roots names words command behind names has (rw (some, first.1, spelled) defined)
 
-pub reads_new : (roots : ℕ) (names words : List (List ℕ)) (command : Command) (behind : List (List ℕ)) → HasCommand roots names words command behind
-    → defines command ≡ true → is_among names (word_in behind 0) ≡ false → length names < roots → IsRead roots names words (names ++ word_in behind 0 ∷ [])
+pub reads_new : (roots : ℕ) (names words : List (List ℕ)) (command : Command) (behind : List (List ℕ))
+    → HasCommand roots names words command behind
+    → defines command ≡ true → is_among names (word_in behind 0) ≡ false → length names < roots
+        → IsRead roots names words (names ++ word_in behind 0 ∷ [])
 reads_new roots names words command behind has some unknown room =
     let first = first_word names roots command behind some has.count in
     let spelled = (has.are 0 arguments.Defined (first_kind command some)).0 in
@@ -163,9 +184,11 @@ reads_new roots names words command behind has some unknown room =
     reads roots names words command behind (names ++ word_in behind 0 ∷ []) has (rw (some, first.1, spelled) defined)
 
 -- an argument that is not among the names has room
-pub has_room : (roots : ℕ) (names words : List (List ℕ)) (command : Command) (behind : List (List ℕ)) → HasCommand roots names words command behind
+pub has_room : (roots : ℕ) (names words : List (List ℕ)) (command : Command) (behind : List (List ℕ))
+    → HasCommand roots names words command behind
     → defines command ≡ true → is_among names (word_in behind 0) ≡ false → length names < roots
-has_room roots names words command behind has some unknown = by (has.are 0 arguments.Defined (first_kind command some)).1
+has_room roots names words command behind has some unknown =
+    by (has.are 0 arguments.Defined (first_kind command some)).1
   where
     by : (is_among names (word_in behind 0) ≡ true) ⊎ (length names < roots) → length names < roots
     by (inl known) = absurd (true≢false (sym known ∙ unknown))

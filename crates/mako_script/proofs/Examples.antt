@@ -8,7 +8,9 @@ use Rattle.mako_shape.specs.Limits.{IsShape, max_words}
 use Rattle.mako_text.specs.Names.{is_name, name_of}
 use Rattle.mako_text.specs.Programs.{IsProgram}
 use Rattle.mako_text.specs.Scripts.{ScriptView, IsProper}
-use Rattle.mako_reader.specs.Reading.{script_at, lines_of, words_of, each_at, setting_at, sections_at, section_at, calls_at, command_at, arguments_at, value_at, argument_at, within_at, number_at, define_at, place_at}
+use Rattle.mako_reader.specs.Reading.{script_at, lines_of, words_of, each_at, setting_at, sections_at, section_at}
+use Rattle.mako_reader.specs.Reading.{calls_at, command_at, arguments_at, value_at, argument_at, within_at, number_at}
+use Rattle.mako_reader.specs.Reading.{define_at, place_at}
 use Rattle.mako_text.specs.Printed.{values_of}
 use Rattle.mako_reader.proofs.Again.{script_again}
 use Rattle.mako_text.specs.Texts.{script_text, IsScript}
@@ -24,7 +26,15 @@ few_words = omega arith
 
 shape : IsShape storing.numbers
 shape = record {
-  in_range = record { each = (omega arith, omega arith, (omega arith, omega arith, (omega arith, omega arith, (omega arith, omega arith, (omega arith, omega arith, (omega arith, omega arith, (omega arith, omega arith, (omega arith, omega arith, (omega arith, omega arith, (omega arith, omega arith, tt)))))))))) };
+  in_range = record { each =
+      (omega arith, omega arith,
+      (omega arith, omega arith,
+      (omega arith, omega arith,
+      (omega arith, omega arith,
+      (omega arith, omega arith,
+      (omega arith, omega arith,
+      (omega arith, omega arith,
+      (omega arith, omega arith, (omega arith, omega arith, (omega arith, omega arith, tt)))))))))) };
   entries = omega arith;
   words = few_words;
 }
@@ -58,7 +68,9 @@ program : IsProgram 4 storing_program
 program = record {
   names = record { some = omega arith; board = refl; spelled = are_spelled; distinct = differ };
   few = omega arith;
-  calls = ((omega arith, omega arith), ((omega arith, omega arith), ((omega arith, omega arith, omega arith), ((omega arith, omega arith, omega arith), refl))));
+  calls = ((omega arith, omega arith),
+      ((omega arith, omega arith),
+      ((omega arith, omega arith, omega arith), ((omega arith, omega arith, omega arith), refl))));
 }
 
 pub proper : IsProper storing
@@ -75,8 +87,10 @@ pub is_storing : IsScript storing_text storing
 is_storing = record { proper = proper; spelled = spelled }
 
 reads_nothing : script_at (lines_of spaced_text) ≡ None
-unfolding script_at lines_of words_of each_at setting_at sections_at section_at calls_at command_at arguments_at value_at argument_at within_at number_at define_at place_at is_name
+unfolding script_at lines_of words_of each_at setting_at sections_at section_at calls_at command_at arguments_at
+    value_at argument_at within_at number_at define_at place_at is_name
 reads_nothing = refl
 
 pub no_spaces : (s : ScriptView) → IsScript spaced_text s → ⊥
-no_spaces s is = none-some (values_of s, s.programs) (sym reads_nothing ∙ (ap (λ (x : List ℕ). script_at (lines_of x)) is.spelled ∙ script_again s is.proper))
+no_spaces s is = none-some (values_of s, s.programs) (sym reads_nothing
+    ∙ (ap (λ (x : List ℕ). script_at (lines_of x)) is.spelled ∙ script_again s is.proper))

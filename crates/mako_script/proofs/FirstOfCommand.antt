@@ -1,5 +1,6 @@
 -- The first fault of a command line, from those of its words.
-use Rattle.std.proofs.Common.{◌≡◌, ℕ, ◌+◌, ◌<◌, ◌≤◌, ◌⊎◌, inl, inr, Bool, true, false, true≢false, List, ◌∷◌, length, slice_get, Option, Some, None, refl, sym, ap, subst, ◌∙◌, arith}
+use Rattle.std.proofs.Common.{◌≡◌, ℕ, ◌+◌, ◌<◌, ◌≤◌, ◌⊎◌, inl, inr, Bool, true, false, true≢false, List, ◌∷◌, length}
+use Rattle.std.proofs.Common.{slice_get, Option, Some, None, refl, sym, ap, subst, ◌∙◌, arith}
 use Rattle.std.specs.Prelude.{◌≢◌}
 use Rattle.mako_reader.specs.declared.command.Argument.{Argument}
 use Rattle.mako_reader.specs.declared.command.Argument.TheVariants as arguments
@@ -14,49 +15,63 @@ use Rattle.mako_reader.specs.Reading.{command_named, kinds_of}
 use Rattle.mako_script.proofs.Clean.{behind_at}
 use Rattle.mako_reader.proofs.Takes.{some_is}
 
-from_word : (names : List (List ℕ)) (roots : ℕ) (words : List (List ℕ)) (k : Kind) → CommandFault names roots words k → 3 ≤ rank k
+from_word : (names : List (List ℕ)) (roots : ℕ) (words : List (List ℕ)) (k : Kind) → CommandFault names roots words k
+    → 3 ≤ rank k
 from_word names roots words faults.NotAscii fault = absurd fault
 from_word names roots words faults.Unclosed fault = absurd fault
 from_word names roots words faults.Header fault = absurd fault
 from_word names roots words _ fault = omega arith
 
 -- words of no command
-word_first : (names : List (List ℕ)) (roots : ℕ) (words : List (List ℕ)) → ((command : Command) → ¬ IsCommand words command) → IsFirstOfCommand names roots words faults.Word
-word_first names roots words none = record { has = none; least = λ other fault. from_word names roots words other fault }
+word_first : (names : List (List ℕ)) (roots : ℕ) (words : List (List ℕ))
+    → ((command : Command) → ¬ IsCommand words command) → IsFirstOfCommand names roots words faults.Word
+word_first names roots words none =
+    record { has = none; least = λ other fault. from_word names roots words other fault }
 
-pub no_name : (names : List (List ℕ)) (roots : ℕ) (words : List (List ℕ)) (word : List ℕ) (behind : List (List ℕ)) → words ≡ word ∷ behind → command_named word ≡ None
+pub no_name : (names : List (List ℕ)) (roots : ℕ) (words : List (List ℕ)) (word : List ℕ) (behind : List (List ℕ))
+    → words ≡ word ∷ behind → command_named word ≡ None
     → IsFirstOfCommand names roots words faults.Word
 no_name names roots words word behind same none = word_first names roots words
-    (λ command is. absurd (let no : None ≡ Some command = sym none ∙ ap (λ (t : List (List ℕ)). command_named (word_in t 0)) (sym same) ∙ is.named in cc))
+    (λ command is. absurd (let no : None ≡ Some command = sym none
+        ∙ ap (λ (t : List (List ℕ)). command_named (word_in t 0)) (sym same) ∙ is.named in cc))
 
 -- ---- one command
 
-module _ (names : List (List ℕ)) (roots : ℕ) (words : List (List ℕ)) (word : List ℕ) (behind : List (List ℕ)) (command : Command) (same : words ≡ word ∷ behind) (named : command_named word ≡ Some command) where
+module _ (names : List (List ℕ)) (roots : ℕ) (words : List (List ℕ)) (word : List ℕ) (behind : List (List ℕ))
+    (command : Command) (same : words ≡ word ∷ behind) (named : command_named word ≡ Some command) where
   this_command : (other : Command) → IsCommand words other → other ≡ command
-  this_command other is = some_is other command (sym is.named ∙ ap (λ (t : List (List ℕ)). command_named (word_in t 0)) same ∙ named)
+  this_command other is =
+      some_is other command (sym is.named ∙ ap (λ (t : List (List ℕ)). command_named (word_in t 0)) same ∙ named)
 
   pub no_count : length behind ≢ length (kinds_of command) → IsFirstOfCommand names roots words faults.Word
   no_count differ = word_first names roots words
-      (λ other is. differ (omega (arith, is.count, ap length same, ap (λ (c : Command). length (kinds_of c)) (this_command other is))))
+      (λ other is. differ (omega
+          (arith, is.count, ap length same, ap (λ (c : Command). length (kinds_of c)) (this_command other is))))
 
-  place_in : (other : Command) → IsCommand words other → (place : ℕ) (kind : Argument) → slice_get (kinds_of other) place ≡ Some kind → slice_get (kinds_of command) place ≡ Some kind
+  place_in : (other : Command) → IsCommand words other → (place : ℕ) (kind : Argument)
+      → slice_get (kinds_of other) place ≡ Some kind → slice_get (kinds_of command) place ≡ Some kind
   place_in other is place kind e = ap (λ (c : Command). slice_get (kinds_of c) place) (sym (this_command other is)) ∙ e
 
-  spelled_at : (other : Command) → IsCommand words other → (place : ℕ) (kind : Argument) → slice_get (kinds_of command) place ≡ Some kind → greatest kind ≡ None → is_name (word_in behind place) ≡ true
+  spelled_at : (other : Command) → IsCommand words other → (place : ℕ) (kind : Argument)
+      → slice_get (kinds_of command) place ≡ Some kind → greatest kind ≡ None → is_name (word_in behind place) ≡ true
   spelled_at other is place kind e none =
       let at = ap (λ (c : Command). slice_get (kinds_of c) place) (this_command other is) ∙ e in
       ap is_name (sym (behind_at words word behind place same)) ∙ is.names place kind at none
 
   -- a word that should be a name and is none
-  no_spelling : (place : ℕ) (kind : Argument) → slice_get (kinds_of command) place ≡ Some kind → ArgumentFault names roots kind (word_in behind place) faults.Word
+  no_spelling : (place : ℕ) (kind : Argument) → slice_get (kinds_of command) place ≡ Some kind
+      → ArgumentFault names roots kind (word_in behind place) faults.Word
       → (other : Command) → ¬ IsCommand words other
-  no_spelling place arguments.Defined e fault other is = true≢false (sym (spelled_at other is place arguments.Defined e refl) ∙ fault)
-  no_spelling place arguments.Read e fault other is = true≢false (sym (spelled_at other is place arguments.Read e refl) ∙ fault)
+  no_spelling place arguments.Defined e fault other is =
+      true≢false (sym (spelled_at other is place arguments.Defined e refl) ∙ fault)
+  no_spelling place arguments.Read e fault other is = true≢false (sym (spelled_at other is place arguments.Read e refl)
+      ∙ fault)
   no_spelling place arguments.Fields e fault other is = fault
   no_spelling place arguments.Index e fault other is = fault
   no_spelling place arguments.Number e fault other is = fault
 
-  word_or_past : (kind : Argument) (w : List ℕ) (f : Kind) → ArgumentFault names roots kind w f → (f ≡ faults.Word) ⊎ (4 ≤ rank f)
+  word_or_past : (kind : Argument) (w : List ℕ) (f : Kind) → ArgumentFault names roots kind w f → (f ≡ faults.Word)
+      ⊎ (4 ≤ rank f)
   word_or_past arguments.Defined w faults.Word fault = inl refl
   word_or_past arguments.Defined w faults.Names fault = inr (omega arith)
   word_or_past arguments.Defined w _ fault = absurd fault
@@ -74,7 +89,8 @@ module _ (names : List (List ℕ)) (roots : ℕ) (words : List (List ℕ)) (word
   word_or_past arguments.Number w _ fault = absurd fault
 
   -- the fault of a word is that of the line
-  to_line : (kind : Argument) (w : List ℕ) (f : Kind) → ArgumentFault names roots kind w f → HasArgument words kind w → 4 ≤ rank f → CommandFault names roots words f
+  to_line : (kind : Argument) (w : List ℕ) (f : Kind) → ArgumentFault names roots kind w f → HasArgument words kind w
+      → 4 ≤ rank f → CommandFault names roots words f
   to_line arguments.Defined w faults.Names fault has past = (w, has, fault.1, fault.2)
   to_line arguments.Defined w faults.Word fault has past = absurd (omega (arith, past))
   to_line arguments.Defined w _ fault has past = absurd fault
@@ -83,30 +99,36 @@ module _ (names : List (List ℕ)) (roots : ℕ) (words : List (List ℕ)) (word
   to_line arguments.Read w _ fault has past = absurd fault
   to_line arguments.Fields w faults.Number fault has past = (arguments.Fields, w, 14, has, refl, fault)
   to_line arguments.Fields w faults.Range (n, number, inl below) has past = absurd (omega (arith, below))
-  to_line arguments.Fields w faults.Range (n, number, inr above) has past = (arguments.Fields, w, 14, n, has, refl, number, above)
+  to_line arguments.Fields w faults.Range (n, number, inr above) has past =
+      (arguments.Fields, w, 14, n, has, refl, number, above)
   to_line arguments.Fields w _ fault has past = absurd fault
   to_line arguments.Index w faults.Number fault has past = (arguments.Index, w, 13, has, refl, fault)
   to_line arguments.Index w faults.Range (n, number, inl below) has past = absurd (omega (arith, below))
-  to_line arguments.Index w faults.Range (n, number, inr above) has past = (arguments.Index, w, 13, n, has, refl, number, above)
+  to_line arguments.Index w faults.Range (n, number, inr above) has past =
+      (arguments.Index, w, 13, n, has, refl, number, above)
   to_line arguments.Index w _ fault has past = absurd fault
   to_line arguments.Number w faults.Number fault has past = (arguments.Number, w, 4294967295, has, refl, fault)
   to_line arguments.Number w faults.Range (n, number, inl below) has past = absurd (omega (arith, below))
-  to_line arguments.Number w faults.Range (n, number, inr above) has past = (arguments.Number, w, 4294967295, n, has, refl, number, above)
+  to_line arguments.Number w faults.Range (n, number, inr above) has past =
+      (arguments.Number, w, 4294967295, n, has, refl, number, above)
   to_line arguments.Number w _ fault has past = absurd fault
 
-  no_digits : (kind : Argument) (w : List ℕ) (most : ℕ) → greatest kind ≡ Some most → ((n : ℕ) → ¬ IsNumber w n) → ArgumentFault names roots kind w faults.Number
+  no_digits : (kind : Argument) (w : List ℕ) (most : ℕ) → greatest kind ≡ Some most → ((n : ℕ) → ¬ IsNumber w n)
+      → ArgumentFault names roots kind w faults.Number
   no_digits arguments.Defined w most some none = absurd cc
   no_digits arguments.Read w most some none = absurd cc
   no_digits arguments.Fields w most some none = none
   no_digits arguments.Index w most some none = none
   no_digits arguments.Number w most some none = none
 
-  too_great : (kind : Argument) (w : List ℕ) (most n : ℕ) → greatest kind ≡ Some most → IsNumber w n → most < n → ArgumentFault names roots kind w faults.Range
+  too_great : (kind : Argument) (w : List ℕ) (most n : ℕ) → greatest kind ≡ Some most → IsNumber w n → most < n
+      → ArgumentFault names roots kind w faults.Range
   too_great arguments.Defined w most n some number above = absurd cc
   too_great arguments.Read w most n some number above = absurd cc
   too_great arguments.Fields w most n some number above = (n, number, inr (omega (arith, above, some_is 14 most some)))
   too_great arguments.Index w most n some number above = (n, number, inr (omega (arith, above, some_is 13 most some)))
-  too_great arguments.Number w most n some number above = (n, number, inr (omega (arith, above, some_is 4294967295 most some)))
+  too_great arguments.Number w most n some number above =
+      (n, number, inr (omega (arith, above, some_is 4294967295 most some)))
 
   -- the fault of a line is that of a word
   record OfWord (f : Kind) : Type 0 where
@@ -115,7 +137,9 @@ module _ (names : List (List ℕ)) (roots : ℕ) (words : List (List ℕ)) (word
     among : slice_get (kinds_of command) place ≡ Some kind
     has : ArgumentFault names roots kind (word_in behind place) f
 
-  of_word : (kind : Argument) (w : List ℕ) (f : Kind) → HasArgument words kind w → ((other : Command) → IsCommand words other → (is_name w ≡ true) ⊎ (greatest kind ≢ None) → ArgumentFault names roots kind w f) → OfWord f
+  of_word : (kind : Argument) (w : List ℕ) (f : Kind) → HasArgument words kind w
+      → ((other : Command) → IsCommand words other → (is_name w ≡ true) ⊎ (greatest kind ≢ None)
+      → ArgumentFault names roots kind w f) → OfWord f
   of_word kind w f (other, place, is, among, spelled) fault =
       let at = place_in other is place kind among in
       let here = spelled ∙ behind_at words word behind place same in
@@ -123,34 +147,50 @@ module _ (names : List (List ℕ)) (roots : ℕ) (words : List (List ℕ)) (word
         place = place;
         kind = kind;
         among = at;
-        has = subst (λ (v : List ℕ). ArgumentFault names roots kind v f) here (fault other is (by kind (greatest kind) refl (λ none. ap is_name here ∙ spelled_at other is place kind at none)));
+        has = subst (λ (v : List ℕ). ArgumentFault names roots kind v f) here
+            (fault other is (by kind (greatest kind) refl (λ none. ap is_name here
+            ∙ spelled_at other is place kind at none)));
       }
     where
-      by : (k : Argument) (o : Option ℕ) → greatest k ≡ o → (greatest k ≡ None → is_name w ≡ true) → (is_name w ≡ true) ⊎ (greatest k ≢ None)
+      by : (k : Argument) (o : Option ℕ) → greatest k ≡ o → (greatest k ≡ None → is_name w ≡ true) → (is_name w ≡ true)
+          ⊎ (greatest k ≢ None)
       by k None e name = inl (name e)
       by k (Some most) e name = inr (λ none. absurd (let no : None ≡ Some most = sym none ∙ e in cc))
 
-  name_is : (w : List ℕ) (kind : Argument) → greatest kind ≡ None → (is_name w ≡ true) ⊎ (greatest kind ≢ None) → is_name w ≡ true
+  name_is : (w : List ℕ) (kind : Argument) → greatest kind ≡ None → (is_name w ≡ true) ⊎ (greatest kind ≢ None)
+      → is_name w ≡ true
   name_is w kind none (inl is) = is
   name_is w kind none (inr some) = absurd (some none)
 
   from_line : (f : Kind) → CommandFault names roots words f → (f ≡ faults.Word) ⊎ OfWord f
   from_line faults.Word fault = inl refl
-  from_line faults.Number (kind, w, most, has, some, none) = inr (of_word kind w faults.Number has (λ other is spelled. no_digits kind w most some none))
-  from_line faults.Range (kind, w, most, n, has, some, number, above) = inr (of_word kind w faults.Range has (λ other is spelled. too_great kind w most n some number above))
-  from_line faults.Undefined (name, has, none) = inr (of_word arguments.Read name faults.Undefined has (λ other is spelled. (name_is name arguments.Read refl spelled, none)))
-  from_line faults.Names (name, has, none, full) = inr (of_word arguments.Defined name faults.Names has (λ other is spelled. (name_is name arguments.Defined refl spelled, none, full)))
+  from_line faults.Number (kind, w, most, has, some, none) =
+      inr (of_word kind w faults.Number has (λ other is spelled. no_digits kind w most some none))
+  from_line faults.Range (kind, w, most, n, has, some, number, above) =
+      inr (of_word kind w faults.Range has (λ other is spelled. too_great kind w most n some number above))
+  from_line faults.Undefined (name, has, none) =
+      inr (of_word arguments.Read name faults.Undefined has
+      (λ other is spelled. (name_is name arguments.Read refl spelled, none)))
+  from_line faults.Names (name, has, none, full) =
+      inr (of_word arguments.Defined name faults.Names has
+      (λ other is spelled. (name_is name arguments.Defined refl spelled, none, full)))
   from_line _ fault = absurd fault
 
   -- with as many words as the command has arguments, each name is spelled as one or the fault is a wrong word
-  module _ (count : length behind ≡ length (kinds_of command)) (f : Kind) (first : IsLeastFault names roots (kinds_of command) behind f) where
-    spelled_all : 4 ≤ rank f → (place : ℕ) → (kind : Argument) → slice_get (kinds_of command) place ≡ Some kind → greatest kind ≡ None → is_name (word_in words (place + 1)) ≡ true
-    spelled_all past place kind e none = ap is_name (behind_at words word behind place same) ∙ by kind e none (is_name (word_in behind place)) refl
+  module _ (count : length behind ≡ length (kinds_of command)) (f : Kind)
+      (first : IsLeastFault names roots (kinds_of command) behind f) where
+    spelled_all : 4 ≤ rank f → (place : ℕ) → (kind : Argument) → slice_get (kinds_of command) place ≡ Some kind
+        → greatest kind ≡ None → is_name (word_in words (place + 1)) ≡ true
+    spelled_all past place kind e none = ap is_name (behind_at words word behind place same)
+        ∙ by kind e none (is_name (word_in behind place)) refl
       where
-        by : (k : Argument) → slice_get (kinds_of command) place ≡ Some k → greatest k ≡ None → (b : Bool) → is_name (word_in behind place) ≡ b → is_name (word_in behind place) ≡ true
+        by : (k : Argument) → slice_get (kinds_of command) place ≡ Some k → greatest k ≡ None → (b : Bool)
+            → is_name (word_in behind place) ≡ b → is_name (word_in behind place) ≡ true
         by k e none true is = is
-        by arguments.Defined e none false h = absurd (omega (arith, past, first.least place arguments.Defined faults.Word e h))
-        by arguments.Read e none false h = absurd (omega (arith, past, first.least place arguments.Read faults.Word e h))
+        by arguments.Defined e none false h =
+            absurd (omega (arith, past, first.least place arguments.Defined faults.Word e h))
+        by arguments.Read e none false h =
+            absurd (omega (arith, past, first.least place arguments.Read faults.Word e h))
         by arguments.Fields e none false h = absurd cc
         by arguments.Index e none false h = absurd cc
         by arguments.Number e none false h = absurd cc
@@ -169,13 +209,17 @@ module _ (names : List (List ℕ)) (roots : ℕ) (words : List (List ℕ)) (word
       least = λ other fault. least other fault (from_line other fault);
     }
       where
-        least : (other : Kind) → CommandFault names roots words other → (other ≡ faults.Word) ⊎ OfWord other → rank f ≤ rank other
-        least other fault (inl word_fault) = absurd ((subst (CommandFault names roots words) word_fault fault) command (is_this past))
+        least : (other : Kind) → CommandFault names roots words other → (other ≡ faults.Word) ⊎ OfWord other
+            → rank f ≤ rank other
+        least other fault (inl word_fault) =
+            absurd ((subst (CommandFault names roots words) word_fault fault) command (is_this past))
         least other fault (inr of) = first.least of.place of.kind other of.among of.has
 
     pub first_of_words : IsFirstOfCommand names roots words f
     first_of_words = elim (word_or_past first.kind (word_in behind first.place) f first.has) [
       | inl is ↦ subst (IsFirstOfCommand names roots words) (sym is)
-          (word_first names roots words (no_spelling first.place first.kind first.among (subst (ArgumentFault names roots first.kind (word_in behind first.place)) is first.has)))
+          (word_first names roots words
+              (no_spelling first.place first.kind first.among
+              (subst (ArgumentFault names roots first.kind (word_in behind first.place)) is first.has)))
       | inr past ↦ past_word past
     ]

@@ -25,12 +25,19 @@ number_is word n m spelled few is = decimal_injective m n (omega (arith, is.1)) 
 
 -- its number is one, and in its range
 pub good_number : (lines : List (List ℕ)) (at n : ℕ) → IsGood lines at n → LineFault lines at Number → ⊥
-good_number lines at n is (word, range, inl (setting, spelled, ranged), none) = none n (spelled ∙ ap (λ (ws : List (List ℕ)). word_in ws 1) is.words, is.few)
-good_number lines at n is (word, range, inr (from, kind, inside, argument, least, most), none) = not_in lines from at (omega (arith, is.setting)) inside
+good_number lines at n is (word, range, inl (setting, spelled, ranged), none) =
+    none n (spelled ∙ ap (λ (ws : List (List ℕ)). word_in ws 1) is.words, is.few)
+good_number lines at n is (word, range, inr (from, kind, inside, argument, least, most), none) =
+    not_in lines from at (omega (arith, is.setting)) inside
 
 pub good_range : (lines : List (List ℕ)) (at n : ℕ) → IsGood lines at n → LineFault lines at Range → ⊥
 good_range lines at n is (word, range, m, inl (setting, spelled, ranged), number, inl low) =
-    omega (arith, number_is word n m (spelled ∙ ap (λ (ws : List (List ℕ)). word_in ws 1) is.words) is.few number, ap (λ (r : ℕ × ℕ). r.0) ranged, is.low, low)
+    omega (arith, number_is word n m (spelled
+        ∙ ap (λ (ws : List (List ℕ)). word_in ws 1) is.words) is.few number, ap (λ (r : ℕ × ℕ). r.0) ranged, is.low,
+        low)
 good_range lines at n is (word, range, m, inl (setting, spelled, ranged), number, inr high) =
-    omega (arith, number_is word n m (spelled ∙ ap (λ (ws : List (List ℕ)). word_in ws 1) is.words) is.few number, ap (λ (r : ℕ × ℕ). r.1) ranged, is.high, high)
-good_range lines at n is (word, range, m, inr (from, kind, inside, argument, least, most), number, out) = not_in lines from at (omega (arith, is.setting)) inside
+    omega (arith, number_is word n m (spelled
+        ∙ ap (λ (ws : List (List ℕ)). word_in ws 1) is.words) is.few number, ap (λ (r : ℕ × ℕ). r.1) ranged, is.high,
+        high)
+good_range lines at n is (word, range, m, inr (from, kind, inside, argument, least, most), number, out) =
+    not_in lines from at (omega (arith, is.setting)) inside

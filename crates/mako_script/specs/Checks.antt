@@ -1,5 +1,6 @@
 -- What is wrong with one line by itself.
-use Rattle.std.specs.Prelude.{◌≡◌, ◌≢◌, ℕ, ◌≤◌, ◌<◌, ◌⊎◌, true, false, List, [], ◌∷◌, length, slice_index, Result, Ok, Err}
+use Rattle.std.specs.Prelude.{◌≡◌, ◌≢◌, ℕ, ◌≤◌, ◌<◌, ◌⊎◌, true, false, List, [], ◌∷◌, length, slice_index, Result, Ok}
+use Rattle.std.specs.Prelude.{Err}
 use Rattle.std.specs.Fmt.{decimal}
 use Rattle.std.specs.List.{list_all}
 use Rattle.mako_script.specs.declared.fault.Kind.{Kind}
@@ -44,7 +45,8 @@ abbrev pub SettingFault : List (List ℕ) → ℕ → Kind → Type 0
 SettingFault lines at Unclosed = (list_all is_printable (line_in lines at) ≡ true) × (at ≡ ended lines)
 SettingFault lines at NotAscii = list_all is_printable (line_in lines at) ≡ false
 SettingFault lines at kind =
-    (at < ended lines) × (list_all is_printable (line_in lines at) ≡ true) × IsSettingLine (key_at at) (words_at lines at) (Err kind)
+    (at < ended lines) × (list_all is_printable (line_in lines at) ≡ true)
+        × IsSettingLine (key_at at) (words_at lines at) (Err kind)
 
 -- the lines before this one have their settings
 abbrev pub HaveSettings : List (List ℕ) → List ℕ → Type 0

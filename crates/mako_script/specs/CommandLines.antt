@@ -1,5 +1,6 @@
 -- A command line by itself, among the names that are defined before it.
-use Rattle.std.specs.Prelude.{◌≡◌, ℕ, ◌<◌, ◌≤◌, ◌⊎◌, Bool, true, false, List, [], ◌∷◌, ◌++◌, length, slice_get, Option, Some, None, Ok, Err, nat_lt, if◌then◌else◌}
+use Rattle.std.specs.Prelude.{◌≡◌, ℕ, ◌<◌, ◌≤◌, ◌⊎◌, Bool, true, false, List, [], ◌∷◌, ◌++◌, length, slice_get, Option}
+use Rattle.std.specs.Prelude.{Some, None, Ok, Err, nat_lt, if◌then◌else◌}
 use Rattle.std.specs.List.{list_any}
 use Rattle.std.specs.Str.{bytes_eq}
 use Rattle.mako_model.specs.declared.call.Call.{Call}
@@ -28,7 +29,8 @@ IsArgument names roots Number word = (n : ℕ) × IsValue 0 4294967295 word (Ok 
 -- what is wrong with a word as an argument of this kind
 abbrev pub ArgumentFault : List (List ℕ) → ℕ → Argument → List ℕ → Kind → Type 0
 ArgumentFault names roots Defined word faults.Word = is_name word ≡ false
-ArgumentFault names roots Defined word faults.Names = (is_name word ≡ true) × (is_among names word ≡ false) × (roots ≤ length names)
+ArgumentFault names roots Defined word faults.Names = (is_name word ≡ true) × (is_among names word ≡ false)
+    × (roots ≤ length names)
 ArgumentFault names roots Defined word fault = ⊥
 ArgumentFault names roots Read word faults.Word = is_name word ≡ false
 ArgumentFault names roots Read word faults.Undefined = (is_name word ≡ true) × (is_among names word ≡ false)
@@ -40,15 +42,18 @@ ArgumentFault names roots Number word fault = IsValue 0 4294967295 word (Err fau
 -- the words may stand there as arguments of these kinds
 abbrev pub AreArguments : List (List ℕ) → ℕ → List Argument → List (List ℕ) → Type 0
 AreArguments names roots kinds words =
-    (place : ℕ) → (kind : Argument) → slice_get kinds place ≡ Some kind → IsArgument names roots kind (word_in words place)
+    (place : ℕ) → (kind : Argument) → slice_get kinds place ≡ Some kind
+        → IsArgument names roots kind (word_in words place)
 
 -- one of the words has this fault, and none a fault that is told before it
-pub record IsLeastFault (names : List (List ℕ)) (roots : ℕ) (kinds : List Argument) (words : List (List ℕ)) (fault : Kind) : Type 0 where
+pub record IsLeastFault (names : List (List ℕ)) (roots : ℕ) (kinds : List Argument) (words : List (List ℕ))
+    (fault : Kind) : Type 0 where
   pub place : ℕ
   pub kind : Argument
   pub among : slice_get kinds place ≡ Some kind
   pub has : ArgumentFault names roots kind (word_in words place) fault
-  pub least : (other : ℕ) → (k : Argument) → (f : Kind) → slice_get kinds other ≡ Some k → ArgumentFault names roots k (word_in words other) f → rank fault ≤ rank f
+  pub least : (other : ℕ) → (k : Argument) → (f : Kind) → slice_get kinds other ≡ Some k
+      → ArgumentFault names roots k (word_in words other) f → rank fault ≤ rank f
 
 -- of two faults the one that is told before the other
 abbrev pub told_first : Option Kind → Option Kind → Option Kind
@@ -60,10 +65,13 @@ told_first (Some first) (Some found) = if nat_lt (rank found) (rank first) then 
 abbrev pub CommandFault : List (List ℕ) → ℕ → List (List ℕ) → Kind → Type 0
 CommandFault names roots words faults.Word = (command : Command) → ¬ IsCommand words command
 CommandFault names roots words faults.Number =
-    (kind : Argument) × (word : List ℕ) × (most : ℕ) × HasArgument words kind word × (greatest kind ≡ Some most) × ((n : ℕ) → ¬ IsNumber word n)
+    (kind : Argument) × (word : List ℕ) × (most : ℕ) × HasArgument words kind word × (greatest kind ≡ Some most)
+        × ((n : ℕ) → ¬ IsNumber word n)
 CommandFault names roots words faults.Range =
-    (kind : Argument) × (word : List ℕ) × (most : ℕ) × (n : ℕ) × HasArgument words kind word × (greatest kind ≡ Some most) × IsNumber word n × (most < n)
-CommandFault names roots words faults.Undefined = (name : List ℕ) × HasArgument words Read name × (is_among names name ≡ false)
+    (kind : Argument) × (word : List ℕ) × (most : ℕ) × (n : ℕ) × HasArgument words kind word
+        × (greatest kind ≡ Some most) × IsNumber word n × (most < n)
+CommandFault names roots words faults.Undefined = (name : List ℕ) × HasArgument words Read name
+    × (is_among names name ≡ false)
 CommandFault names roots words faults.Names =
     (name : List ℕ) × HasArgument words Defined name × (is_among names name ≡ false) × (roots ≤ length names)
 CommandFault names roots words fault = ⊥

@@ -56,8 +56,10 @@ many_sections_text = header ++ concat (replicate 17 (codes "mutator\nend\n"))
 
 -- settings with too many entries
 abbrev pub many_entries_text : List ℕ
-many_entries_text = codes "mako 1\nservers 8\ntablets 256\nentries 513\nwords 16\nspare 1\nring 2\nroots 4\ncycles 10\ngens 8\nboard 1\n"
+many_entries_text = codes
+    "mako 1\nservers 8\ntablets 256\nentries 513\nwords 16\nspare 1\nring 2\nroots 4\ncycles 10\ngens 8\nboard 1\n"
 
 -- and a section behind settings with too many words
 abbrev pub many_words_text : List ℕ
-many_words_text = codes "mako 1\nservers 8\ntablets 7\nentries 9\nwords 65520\nspare 1\nring 2\nroots 11\ncycles 10\ngens 8\nboard 1\nmutator\nend\n"
+many_words_text = codes
+    "mako 1\nservers 8\ntablets 7\nentries 9\nwords 65520\nspare 1\nring 2\nroots 11\ncycles 10\ngens 8\nboard 1\nmutator\nend\n"

@@ -1,16 +1,20 @@
 -- What may be wrong with a text, and which fault is the first.
-use Rattle.std.specs.Prelude.{◌≡◌, ◌≢◌, ℕ, ◌+◌, ◌<◌, ◌≤◌, ◌&&◌, ◌==◌, ◌⊎◌, Bool, false, nat_le, List, [], ◌∷◌, Some, if◌then◌else◌}
+use Rattle.std.specs.Prelude.{◌≡◌, ◌≢◌, ℕ, ◌+◌, ◌<◌, ◌≤◌, ◌&&◌, ◌==◌, ◌⊎◌, Bool, false, nat_le, List, [], ◌∷◌, Some}
+use Rattle.std.specs.Prelude.{if◌then◌else◌}
 use Rattle.std.specs.List.{list_all}
 use Rattle.mako_shape.specs.Places.{total}
 use Rattle.mako_shape.specs.Limits.{all_entries, max_entries, max_words}
 use Rattle.mako_script.specs.declared.fault.Kind.{Kind}
-use Rattle.mako_script.specs.declared.fault.Kind.TheVariants.{Header, NotAscii, Word, Number, Range, Names, Undefined, NoMutator, Unclosed, Many, Entries, Words, Long}
+use Rattle.mako_script.specs.declared.fault.Kind.TheVariants.{Header, NotAscii, Word, Number, Range, Names, Undefined}
+use Rattle.mako_script.specs.declared.fault.Kind.TheVariants.{NoMutator, Unclosed, Many, Entries, Words, Long}
 use Rattle.mako_reader.specs.declared.command.Argument.{Argument}
 use Rattle.mako_reader.specs.declared.command.Argument.TheVariants as arguments
 use Rattle.mako_reader.specs.declared.command.Command.{Command}
 use Rattle.mako_text.specs.Texts.{mutator_word, end_word}
 use Rattle.mako_reader.specs.Reading.{lines_of, numbers_in}
-use Rattle.mako_script.specs.Lines.{line_in, words_at, word_in, ended, key_at, IsNumber, AreSettings, IsIn, IsBetween, sections_before, commands_before, greatest, IsCommand, HasArgument, IsDefined, AreDefined}
+use Rattle.mako_script.specs.Lines.{line_in, words_at, word_in, ended, key_at, IsNumber, AreSettings, IsIn, IsBetween}
+use Rattle.mako_script.specs.Lines.{sections_before, commands_before, greatest, IsCommand, HasArgument, IsDefined}
+use Rattle.mako_script.specs.Lines.{AreDefined}
 
 abbrev pub is_printable : ℕ → Bool
 is_printable c = nat_le 32 c && nat_le c 126
@@ -19,7 +23,8 @@ is_printable c = nat_le 32 c && nat_le c 126
 abbrev pub ShouldBe : List (List ℕ) → ℕ → List ℕ → ℕ × ℕ → Type 0
 ShouldBe lines at word range =
     ((at < 11) × (word ≡ word_in (words_at lines at) 1) × (range ≡ (key_at at).1))
-    ⊎ ((from : ℕ) × (kind : Argument) × IsIn lines from at × HasArgument (words_at lines at) kind word × (range.0 ≡ 0) × (greatest kind ≡ Some range.1))
+    ⊎ ((from : ℕ) × (kind : Argument) × IsIn lines from at × HasArgument (words_at lines at) kind word × (range.0 ≡ 0)
+        × (greatest kind ≡ Some range.1))
 
 -- the setting is not its key and one word
 abbrev pub IsNoSetting : List (List ℕ) → ℕ → Type 0
@@ -32,7 +37,8 @@ OpensNone lines at = IsBetween lines at × (line_in lines at ≢ mutator_word)
 -- the line is no command of the section that is open, and does not end it
 abbrev pub IsNoCommand : List (List ℕ) → ℕ → Type 0
 IsNoCommand lines at =
-    (from : ℕ) × IsIn lines from at × (line_in lines at ≢ end_word) × ((command : Command) → ¬ IsCommand (words_at lines at) command)
+    (from : ℕ) × IsIn lines from at × (line_in lines at ≢ end_word)
+        × ((command : Command) → ¬ IsCommand (words_at lines at) command)
 
 -- the line opens a section behind 16 others
 abbrev pub OpensOneMore : List (List ℕ) → ℕ → Type 0
@@ -40,20 +46,26 @@ OpensOneMore lines at = IsBetween lines at × (line_in lines at ≡ mutator_word
 
 -- the line is a command behind 1,048,576 others
 abbrev pub IsOneMore : List (List ℕ) → ℕ → Type 0
-IsOneMore lines at = (from : ℕ) × IsIn lines from at × (line_in lines at ≢ end_word) × (1048576 ≤ commands_before lines at)
+IsOneMore lines at = (from : ℕ) × IsIn lines from at × (line_in lines at ≢ end_word)
+    × (1048576 ≤ commands_before lines at)
 
 -- an ended line has this fault
 abbrev pub LineFault : List (List ℕ) → ℕ → Kind → Type 0
 LineFault lines at Header = IsNoSetting lines at
 LineFault lines at Word = OpensNone lines at ⊎ IsNoCommand lines at
-LineFault lines at Number = (word : List ℕ) × (range : ℕ × ℕ) × ShouldBe lines at word range × ((n : ℕ) → ¬ IsNumber word n)
+LineFault lines at Number = (word : List ℕ) × (range : ℕ × ℕ) × ShouldBe lines at word range
+    × ((n : ℕ) → ¬ IsNumber word n)
 LineFault lines at Range =
-    (word : List ℕ) × (range : ℕ × ℕ) × (n : ℕ) × ShouldBe lines at word range × IsNumber word n × ((n < range.0) ⊎ (range.1 < n))
-LineFault lines at Entries = (at ≡ 10) × (v : List ℕ) × AreSettings lines v × (max_entries < all_entries (numbers_in v 0))
+    (word : List ℕ) × (range : ℕ × ℕ) × (n : ℕ) × ShouldBe lines at word range × IsNumber word n
+        × ((n < range.0) ⊎ (range.1 < n))
+LineFault lines at Entries = (at ≡ 10) × (v : List ℕ) × AreSettings lines v
+    × (max_entries < all_entries (numbers_in v 0))
 LineFault lines at Undefined =
-    (from : ℕ) × (name : List ℕ) × IsIn lines from at × HasArgument (words_at lines at) arguments.Read name × ¬ IsDefined lines from at name
+    (from : ℕ) × (name : List ℕ) × IsIn lines from at × HasArgument (words_at lines at) arguments.Read name
+        × ¬ IsDefined lines from at name
 LineFault lines at Names =
-    (from : ℕ) × (name : List ℕ) × (roots : ℕ) × IsIn lines from at × HasArgument (words_at lines at) arguments.Defined name
+    (from : ℕ) × (name : List ℕ) × (roots : ℕ) × IsIn lines from at
+        × HasArgument (words_at lines at) arguments.Defined name
     × ¬ IsDefined lines from at name × IsNumber (word_in (words_at lines 7) 1) roots × AreDefined lines from at roots
 LineFault lines at Many = OpensOneMore lines at ⊎ IsOneMore lines at
 LineFault lines at NotAscii = ⊥
@@ -66,7 +78,8 @@ LineFault lines at Long = ⊥
 abbrev pub EndFault : List (List ℕ) → ℕ → Kind → Type 0
 EndFault lines at Unclosed = (line_in lines at ≢ []) ⊎ ((at < 11) ⊎ ((from : ℕ) × IsIn lines from at))
 EndFault lines at NoMutator = sections_before lines at ≡ 0
-EndFault lines at Words = (v : List ℕ) × AreSettings lines v × (max_words < total (numbers_in v (sections_before lines at)))
+EndFault lines at Words = (v : List ℕ) × AreSettings lines v
+    × (max_words < total (numbers_in v (sections_before lines at)))
 EndFault lines at Header = ⊥
 EndFault lines at NotAscii = ⊥
 EndFault lines at Word = ⊥
@@ -109,4 +122,5 @@ pub record IsFirstFault (text : List ℕ) (kind : Kind) (line : ℕ) : Type 0 wh
   pub at : ℕ
   pub has : HasFault (lines_of text) at kind
   pub told : line ≡ told_line at kind
-  pub first : (other : ℕ) → (k : Kind) → HasFault (lines_of text) other k → (at < other) ⊎ ((at ≡ other) × (rank kind ≤ rank k))
+  pub first : (other : ℕ) → (k : Kind) → HasFault (lines_of text) other k → (at < other)
+      ⊎ ((at ≡ other) × (rank kind ≤ rank k))

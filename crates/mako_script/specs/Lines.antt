@@ -1,5 +1,7 @@
--- Where a line stands in a text that may be no script. Lines are counted from 0; behind the last line feed there is one piece more.
-use Rattle.std.specs.Prelude.{◌≡◌, ◌≢◌, ℕ, ◌+◌, ◌-◌, ◌<◌, ◌≤◌, ◌&&◌, ◌⊎◌, true, not, List, [], length, take, drop, slice_get, slice_index, slice_index_or, count_by, Option, Some, None}
+-- Where a line stands in a text that may be no script. Lines are counted from 0; behind the last line feed there is one
+-- piece more.
+use Rattle.std.specs.Prelude.{◌≡◌, ◌≢◌, ℕ, ◌+◌, ◌-◌, ◌<◌, ◌≤◌, ◌&&◌, ◌⊎◌, true, not, List, [], length, take, drop}
+use Rattle.std.specs.Prelude.{slice_get, slice_index, slice_index_or, count_by, Option, Some, None}
 use Rattle.std.specs.Fmt.{decimal}
 use Rattle.std.specs.Str.{bytes_eq}
 use Rattle.mako_reader.specs.declared.command.Command.{Command}
@@ -60,7 +62,8 @@ abbrev pub sections_before : List (List ℕ) → ℕ → ℕ
 sections_before lines at = count_by (bytes_eq mutator_word) (lines_before lines at)
 
 abbrev pub commands_before : List (List ℕ) → ℕ → ℕ
-commands_before lines at = count_by (λ l. not (bytes_eq mutator_word l) && not (bytes_eq end_word l)) (lines_before lines at)
+commands_before lines at =
+    count_by (λ l. not (bytes_eq mutator_word l) && not (bytes_eq end_word l)) (lines_before lines at)
 
 -- ---- commands
 
@@ -76,12 +79,14 @@ greatest Number = Some 4294967295
 pub record IsCommand (words : List (List ℕ)) (command : Command) : Type 0 where
   pub named : command_named (word_in words 0) ≡ Some command
   pub count : length words ≡ length (kinds_of command) + 1
-  pub names : (place : ℕ) → (kind : Argument) → slice_get (kinds_of command) place ≡ Some kind → greatest kind ≡ None → is_name (word_in words (place + 1)) ≡ true
+  pub names : (place : ℕ) → (kind : Argument) → slice_get (kinds_of command) place ≡ Some kind → greatest kind ≡ None
+      → is_name (word_in words (place + 1)) ≡ true
 
 -- a command has this word as an argument of this kind
 abbrev pub HasArgument : List (List ℕ) → Argument → List ℕ → Type 0
 HasArgument words kind word =
-    (command : Command) × (place : ℕ) × IsCommand words command × (slice_get (kinds_of command) place ≡ Some kind) × (word ≡ word_in words (place + 1))
+    (command : Command) × (place : ℕ) × IsCommand words command × (slice_get (kinds_of command) place ≡ Some kind)
+        × (word ≡ word_in words (place + 1))
 
 -- ---- names
 

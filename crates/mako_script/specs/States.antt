@@ -5,13 +5,15 @@ use Rattle.mako_reader.specs.Reading.{lines_of}
 use Rattle.mako_script.specs.declared.fault.Kind.{Kind}
 use Rattle.mako_script.specs.CommandLines.{is_among}
 use Rattle.mako_script.specs.Faults.{HasFault}
-use Rattle.mako_script.specs.Lines.{words_at, word_in, ended, IsNumber, IsIn, IsBetween, IsDefined, sections_before, commands_before}
+use Rattle.mako_script.specs.Lines.{words_at, word_in, ended, IsNumber, IsIn, IsBetween, IsDefined, sections_before}
+use Rattle.mako_script.specs.Lines.{commands_before}
 
 -- no line before this one has a fault
 abbrev pub IsClean : List (List ℕ) → ℕ → Type 0
 IsClean lines line = (other : ℕ) → other < line → (k : Kind) → HasFault lines other k → ⊥
 
--- so many sections were opened and so many commands read before a line, in lines without a fault, and these lines are left
+-- so many sections were opened and so many commands read before a line, in lines without a fault, and these lines are
+-- left
 pub record Reached (text : List ℕ) (roots sections commands line : ℕ) (left : List (List ℕ)) : Type 0 where
   pub left_is : left ≡ drop line (lines_of text)
   pub low : 11 ≤ line
@@ -34,7 +36,8 @@ abbrev pub AreApart : List (List ℕ) → Type 0
 AreApart names = (a b : ℕ) → a < b → b < length names → name_of names a ≢ name_of names b
 
 -- a section is open, with these names
-pub record Inside (text : List ℕ) (roots sections commands : ℕ) (names : List (List ℕ)) (line : ℕ) (left : List (List ℕ)) : Type 0 where
+pub record Inside (text : List ℕ) (roots sections commands : ℕ) (names : List (List ℕ)) (line : ℕ)
+    (left : List (List ℕ)) : Type 0 where
   pub reached : Reached text roots sections commands line left
   pub from : ℕ
   pub inside : IsIn (lines_of text) from line

@@ -1,11 +1,14 @@
 //! The first fault of a text that is no script.
 
-ghost use Rattle.std.specs.Prelude.{◌≡◌, ◌≢◌, List, Some, ◌≤◌, ◌<◌, ◌+◌, ◌∷◌, [], drop, length, map, min, option_map, IfErr, IfNone, IfOk, IfSome, IsSome, OnErr, OnOk, ℕ};
+ghost use Rattle.std.specs.Prelude.{◌≡◌, ◌≢◌, List, Some, ◌≤◌, ◌<◌, ◌+◌, ◌∷◌, [], drop, length, map, min, option_map};
+ghost use Rattle.std.specs.Prelude.{IfErr, IfNone, IfOk, IfSome, IsSome, OnErr, OnOk, ℕ};
 ghost use Rattle.std.specs.Bool.{Decides};
 ghost use Rattle.std.specs.List.{list_all};
 ghost use Rattle.mako_script.specs.declared.fault.Kind.{Kind};
 ghost use Rattle.mako_script.specs.Checks.{HaveSettings, IsCut, IsLine, IsSettingLine, IsValue};
-ghost use Rattle.mako_script.specs.CommandLines.{AreArguments, ArgumentFault, CommandFault, IsArgument, IsFirstOfCommand, IsLeastFault, IsRead, is_among, told_first, with_name};
+ghost use Rattle.mako_script.specs.CommandLines.{AreArguments, ArgumentFault, CommandFault, IsArgument};
+ghost use Rattle.mako_script.specs.CommandLines.{IsFirstOfCommand, IsLeastFault, IsRead, is_among, told_first};
+ghost use Rattle.mako_script.specs.CommandLines.{with_name};
 ghost use Rattle.mako_script.specs.Faults.{IsFirstFault, is_printable};
 ghost use Rattle.mako_text.specs.Names.{board_name};
 ghost use Rattle.mako_text.specs.Programs.{ProgramView};
@@ -61,7 +64,8 @@ impl<'a> Lines<'a> {
     fn next(&mut self) -> Result<Option<&'a [u8]>, Fault>
         ensures line { self.new.line ≡ min (self.old.line + 1) 4294967295 }
         ensures end { IfOk result (λ line. IfNone line (lines_of self.old.rest.now ≡ [] ∷ [])) }
-        ensures read { IfOk result (λ line. IfSome line (λ l. IsLine (lines_of self.old.rest.now) l.now (lines_of self.new.rest.now))) }
+        ensures read { IfOk result
+            (λ line. IfSome line (λ l. IsLine (lines_of self.old.rest.now) l.now (lines_of self.new.rest.now))) }
         ensures fault { IfErr result (λ f. (f.line ≡ self.new.line) × IsCut (lines_of self.old.rest.now) f.kind) }
         ensures some { OnErr result (lines_of self.old.rest.now ≢ [] ∷ []) }
         ensures shorter { IfOk result (λ line. IsSome line → length self.new.rest.now < length self.old.rest.now) }
@@ -226,8 +230,10 @@ fn arguments_fault(
     words: &[&[u8]],
 ) -> Option<Kind>
     requires { length kinds.now ≡ length words.now }
-    ensures none { IfNone result (AreArguments (map (λ name. name.now) names.now) roots kinds.now (map (λ word. word.now) words.now)) }
-    ensures some { IfSome result (IsLeastFault (map (λ name. name.now) names.now) roots kinds.now (map (λ word. word.now) words.now)) }
+    ensures none { IfNone result
+        (AreArguments (map (λ name. name.now) names.now) roots kinds.now (map (λ word. word.now) words.now)) }
+    ensures some { IfSome result
+        (IsLeastFault (map (λ name. name.now) names.now) roots kinds.now (map (λ word. word.now) words.now)) }
 {
     let mut first: Option<Kind> = None;
     for i in 0..kinds.len() {
@@ -240,7 +246,8 @@ fn arguments_fault(
 fn command<'a>(names: &[&[u8]], roots: usize, line: &'a [u8]) -> Result<Option<&'a [u8]>, Kind>
     ensures room { IfOk result (λ new. IsSome new → length names.now < roots) }
     ensures fault { IfErr result (IsFirstOfCommand (map (λ name. name.now) names.now) roots (words_of line.now)) }
-    ensures none { IfOk result (λ _. (fault : Kind) → ¬ CommandFault (map (λ name. name.now) names.now) roots (words_of line.now) fault) }
+    ensures none { IfOk result (λ _. (fault : Kind)
+        → ¬ CommandFault (map (λ name. name.now) names.now) roots (words_of line.now) fault) }
     ensures read { IfOk result (λ new. IsRead roots (map (λ name. name.now) names.now) (words_of line.now)
         (with_name (map (λ name. name.now) names.now) (option_map (λ name. name.now) new))) }
 {
@@ -265,11 +272,15 @@ fn command<'a>(names: &[&[u8]], roots: usize, line: &'a [u8]) -> Result<Option<&
 fn section(lines: &mut Lines, roots: usize, before: usize) -> Result<usize, Fault>
     requires { roots ≤ 32 }
     ensures shorter { IfOk result (λ _. length lines.new.rest.now < length lines.old.rest.now) }
-    ensures read { IfOk result (λ count. (p : ProgramView) × (calls_at roots before (board_name ∷ []) (lines_of lines.old.rest.now) ≡ Some (p, lines_of lines.new.rest.now))
+    ensures read { IfOk result (λ count. (p : ProgramView)
+        × (calls_at roots before (board_name ∷ []) (lines_of lines.old.rest.now) ≡ Some
+        (p, lines_of lines.new.rest.now))
         × (count ≡ before + length p.calls)) }
-    ensures ended { (text : List ℕ) (sections : ℕ) → Inside text roots sections before (board_name ∷ []) lines.old.line (lines_of lines.old.rest.now)
+    ensures ended { (text : List ℕ) (sections : ℕ)
+        → Inside text roots sections before (board_name ∷ []) lines.old.line (lines_of lines.old.rest.now)
         → IfOk result (λ count. Between text roots sections count lines.new.line (lines_of lines.new.rest.now)) }
-    ensures fault { (text : List ℕ) (sections : ℕ) → Inside text roots sections before (board_name ∷ []) lines.old.line (lines_of lines.old.rest.now)
+    ensures fault { (text : List ℕ) (sections : ℕ)
+        → Inside text roots sections before (board_name ∷ []) lines.old.line (lines_of lines.old.rest.now)
         → IfErr result (λ f. IsFirstFault text f.kind f.line) }
 {
     let mut names = Names::new();
@@ -298,9 +309,12 @@ fn section(lines: &mut Lines, roots: usize, before: usize) -> Result<usize, Faul
 fn sections(lines: &mut Lines, roots: usize) -> Result<usize, Fault>
     requires { (1 ≤ roots) × (roots ≤ 32) }
     ensures count { IfOk result (λ count. count ≤ 16) }
-    ensures read { IfOk result (λ count. (ps : List ProgramView) × (sections_at 16 roots 0 (lines_of lines.old.rest.now) ≡ Some ps) × (count ≡ length ps)) }
-    ensures ended { (text : List ℕ) → Between text roots 0 0 lines.old.line (lines_of lines.old.rest.now) → IfOk result (λ count. Ends text roots count lines.new.line) }
-    ensures fault { (text : List ℕ) → Between text roots 0 0 lines.old.line (lines_of lines.old.rest.now) → IfErr result (λ f. IsFirstFault text f.kind f.line) }
+    ensures read { IfOk result (λ count. (ps : List ProgramView)
+        × (sections_at 16 roots 0 (lines_of lines.old.rest.now) ≡ Some ps) × (count ≡ length ps)) }
+    ensures ended { (text : List ℕ) → Between text roots 0 0 lines.old.line (lines_of lines.old.rest.now)
+        → IfOk result (λ count. Ends text roots count lines.new.line) }
+    ensures fault { (text : List ℕ) → Between text roots 0 0 lines.old.line (lines_of lines.old.rest.now)
+        → IfErr result (λ f. IsFirstFault text f.kind f.line) }
 {
     let mut sections = 0;
     let mut commands = 0;

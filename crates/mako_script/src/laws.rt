@@ -2,12 +2,14 @@
 
 ghost use Rattle.std.specs.Prelude.{◌≡◌, ◌∷◌, [], ℕ, List, codes};
 ghost use Rattle.mako_script.specs.declared.fault.Kind.{Kind};
-ghost use Rattle.mako_script.specs.declared.fault.Kind.TheVariants.{NotAscii, Unclosed, Word, Number, Range, Undefined, Names, NoMutator, Many, Entries, Words, Header};
+ghost use Rattle.mako_script.specs.declared.fault.Kind.TheVariants.{NotAscii, Unclosed, Word, Number, Range, Undefined};
+ghost use Rattle.mako_script.specs.declared.fault.Kind.TheVariants.{Names, NoMutator, Many, Entries, Words, Header};
 ghost use Rattle.mako_text.specs.Scripts.{ScriptView};
 ghost use Rattle.mako_text.specs.Texts.{IsScript};
 ghost use Rattle.mako_script.specs.Faults.{HasFault, IsFirstFault};
 ghost use Rattle.mako_reader.specs.Reading.{lines_of};
-ghost use Rattle.mako_script.specs.Examples.{header, many_entries_text, many_sections_text, many_words_text, storing, storing_text, spaced_text, with_line};
+ghost use Rattle.mako_script.specs.Examples.{header, many_entries_text, many_sections_text, many_words_text, storing};
+ghost use Rattle.mako_script.specs.Examples.{storing_text, spaced_text, with_line};
 
 /// The text that makes an object, stores a number in it and gets it back is that of its script.
 pub fn a_text_has_its_script()
@@ -26,7 +28,8 @@ pub fn a_text_is_of_one_script()
 
 /// A text has one first fault at most, and one line that is told for it.
 pub fn one_fault_is_the_first()
-    ensures { (text : List ℕ) → (kind other : Kind) → (line told : ℕ) → IsFirstFault text kind line → IsFirstFault text other told → (kind ≡ other) × (line ≡ told) }
+    ensures { (text : List ℕ) → (kind other : Kind) → (line told : ℕ) → IsFirstFault text kind line
+        → IsFirstFault text other told → (kind ≡ other) × (line ≡ told) }
 {}
 
 /// The empty text is not closed at line 1.
@@ -41,7 +44,8 @@ pub fn a_second_space_is_a_wrong_word()
 
 /// The text of a script has no fault.
 pub fn a_script_has_no_fault()
-    ensures { (text : List ℕ) → (s : ScriptView) → IsScript text s → (at : ℕ) → (kind : Kind) → ¬ HasFault (lines_of text) at kind }
+    ensures { (text : List ℕ) → (s : ScriptView) → IsScript text s → (at : ℕ) → (kind : Kind)
+        → ¬ HasFault (lines_of text) at kind }
 {}
 
 /// Worked texts: line 13 behind the settings and the line that opens a section, the settings alone, 17 sections,

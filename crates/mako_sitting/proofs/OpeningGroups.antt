@@ -1,11 +1,13 @@
 -- All groups are at their opening at the start of a script.
-use Rattle.std.proofs.Common.{◌≡◌, ◌≢◌, ℕ, zero, suc, ◌+◌, ◌<◌, ◌≤◌, ◌⊎◌, inl, inr, false, List, [], length, map, slice_get, get_or, Option, Some, None, sym, ap, subst, refl, ◌∙◌, arith}
+use Rattle.std.proofs.Common.{◌≡◌, ◌≢◌, ℕ, zero, suc, ◌+◌, ◌<◌, ◌≤◌, ◌⊎◌, inl, inr, false, List, [], length, map}
+use Rattle.std.proofs.Common.{slice_get, get_or, Option, Some, None, sym, ap, subst, refl, ◌∙◌, arith}
 use Rattle.std.proofs.lemmas.Option.{slice_get_cases, slice_get_within}
 use Rattle.mako_words.specs.declared.entry_word.EntryWord.{EntryWord}
 use Rattle.mako_words.specs.declared.name.Name.{Name}
 use Rattle.mako_words.specs.Entries.{entry_at}
 use Rattle.mako_shape.specs.declared.numbers.Numbers.{Numbers}
-use Rattle.mako_shape.specs.Places.{Place, phase, demand, root, barrier, work, ghost, flags, notice, leaving, entry, total, Within, word_at}
+use Rattle.mako_shape.specs.Places.{Place, phase, demand, root, barrier, work, ghost, flags, notice, leaving, entry}
+use Rattle.mako_shape.specs.Places.{total, Within, word_at}
 use Rattle.mako_gate.specs.Standings.{GateFacet, away, mutator_at, drained_by}
 use Rattle.mako_model.specs.declared.call.Call.{Call}
 use Rattle.mako_model.specs.declared.call.Call.TheVariants as call
@@ -25,13 +27,15 @@ use Rattle.mako_poll.specs.Laws.{IsOpening}
 use Rattle.mako_poll.proofs.Worlds.{no_windows, no_positions}
 use Rattle.mako_layout.specs.Openings.{opening_words}
 use Rattle.mako_layout.specs.StepParts.{collector_seat}
-use Rattle.mako_phases.specs.Facets.{Admission, outside, mutating, collecting, Part, idle, SeatRole, mutator, server, collector, role_of, IsNotAdmitted, IsInPause}
+use Rattle.mako_phases.specs.Facets.{Admission, outside, mutating, collecting, Part, idle, SeatRole, mutator, server}
+use Rattle.mako_phases.specs.Facets.{collector, role_of, IsNotAdmitted, IsInPause}
 use Rattle.mako_phases.specs.Orders.{AreSeated}
 use Rattle.mako_phases.specs.Reaching.{IsOpeningFacet, IsRootOrEntry, IsPhaseOpening}
 use Rattle.mako_phases.specs.Steps.{IsPhaseWord}
 use Rattle.mako_seat.specs.declared.seat.Seat.{Seat}
 use Rattle.mako_state.specs.Facets.{gate_facet}
-use Rattle.mako_state.proofs.Openings.{in_range, workload, programs_fit, board_in_range, phase_is, first, word_zero, others, slots, programs_left, gates_same, works_same}
+use Rattle.mako_state.proofs.Openings.{in_range, workload, programs_fit, board_in_range, phase_is, first, word_zero}
+use Rattle.mako_state.proofs.Openings.{others, slots, programs_left, gates_same, works_same}
 use Rattle.mako_state.proofs.OpeningSeats.{IsOpeningSeat, of_mutator, of_server, of_collector, gate_is}
 use Rattle.mako_state.proofs.Seating.{map_at}
 use Rattle.mako_joint.specs.Joints.{JointScene, IsOutsideWith, GatesMatch, names_in, polls_in, phases_in}

@@ -1,5 +1,7 @@
 -- All seats sit at the start of a script.
-use Rattle.std.proofs.Common.{◌≡◌, ◌≢◌, ℕ, zero, suc, ◌+◌, ◌%◌, ◌<◌, ◌≤◌, ◌==◌, ⊎_elim, Bool, true, false, nat_lt, if◌then◌else◌, List, [], ◌∷◌, length, map, slice_get, count_by, sum_by, Some, None, sym, ap, subst, refl, ◌∙◌, arith, ◌*◌, ne_eqb, eq-eqb}
+use Rattle.std.proofs.Common.{◌≡◌, ◌≢◌, ℕ, zero, suc, ◌+◌, ◌%◌, ◌<◌, ◌≤◌, ◌==◌, ⊎_elim, Bool, true, false, nat_lt}
+use Rattle.std.proofs.Common.{if◌then◌else◌, List, [], ◌∷◌, length, map, slice_get, count_by, sum_by, Some, None, sym}
+use Rattle.std.proofs.Common.{ap, subst, refl, ◌∙◌, arith, ◌*◌, ne_eqb, eq-eqb}
 use Rattle.std.proofs.lemmas.Bool.{cases_eq}
 use Rattle.std.proofs.lemmas.List.{length-replicate}
 use Rattle.std.proofs.lemmas.List.Elements.{All-nil, All-replicate}
@@ -52,7 +54,8 @@ use Rattle.mako_tracing.proofs.FewFields.{openings_have_few}
 use Rattle.mako_clearing.specs.Notices.{RingTells}
 use Rattle.mako_collecting.specs.Keeping.{BarrierRing}
 use Rattle.mako_sitting.specs.Openings.{OpeningsSit, scene_with, trace_facet, phase_facet, held_facet, trying_facet}
-use Rattle.mako_sitting.specs.Seats.{AllSit, SeatSits, MutatorSits, ServerSits, CollectorSits, GoneOver, HeardIn, LivesFit, SparesAre, live_facet}
+use Rattle.mako_sitting.specs.Seats.{AllSit, SeatSits, MutatorSits, ServerSits, CollectorSits, GoneOver, HeardIn}
+use Rattle.mako_sitting.specs.Seats.{LivesFit, SparesAre, live_facet}
 use Rattle.mako_sitting.proofs.OpeningGroups.{begins, gate_at, opens}
 
 -- ---- names and regions

@@ -1,5 +1,6 @@
 -- What the seats of a state tell follows from the groups, and from what each mutator keeps.
-use Rattle.std.proofs.Common.{◌≡◌, ℕ, zero, suc, ◌+◌, ◌<◌, ◌≤◌, ◌⊎◌, inl, inr, List, [], ◌∷◌, ◌++◌, drop, length, slice_get, get_or, Some, None, sym, ap, subst, refl, ◌∙◌, arith, append-nil}
+use Rattle.std.proofs.Common.{◌≡◌, ℕ, zero, suc, ◌+◌, ◌<◌, ◌≤◌, ◌⊎◌, inl, inr, List, [], ◌∷◌, ◌++◌, drop, length}
+use Rattle.std.proofs.Common.{slice_get, get_or, Some, None, sym, ap, subst, refl, ◌∙◌, arith, append-nil}
 use Rattle.std.proofs.lemmas.Option.{slice_get_cases, slice_get_within}
 use Rattle.mako_shape.specs.declared.numbers.Numbers.{Numbers}
 use Rattle.mako_model.specs.declared.call.Call.{Call}
@@ -10,12 +11,15 @@ use Rattle.mako_mutator.specs.declared.progress.Task.TheVariants.{Ended}
 use Rattle.mako_names.specs.Freeing.{EpochsFit}
 use Rattle.mako_seat.specs.declared.seat.Seat.{Seat}
 use Rattle.mako_seat.specs.declared.seat.Seat.TheVariants.{Mutator, Server, Collector}
-use Rattle.mako_layout.proofs.Conclusions.{each_has_its_record, records_are_apart, servers_copy_alone, writers_are_one, writers_may_write}
+use Rattle.mako_layout.proofs.Conclusions.{each_has_its_record, records_are_apart, servers_copy_alone, writers_are_one}
+use Rattle.mako_layout.proofs.Conclusions.{writers_may_write}
 use Rattle.mako_shades.proofs.Completes.{marks_are_the_good}
 use Rattle.mako_joint.specs.Joints.{JointScene, TracksFit, layout_in, trace_in}
 use Rattle.mako_mutating.specs.MutatorFacets.{left_of}
 use Rattle.mako_sitting.specs.Seats.{AllSit, SeatSits, MutatorSits}
-use Rattle.mako_sitting.specs.Telling.{SittingAnswer, SittingAnswerToEnd, SittingReplies, SittingFreed, SittingRecords, SittingApart, SittingAlone, SittingMayWrite, SittingOneWriter, SittingMarks, SittingEpochs}
+use Rattle.mako_sitting.specs.Telling.{SittingAnswer, SittingAnswerToEnd, SittingReplies, SittingFreed, SittingRecords}
+use Rattle.mako_sitting.specs.Telling.{SittingApart, SittingAlone, SittingMayWrite, SittingOneWriter, SittingMarks}
+use Rattle.mako_sitting.specs.Telling.{SittingEpochs}
 
 -- ---- the front
 

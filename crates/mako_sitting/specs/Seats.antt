@@ -1,6 +1,8 @@
--- All seats of a state: that the facets of the scene are those of the machines, and what each machine keeps of itself and
+-- All seats of a state: that the facets of the scene are those of the machines, and what each machine keeps of itself
+-- and
 -- of words.
-use Rattle.std.specs.Prelude.{ℕ, ◌≡◌, ◌≢◌, ◌+◌, ◌<◌, Bool, false, true, List, [], length, map, slice_get, slice_index, Some, sum_by, count_by}
+use Rattle.std.specs.Prelude.{ℕ, ◌≡◌, ◌≢◌, ◌+◌, ◌<◌, Bool, false, true, List, [], length, map, slice_get, slice_index}
+use Rattle.std.specs.Prelude.{Some, sum_by, count_by}
 use Rattle.mako_words.specs.declared.name.Name.{Name}
 use Rattle.mako_words.specs.declared.phase_word.PhaseWord.{PhaseWord}
 use Rattle.mako_words.specs.declared.phase_word.PhaseWord.TheVariants.{Idle, Trace, Evac, Stop}
@@ -32,7 +34,9 @@ use Rattle.mako_pause.specs.Regions.{is_spare}
 use Rattle.mako_pause.specs.declared.stage.Pause.TheVariants.{Choice as ForChoice}
 use Rattle.mako_pause.specs.declared.stage.PauseStage.TheVariants.{Shutting, Draining, Opening}
 use Rattle.mako_pause.specs.declared.stage.CollectStage.{CollectStage}
-use Rattle.mako_pause.specs.declared.stage.CollectStage.TheVariants.{Idle as CollectIdle, Pausing, Forwarding, Barriers, Emptying, Polling, Choosing, Noticing, Ended as CollectEnded}
+use Rattle.mako_pause.specs.declared.stage.CollectStage.TheVariants.{Idle as CollectIdle, Pausing, Forwarding, Barriers}
+use Rattle.mako_pause.specs.declared.stage.CollectStage.TheVariants.{Emptying, Polling, Choosing, Noticing}
+use Rattle.mako_pause.specs.declared.stage.CollectStage.TheVariants.{Ended as CollectEnded}
 use Rattle.mako_seat.specs.declared.seat.Seat.{Seat}
 use Rattle.mako_seat.specs.declared.seat.Seat.TheVariants.{Mutator, Server, Collector}
 use Rattle.mako_state.specs.Facets.{ended_of}
@@ -145,7 +149,8 @@ ChoiceSits n s k stage = (spare : List ℕ) × (s.facets.choice ≡ rests_with s
 abbrev pub names_room : Facts → ℕ
 names_room w = sum_by (λ calls. count_by is_new calls) w.programs + 1
 
--- The last seat is the collector's, with its facets, and it keeps what it keeps of itself: of rings, of what it has found
+-- The last seat is the collector's, with its facets, and it keeps what it keeps of itself: of rings, of what it has
+-- found
 -- of tops and live words, of regions, of the names that it has got, and of the finished cycles.
 pub record CollectorSits (n : Numbers) (w : Facts) (s : JointScene) (taker places : ℕ → ℕ) (seat : ℕ) (c : Collecting) :
     Type 0 where
@@ -181,7 +186,8 @@ SeatSits n w s taker places i (Mutator d) = MutatorSits n w s (places i) i d
 SeatSits n w s taker places i (Server v) = ServerSits n w s (taker v.tracer.server) i v
 SeatSits n w s taker places i (Collector c) = CollectorSits n w s taker places i c
 
--- All groups hold, and each seat sits in the scene with its own facets: the collector takes the notices of each server at
+-- All groups hold, and each seat sits in the scene with its own facets: the collector takes the notices of each server
+-- at
 -- one place of its ring, and each mutator puts names at one place of its barrier ring. Names in slots belong to their
 -- takers, no object has many fields, live counts are right, and the finished word counts the mutators at their ends.
 pub record AllSit (n : Numbers) (w : Facts) (s : JointScene) (seats : List Seat) : Type 0 where

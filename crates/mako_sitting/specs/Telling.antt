@@ -78,7 +78,8 @@ SittingMayWrite = (n : Numbers) (w : Facts) (s : JointScene) (seats : List Seat)
 
 -- and two seats that write records of one tablet are one
 abbrev pub SittingOneWriter : Type 0
-SittingOneWriter = (n : Numbers) (w : Facts) (s : JointScene) (seats : List Seat) (i j : ℕ) (f g : GateFacet) (u v : Work)
+SittingOneWriter = (n : Numbers) (w : Facts) (s : JointScene) (seats : List Seat) (i j : ℕ) (f g : GateFacet)
+    (u v : Work)
     → AllSit n w s seats → LayoutSeat (layout_in n w s) i f u → LayoutSeat (layout_in n w s) j g v
     → IsWriting u → IsWriting v → entry_of u < entries_of n
     → tablet_of_entry n (entry_of u) ≡ tablet_of_entry n (entry_of v) → i ≡ j

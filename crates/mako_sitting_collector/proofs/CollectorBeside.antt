@@ -1,5 +1,6 @@
 -- All other seats sit as they did, past a look of the collector.
-use Rattle.std.proofs.Common.{◌≡◌, ◌≢◌, ℕ, ◌<◌, ◌⊎◌, inl, inr, List, length-set, map, slice_get, slice_set, Some, sym, subst, refl, ◌∙◌, arith}
+use Rattle.std.proofs.Common.{◌≡◌, ◌≢◌, ℕ, ◌<◌, ◌⊎◌, inl, inr, List, length-set, map, slice_get, slice_set, Some, sym}
+use Rattle.std.proofs.Common.{subst, refl, ◌∙◌, arith}
 use Rattle.std.specs.Prelude.{sum_by}
 use Rattle.mako_words.specs.declared.name.Name.{Name}
 use Rattle.mako_shape.specs.declared.numbers.Numbers.{Numbers}
@@ -25,7 +26,8 @@ use Rattle.mako_clearing.specs.ClearingFacets.{server_seat}
 use Rattle.mako_clearing.specs.Clearing.{ClearingStands}
 use Rattle.mako_clearing.proofs.Staying.{clearing_stays}
 use Rattle.mako_collecting.specs.Facets.{names_of, phase_facet, gate_facet}
-use Rattle.mako_sitting.specs.Seats.{MutatorSits, RestSits, StageSits, ServerSits, CollectorSits, SeatSits, LivesFit, live_facet, AllSit}
+use Rattle.mako_sitting.specs.Seats.{MutatorSits, RestSits, StageSits, ServerSits, CollectorSits, SeatSits, LivesFit}
+use Rattle.mako_sitting.specs.Seats.{live_facet, AllSit}
 use Rattle.mako_sitting_collector.specs.CollectorSteps.{looked}
 
 -- a sum stays where the number of the one that changes does

@@ -8,9 +8,12 @@ use Rattle.mako_layout.specs.Facets.{Gift}
 use Rattle.mako_joint.specs.Joints.{JointScene, Joint}
 use Rattle.mako_pause.specs.Collecting.{Collecting, Holdings, at, next_of, Fits}
 use Rattle.mako_pause.specs.declared.stage.ChoiceStage.{ChoiceStage}
-use Rattle.mako_pause.specs.declared.stage.ChoiceStage.TheVariants.{LoadingLive, LoadingTop, LoadingHome, StoringLeaving, StoringHome, StoringTop, StoringEvac, Opening as Reopening}
+use Rattle.mako_pause.specs.declared.stage.ChoiceStage.TheVariants.{LoadingLive, LoadingTop, LoadingHome}
+use Rattle.mako_pause.specs.declared.stage.ChoiceStage.TheVariants.{StoringLeaving, StoringHome, StoringTop}
+use Rattle.mako_pause.specs.declared.stage.ChoiceStage.TheVariants.{StoringEvac, Opening as Reopening}
 use Rattle.mako_pause.specs.declared.stage.CollectStage.{CollectStage}
-use Rattle.mako_pause.specs.declared.stage.CollectStage.TheVariants.{Idle, Pausing, Forwarding, Barriers, Emptying, Polling, Choosing, Noticing, Ended}
+use Rattle.mako_pause.specs.declared.stage.CollectStage.TheVariants.{Idle, Pausing, Forwarding, Barriers, Emptying}
+use Rattle.mako_pause.specs.declared.stage.CollectStage.TheVariants.{Polling, Choosing, Noticing, Ended}
 use Rattle.mako_server.specs.Serving.{Serving}
 use Rattle.mako_seat.specs.declared.seat.Seat.{Seat}
 use Rattle.mako_seat.specs.declared.seat.Seat.TheVariants.{Server, Collector}
@@ -27,7 +30,8 @@ use Rattle.mako_collecting.proofs.Roles.{gifts_may_be_given}
 use Rattle.mako_collecting.proofs.RolesKept.{choices_are_kept}
 use Rattle.mako_sitting.specs.Seats.{ChoiceSits, GathersAt, ServerSits, CollectorSits, live_facet, AllSit}
 use Rattle.mako_sitting_collector.specs.CollectorChoices.{IsOfChoice, ChoicesKeepAll}
-use Rattle.mako_sitting_collector.proofs.CollectorChosen.{IsChoosing, GoesOnChoosing, choice_goes, choice_leaves_rest, LeavesRest, rest_slots, rest_lives, rest_seats, rest_servers}
+use Rattle.mako_sitting_collector.proofs.CollectorChosen.{IsChoosing, GoesOnChoosing, choice_goes, choice_leaves_rest}
+use Rattle.mako_sitting_collector.proofs.CollectorChosen.{LeavesRest, rest_slots, rest_lives, rest_seats, rest_servers}
 use Rattle.mako_sitting_collector.proofs.CollectorOthers.{servers_sit, all_sit}
 
 -- ---- at the next stage

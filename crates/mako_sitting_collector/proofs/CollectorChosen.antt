@@ -1,10 +1,12 @@
 -- What a step of the choice leaves: all words but homes, tops and leavings, and what the collector keeps of the rest.
-use Rattle.std.proofs.Common.{◌≡◌, ◌≢◌, ℕ, ◌+◌, ◌*◌, ◌==◌, nat_lt, inl, ◌⊎◌, Option, Some, None, List, [], ◌∷◌, ◌++◌, length, sym, ap, subst, refl, ◌∙◌}
+use Rattle.std.proofs.Common.{◌≡◌, ◌≢◌, ℕ, ◌+◌, ◌*◌, ◌==◌, nat_lt, inl, ◌⊎◌, Option, Some, None, List, [], ◌∷◌, ◌++◌}
+use Rattle.std.proofs.Common.{length, sym, ap, subst, refl, ◌∙◌}
 use Rattle.mako_words.specs.declared.phase_word.PhaseWord.{PhaseWord}
 use Rattle.mako_words.specs.declared.phase_word.PhaseWord.TheVariants.{Idle, Trace, Evac, Stop}
 use Rattle.mako_words.specs.Phases.{cycle_of}
 use Rattle.mako_shape.specs.declared.numbers.Numbers.{Numbers}
-use Rattle.mako_shape.specs.Places.{Place, phase, barrier, work, ghost, notice, home, top, leaving, live, entry, index, total, Within, word_at}
+use Rattle.mako_shape.specs.Places.{Place, phase, barrier, work, ghost, notice, home, top, leaving, live, entry, index}
+use Rattle.mako_shape.specs.Places.{total, Within, word_at}
 use Rattle.mako_shape.proofs.PlaceLaws.{word_other}
 use Rattle.mako_model.specs.declared.point.Point.{Point}
 use Rattle.mako_model.specs.Legal.{Facts}
@@ -21,9 +23,12 @@ use Rattle.mako_phases.proofs.LiveLaws.{past_stays}
 use Rattle.mako_phases.proofs.Lives.{counts_kept}
 use Rattle.mako_phases.proofs.MarkSteps.{marked_same}
 use Rattle.mako_joint.specs.Joints.{JointScene, Joint}
-use Rattle.mako_pause.specs.Collecting.{Collecting, Holdings, at, chosen_tablet, gifts_from, gift_of, servers_from, server_chosen, after_tablet, choice_fed, spare_for}
+use Rattle.mako_pause.specs.Collecting.{Collecting, Holdings, at, chosen_tablet, gifts_from, gift_of, servers_from}
+use Rattle.mako_pause.specs.Collecting.{server_chosen, after_tablet, choice_fed, spare_for}
 use Rattle.mako_pause.specs.declared.stage.ChoiceStage.{ChoiceStage}
-use Rattle.mako_pause.specs.declared.stage.ChoiceStage.TheVariants.{LoadingLive, LoadingTop, LoadingHome, StoringLeaving, StoringHome, StoringTop, StoringEvac, Opening as Reopening}
+use Rattle.mako_pause.specs.declared.stage.ChoiceStage.TheVariants.{LoadingLive, LoadingTop, LoadingHome}
+use Rattle.mako_pause.specs.declared.stage.ChoiceStage.TheVariants.{StoringLeaving, StoringHome, StoringTop}
+use Rattle.mako_pause.specs.declared.stage.ChoiceStage.TheVariants.{StoringEvac, Opening as Reopening}
 use Rattle.mako_pause.specs.declared.stage.CollectStage.{CollectStage}
 use Rattle.mako_pause.specs.declared.stage.CollectStage.TheVariants.{Idle, Choosing}
 use Rattle.mako_mutating.specs.Beside.{Silent}

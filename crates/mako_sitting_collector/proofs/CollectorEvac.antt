@@ -1,5 +1,6 @@
 -- The store of Evac keeps all seats.
-use Rattle.std.proofs.Common.{◌≡◌, ◌≢◌, ℕ, ◌*◌, ◌<◌, ◌⊎◌, inl, List, [], map, slice_get, slice_set, Some, sym, ap, subst, refl, ◌∙◌, arith}
+use Rattle.std.proofs.Common.{◌≡◌, ◌≢◌, ℕ, ◌*◌, ◌<◌, ◌⊎◌, inl, List, [], map, slice_get, slice_set, Some, sym, ap}
+use Rattle.std.proofs.Common.{subst, refl, ◌∙◌, arith}
 use Rattle.mako_words.specs.declared.name.Name.{Name}
 use Rattle.mako_words.specs.declared.phase_word.PhaseWord.TheVariants.{Trace, Evac}
 use Rattle.mako_words.specs.Phases.{phase_word, cycle_of}
@@ -47,7 +48,8 @@ use Rattle.mako_collecting.proofs.EachStage.{choice_steps_keep}
 use Rattle.mako_collecting.proofs.Findings.{choosing_ends_counts, lives_stay}
 use Rattle.mako_collecting.proofs.Known.{steps_keep_known}
 use Rattle.mako_collecting.proofs.RolesKept.{choices_are_kept}
-use Rattle.mako_sitting.specs.Seats.{GoneOver, HeardIn, RestSits, StageSits, ServerSits, CollectorSits, LivesFit, live_facet, AllSit}
+use Rattle.mako_sitting.specs.Seats.{GoneOver, HeardIn, RestSits, StageSits, ServerSits, CollectorSits, LivesFit}
+use Rattle.mako_sitting.specs.Seats.{live_facet, AllSit}
 use Rattle.mako_sitting_collector.specs.CollectorChoices.{TracesAreOfSeats, EvacKeepsAll}
 use Rattle.mako_sitting_collector.specs.CollectorLeaves.{CollectorLeaves}
 use Rattle.mako_sitting_collector.proofs.CollectorOthers.{servers_sit_by, all_sit}
@@ -107,7 +109,8 @@ module _ (n : Numbers) (w : Facts) (s : JointScene) (seats : List Seat) (i : ℕ
   -- ---- the phase
 
   was : phase_of n s.words ≡ Trace (running k)
-  was = part_phase n s.words s.facets.phases all.joint.order (collector_seat n) (part_of n c) (names_of c) sits.here.phase
+  was = part_phase n s.words s.facets.phases all.joint.order (collector_seat n) (part_of n c)
+      (names_of c) sits.here.phase
 
   is : phase_of n us ≡ Evac (running k)
   is =

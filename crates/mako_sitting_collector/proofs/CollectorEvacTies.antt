@@ -1,5 +1,6 @@
 -- Facets of tracing, of the order of the phases and of live counts are of the same machines, as the choice's end asks.
-use Rattle.std.proofs.Common.{◌≡◌, ℕ, ◌≤◌, ◌||◌, inl, inr, Bool, true, Option, Some, None, is_some, List, length, map, slice_get, sym, ap, subst, refl, ◌∙◌, arith}
+use Rattle.std.proofs.Common.{◌≡◌, ℕ, ◌≤◌, ◌||◌, inl, inr, Bool, true, Option, Some, None, is_some, List, length, map}
+use Rattle.std.proofs.Common.{slice_get, sym, ap, subst, refl, ◌∙◌, arith}
 use Rattle.std.proofs.lemmas.List.{length-set}
 use Rattle.std.proofs.lemmas.Option.{slice_get_cases, slice_get_within}
 use Rattle.mako_words.specs.declared.name.Name.{Name}
@@ -11,20 +12,24 @@ use Rattle.mako_ring.specs.TraceFacets as trace
 use Rattle.mako_ring.specs.TraceFacets.{TraceFacet, has_hand, has_off, is_filled}
 use Rattle.mako_ring.specs.TracerFacets.{hand_of, off_of, doing_of}
 use Rattle.mako_ring.specs.Tracing.{TracerView}
-use Rattle.mako_ring.specs.declared.tracing.MarkStage.TheVariants.{Considering, Measuring, Marking as EntryMark, Counting}
+use Rattle.mako_ring.specs.declared.tracing.MarkStage.TheVariants.{Considering, Measuring, Marking as EntryMark}
+use Rattle.mako_ring.specs.declared.tracing.MarkStage.TheVariants.{Counting}
 use Rattle.mako_ring.specs.declared.tracing.TraceStage.{TraceStage}
-use Rattle.mako_ring.specs.declared.tracing.TraceStage.TheVariants.{Sending, Scanning, Receiving, Marking, Resting, Ended as AtEnd}
+use Rattle.mako_ring.specs.declared.tracing.TraceStage.TheVariants.{Sending, Scanning, Receiving, Marking, Resting}
+use Rattle.mako_ring.specs.declared.tracing.TraceStage.TheVariants.{Ended as AtEnd}
 use Rattle.mako_shades.specs.Steps.{IsAtRest}
 use Rattle.mako_phases.specs.Facets.{serving, IsNotAdmitted}
 use Rattle.mako_phases.specs.Lives.{LiveFacet, elsewhere, counting}
 use Rattle.mako_joint.specs.Joints.{JointScene}
 use Rattle.mako_call.specs.declared.call_stage.CallStage.{CallStage}
-use Rattle.mako_call.specs.declared.call_stage.CallStage.TheVariants.{Arriving, Rooting, Entering, Moving, Getting, Putting, Allocating, Asking, Leaving, Ended}
+use Rattle.mako_call.specs.declared.call_stage.CallStage.TheVariants.{Arriving, Rooting, Entering, Moving, Getting}
+use Rattle.mako_call.specs.declared.call_stage.CallStage.TheVariants.{Putting, Allocating, Asking, Leaving, Ended}
 use Rattle.mako_mutator.specs.declared.progress.Task.{Task}
 use Rattle.mako_mutator.specs.declared.progress.Task.TheVariants.{Attempting, Awaiting, Finishing, Ended as TaskEnded}
 use Rattle.mako_seat.specs.declared.seat.Seat.{Seat}
 use Rattle.mako_seat.specs.declared.seat.Seat.TheVariants.{Mutator, Server, Collector}
-use Rattle.mako_mutating.specs.MutatorFacets.{trace_of, stage_trace, stage_admission, task_trace, task_admission, phase_facet_of}
+use Rattle.mako_mutating.specs.MutatorFacets.{trace_of, stage_trace, stage_admission, task_trace, task_admission}
+use Rattle.mako_mutating.specs.MutatorFacets.{phase_facet_of}
 use Rattle.mako_tracing.specs.ServerFacets.{server_trace, server_phase, is_taking, tracer_owed, stage_order}
 use Rattle.mako_tracing.proofs.Resting.{unladen_rest}
 use Rattle.mako_collecting.specs.Facets.{names_of, phase_facet}
@@ -89,7 +94,8 @@ module _ (n : Numbers) (w : Facts) (s : JointScene) (seats : List Seat) (a : All
 
 abbrev laden_at : TracerView → TraceStage → Bool
 laden_at t stage =
-    (has_hand (hand_of stage) || (has_off (off_of stage) || (is_some t.outgoing || (is_some t.scan || is_filled t.stack))))
+    (has_hand (hand_of stage) ||
+        (has_off (off_of stage) || (is_some t.outgoing || (is_some t.scan || is_filled t.stack))))
     || is_taking (doing_of t stage)
 
 -- who has not counted a name yet has it in hand

@@ -1,5 +1,6 @@
 -- No step adds a facet behind those of the seats.
-use Rattle.std.proofs.Common.{◌≡◌, ℕ, zero, suc, ◌+◌, ◌<◌, ⊎_elim, List, [], ◌∷◌, slice_get, slice_set, Some, sym, ap, subst, refl, ◌∙◌}
+use Rattle.std.proofs.Common.{◌≡◌, ℕ, zero, suc, ◌+◌, ◌<◌, ⊎_elim, List, [], ◌∷◌, slice_get, slice_set, Some, sym, ap}
+use Rattle.std.proofs.Common.{subst, refl, ◌∙◌}
 use Rattle.std.proofs.lemmas.Option.{none-some}
 use Rattle.mako_shape.specs.declared.numbers.Numbers.{Numbers}
 use Rattle.mako_model.proofs.Lists.{get_set_cases}

@@ -1,5 +1,6 @@
 -- The collector finishes a cycle, and all seats sit.
-use Rattle.std.proofs.Common.{◌≡◌, ℕ, ◌+◌, ◌<◌, ◌≤◌, ◌⊎◌, inl, Bool, true, false, List, [], ◌∷◌, ◌++◌, length, map, slice_get, Some, sym, ap, subst, refl, ◌∙◌, arith}
+use Rattle.std.proofs.Common.{◌≡◌, ℕ, ◌+◌, ◌<◌, ◌≤◌, ◌⊎◌, inl, Bool, true, false, List, [], ◌∷◌, ◌++◌, length, map}
+use Rattle.std.proofs.Common.{slice_get, Some, sym, ap, subst, refl, ◌∙◌, arith}
 use Rattle.std.proofs.lemmas.List.{length_push}
 use Rattle.std.proofs.lemmas.List.Sums.{sum_by-append}
 use Rattle.mako_words.specs.declared.name.Name.{Name}
@@ -43,13 +44,15 @@ use Rattle.mako_collecting.specs.Keeping.{CollectorKeeps}
 use Rattle.mako_collecting.specs.Roles.{role_of}
 use Rattle.mako_collecting.proofs.Others.{others_leave_it}
 use Rattle.mako_clearing.specs.ClearingFacets.{stage_phase}
-use Rattle.mako_clearing.specs.Hearing.{HearingStands, noticing, words_next, with_finish, EndedHaveGoneOver, FinishGoesOn}
+use Rattle.mako_clearing.specs.Hearing.{HearingStands, noticing, words_next, with_finish, EndedHaveGoneOver}
+use Rattle.mako_clearing.specs.Hearing.{FinishGoesOn}
 use Rattle.mako_clearing.proofs.Finishing.{finish_keeps}
 use Rattle.mako_clearing.proofs.Rings.{sending_stays}
 use Rattle.mako_writes.specs.Writes.{CollectorWrites, LeavesOthers}
 use Rattle.mako_writes.proofs.Collectors.{collectors_write}
 use Rattle.mako_writes.proofs.Touching.{Leaves, at_place}
-use Rattle.mako_sitting.specs.Seats.{GoneOver, HeardIn, RestSits, StageSits, ServerSits, CollectorSits, LivesFit, live_facet, AllSit}
+use Rattle.mako_sitting.specs.Seats.{GoneOver, HeardIn, RestSits, StageSits, ServerSits, CollectorSits, LivesFit}
+use Rattle.mako_sitting.specs.Seats.{live_facet, AllSit}
 use Rattle.mako_sitting_collector.specs.CollectorLeaves.{CollectorLeaves}
 use Rattle.mako_sitting_collector.specs.CollectorHears.{ReadAreHeard, GivenAreNext}
 use Rattle.mako_sitting_collector.specs.CollectorFinishes.{FinishesOn, FinishKeepsAll}

@@ -1,5 +1,6 @@
 -- The collector's stores at gates, and the store of Stop, keep all seats.
-use Rattle.std.proofs.Common.{◌≡◌, ℕ, ◌+◌, ◌<◌, ◌==◌, List, [], ◌∷◌, map, set, slice_get, slice_set, Some, sym, ap, subst, refl, ◌∙◌}
+use Rattle.std.proofs.Common.{◌≡◌, ℕ, ◌+◌, ◌<◌, ◌==◌, List, [], ◌∷◌, map, set, slice_get, slice_set, Some, sym, ap}
+use Rattle.std.proofs.Common.{subst, refl, ◌∙◌}
 use Rattle.mako_words.specs.declared.gate_word.TheConstants.GateWord.{SHUT}
 use Rattle.mako_words.specs.declared.name.Name.{Name}
 use Rattle.mako_words.specs.declared.phase_word.PhaseWord.TheVariants.{Idle as IdlePhase, Stop}
@@ -16,16 +17,21 @@ use Rattle.mako_names.proofs.Words.{phase_same, phase_stored}
 use Rattle.mako_layout.specs.Facets.{Gift, Choice, rests_with}
 use Rattle.mako_phases.proofs.LiveLaws.{past_stays}
 use Rattle.mako_joint.specs.Joints.{JointScene, Joint}
-use Rattle.mako_pause.specs.Collecting.{Holdings, at, next_of, stage_next, Fits, forward, forward_from, pause_fed, choice_fed}
+use Rattle.mako_pause.specs.Collecting.{Holdings, at, next_of, stage_next, Fits, forward, forward_from, pause_fed}
+use Rattle.mako_pause.specs.Collecting.{choice_fed}
 use Rattle.mako_pause.specs.declared.stage.Pause.{Pause}
 use Rattle.mako_pause.specs.declared.stage.Pause.TheVariants.{Snapshot, Choice as ForChoice}
 use Rattle.mako_pause.specs.declared.stage.IdleStage.TheVariants.{StoringStop}
-use Rattle.mako_pause.specs.declared.stage.PauseStage.TheVariants.{Shutting, Draining, LoadingRoot, StoringTrace, Opening}
+use Rattle.mako_pause.specs.declared.stage.PauseStage.TheVariants.{Shutting, Draining, LoadingRoot, StoringTrace}
+use Rattle.mako_pause.specs.declared.stage.PauseStage.TheVariants.{Opening}
 use Rattle.mako_pause.specs.declared.stage.BarrierStage.TheVariants.{Loading}
-use Rattle.mako_pause.specs.declared.stage.ChoiceStage.TheVariants.{LoadingLive, LoadingTop, LoadingHome, StoringLeaving, StoringHome, StoringTop, StoringEvac, Opening as Reopening}
+use Rattle.mako_pause.specs.declared.stage.ChoiceStage.TheVariants.{LoadingLive, LoadingTop, LoadingHome}
+use Rattle.mako_pause.specs.declared.stage.ChoiceStage.TheVariants.{StoringLeaving, StoringHome, StoringTop}
+use Rattle.mako_pause.specs.declared.stage.ChoiceStage.TheVariants.{StoringEvac, Opening as Reopening}
 use Rattle.mako_pause.specs.declared.stage.NoticeStage.TheVariants.{Looking as NoticeLook}
 use Rattle.mako_pause.specs.declared.stage.CollectStage.{CollectStage}
-use Rattle.mako_pause.specs.declared.stage.CollectStage.TheVariants.{Idle, Pausing, Forwarding, Barriers, Emptying, Polling, Choosing, Noticing, Ended}
+use Rattle.mako_pause.specs.declared.stage.CollectStage.TheVariants.{Idle, Pausing, Forwarding, Barriers, Emptying}
+use Rattle.mako_pause.specs.declared.stage.CollectStage.TheVariants.{Polling, Choosing, Noticing, Ended}
 use Rattle.mako_seat.specs.declared.seat.Seat.{Seat}
 use Rattle.mako_seat.specs.declared.seat.Seat.TheVariants.{Collector}
 use Rattle.mako_server.specs.Serving.{Serving}
@@ -38,7 +44,8 @@ use Rattle.mako_collecting.proofs.EachStage.{idle_steps_keep, pause_steps_keep, 
 use Rattle.mako_collecting.proofs.Idling.{either_way, phase_now, small_now}
 use Rattle.mako_writes.specs.Writes.{LeavesOthers}
 use Rattle.mako_writes.proofs.Touching.{at_place}
-use Rattle.mako_sitting.specs.Seats.{GoneOver, HeardIn, RestSits, ChoiceSits, SparesAre, GathersAt, CollectorSits, LivesFit, live_facet, AllSit}
+use Rattle.mako_sitting.specs.Seats.{GoneOver, HeardIn, RestSits, ChoiceSits, SparesAre, GathersAt, CollectorSits}
+use Rattle.mako_sitting.specs.Seats.{LivesFit, live_facet, AllSit}
 use Rattle.mako_sitting_collector.specs.CollectorGates.{IsGateStore, GatesKeepAll, StopsKeepAll}
 use Rattle.mako_sitting_collector.proofs.CollectorLooks.{Leaves}
 use Rattle.mako_sitting_collector.proofs.CollectorStores.{GateOrPhase, stands, gate_keeps, phase_keeps}

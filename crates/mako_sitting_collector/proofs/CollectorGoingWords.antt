@@ -1,5 +1,6 @@
 -- What the collector finds in root words and tops in a pause, and how many names it has got of roots.
-use Rattle.std.proofs.Common.{◌≡◌, ℕ, zero, suc, ◌+◌, ◌-◌, ◌*◌, ◌/◌, ◌%◌, ◌<◌, ◌≤◌, None, List, length, get_or, slice_get, option_map, map, sum_by, Some, sym, ap, subst, refl, ◌∙◌, arith}
+use Rattle.std.proofs.Common.{◌≡◌, ℕ, zero, suc, ◌+◌, ◌-◌, ◌*◌, ◌/◌, ◌%◌, ◌<◌, ◌≤◌, None, List, length, get_or}
+use Rattle.std.proofs.Common.{slice_get, option_map, map, sum_by, Some, sym, ap, subst, refl, ◌∙◌, arith}
 use Rattle.std.proofs.lemmas.List.{length-append}
 use Rattle.std.proofs.lemmas.Option.{same_Some, slice_get-get_or, slice_get-map}
 use Rattle.mako_words.specs.declared.value.Value.{Value}
@@ -18,14 +19,16 @@ use Rattle.mako_layout.specs.Facets.{Gift, Choice, chooses, settled, debt_of, Pa
 use Rattle.mako_layout.specs.Evacuations.{top_read, to_raise, counted_in}
 use Rattle.mako_layout.specs.StepParts.{collector_seat}
 use Rattle.mako_layout.proofs.Alone.{nobody_owes}
-use Rattle.mako_phases.specs.Facets.{Part, rooting, PhaseFacet, mutating, serving, collecting, role_of, IsInPause, IsNotAdmitted}
+use Rattle.mako_phases.specs.Facets.{Part, rooting, PhaseFacet, mutating, serving, collecting, role_of, IsInPause}
+use Rattle.mako_phases.specs.Facets.{IsNotAdmitted}
 use Rattle.mako_phases.specs.Orders.{names_in, loaded_names, PendingFits}
 use Rattle.mako_ring.specs.Tracing.{FieldFits}
 use Rattle.mako_joint.specs.Joints.{JointScene, layout_in}
 use Rattle.mako_joint.proofs.Heaps.{values_fit}
 use Rattle.mako_joint.proofs.Pauses.{gates_drain, parts_pause, by_part}
 use Rattle.mako_call.specs.declared.call_stage.CallStage.{CallStage}
-use Rattle.mako_call.specs.declared.call_stage.CallStage.TheVariants.{Arriving, Rooting, Entering, Moving, Getting, Putting, Allocating, Asking, Leaving, Ended}
+use Rattle.mako_call.specs.declared.call_stage.CallStage.TheVariants.{Arriving, Rooting, Entering, Moving, Getting}
+use Rattle.mako_call.specs.declared.call_stage.CallStage.TheVariants.{Putting, Allocating, Asking, Leaving, Ended}
 use Rattle.mako_mutator.specs.declared.progress.Task.{Task}
 use Rattle.mako_mutator.specs.declared.progress.Task.TheVariants.{Attempting, Awaiting, Finishing, Ended as TaskEnded}
 use Rattle.mako_pause.specs.Collecting.{Collecting}

@@ -1,5 +1,6 @@
 -- What the collector's steps at notices leave: of words, and of what it keeps.
-use Rattle.std.proofs.Common.{◌≡◌, ◌≢◌, ℕ, ◌+◌, ◌==◌, ◌<◌, ◌⊎◌, inl, inr, ⊎_elim, Bool, true, false, List, [], ◌++◌, set, slice_index, sym, ap, refl, ◌∙◌, arith, get_or-set_other}
+use Rattle.std.proofs.Common.{◌≡◌, ◌≢◌, ℕ, ◌+◌, ◌==◌, ◌<◌, ◌⊎◌, inl, inr, ⊎_elim, Bool, true, false, List, [], ◌++◌}
+use Rattle.std.proofs.Common.{set, slice_index, sym, ap, refl, ◌∙◌, arith, get_or-set_other}
 use Rattle.mako_words.specs.declared.name.Name.{Name}
 use Rattle.mako_words.specs.declared.notice_word.NoticeWord.TheVariants.{Freed, Done}
 use Rattle.mako_words.specs.Notices.{notice_at}
@@ -9,7 +10,8 @@ use Rattle.mako_ring.specs.Contents.{after_place}
 use Rattle.mako_pause.specs.Collecting.{Holdings, Collecting, at, notice_next, notice_fed}
 use Rattle.mako_pause.specs.Keeping.{IsKeptKnown, NoticeIsKnown}
 use Rattle.mako_pause.specs.declared.stage.NoticeStage.{NoticeStage}
-use Rattle.mako_pause.specs.declared.stage.NoticeStage.TheVariants.{Looking as NoticeLook, Clearing as NoticeClear, StoringIdle}
+use Rattle.mako_pause.specs.declared.stage.NoticeStage.TheVariants.{Looking as NoticeLook, Clearing as NoticeClear}
+use Rattle.mako_pause.specs.declared.stage.NoticeStage.TheVariants.{StoringIdle}
 use Rattle.mako_pause.specs.declared.stage.CollectStage.TheVariants.{Noticing}
 use Rattle.mako_pause.specs.declared.stage.CollectStage.{CollectStage}
 use Rattle.mako_words.proofs.NoticeWords.{notice_at-notice_word}

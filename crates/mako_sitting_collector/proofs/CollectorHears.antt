@@ -1,5 +1,6 @@
 -- The collector's steps at notices keep all seats.
-use Rattle.std.proofs.Common.{◌≡◌, ◌≢◌, ℕ, ◌+◌, ◌<◌, ◌≤◌, ◌⊎◌, inl, ⊎_elim, List, length, map, set, slice_get, slice_index, get_or, Some, sym, ap, subst, refl, ◌∙◌, arith}
+use Rattle.std.proofs.Common.{◌≡◌, ◌≢◌, ℕ, ◌+◌, ◌<◌, ◌≤◌, ◌⊎◌, inl, ⊎_elim, List, length, map, set, slice_get}
+use Rattle.std.proofs.Common.{slice_index, get_or, Some, sym, ap, subst, refl, ◌∙◌, arith}
 use Rattle.std.proofs.lemmas.Bool.{cases_eq, cases_lt}
 use Rattle.std.proofs.lemmas.Option.{slice_get-get_or, same_Some}
 use Rattle.mako_words.specs.Phases.{cycle_of}
@@ -19,12 +20,14 @@ use Rattle.mako_server.specs.Serving.{Serving}
 use Rattle.mako_pause.specs.Collecting.{Holdings, next_of}
 use Rattle.mako_pause.specs.Keeping.{NoticeIsKnown}
 use Rattle.mako_pause.specs.declared.stage.NoticeStage.{NoticeStage}
-use Rattle.mako_pause.specs.declared.stage.NoticeStage.TheVariants.{Looking as NoticeLook, Clearing as NoticeClear, StoringIdle}
+use Rattle.mako_pause.specs.declared.stage.NoticeStage.TheVariants.{Looking as NoticeLook, Clearing as NoticeClear}
+use Rattle.mako_pause.specs.declared.stage.NoticeStage.TheVariants.{StoringIdle}
 use Rattle.mako_seat.specs.declared.seat.Seat.{Seat}
 use Rattle.mako_seat.specs.declared.seat.Seat.TheVariants.{Mutator, Server, Collector}
 use Rattle.mako_mutating.specs.Beside.{Silent}
 use Rattle.mako_tracing.specs.ServerKeeps.{IsNameFor, SlotsBelong}
-use Rattle.mako_clearing.specs.Hearing.{notice_server, notice_part, NoticeKnows, HearingStands, noticing, words_next, hears_next, HearingGoesOn, IsReading}
+use Rattle.mako_clearing.specs.Hearing.{notice_server, notice_part, NoticeKnows, HearingStands, noticing, words_next}
+use Rattle.mako_clearing.specs.Hearing.{hears_next, HearingGoesOn, IsReading}
 use Rattle.mako_clearing.proofs.Hearing.{hearing_keeps}
 use Rattle.mako_writes.specs.Writes.{CollectorWrites, LeavesOthers}
 use Rattle.mako_writes.proofs.Collectors.{collectors_write}
@@ -33,7 +36,8 @@ use Rattle.mako_sitting_collector.specs.CollectorLeaves.{CollectorLeaves}
 use Rattle.mako_sitting_collector.specs.CollectorHears.{ReadAreHeard, GivenAreNext, HearsOn, HearingKeepsAll}
 use Rattle.mako_sitting_collector.proofs.CollectorHeard.{Hears, hearing_leaves, ReadsOn, reads_on, none_left}
 use Rattle.mako_sitting_collector.proofs.CollectorNames.{names_are_few}
-use Rattle.mako_sitting_collector.proofs.CollectorHearsServers.{then_at, words_left, phase_left, evac_is, stage_left, Sends, sends}
+use Rattle.mako_sitting_collector.proofs.CollectorHearsServers.{then_at, words_left, phase_left, evac_is, stage_left}
+use Rattle.mako_sitting_collector.proofs.CollectorHearsServers.{Sends, sends}
 use Rattle.mako_sitting_collector.proofs.CollectorHearsOwn.{stands_are, own_sits}
 use Rattle.mako_sitting_collector.proofs.CollectorOthers.{servers_sit_by, all_sit}
 

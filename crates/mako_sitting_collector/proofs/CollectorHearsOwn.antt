@@ -1,5 +1,6 @@
 -- The collector sits past its steps at notices.
-use Rattle.std.proofs.Common.{◌≡◌, ℕ, ◌<◌, Bool, true, false, List, slice_get, slice_index, Some, sym, ap, subst, refl, ◌∙◌, arith}
+use Rattle.std.proofs.Common.{◌≡◌, ℕ, ◌<◌, Bool, true, false, List, slice_get, slice_index, Some, sym, ap, subst, refl}
+use Rattle.std.proofs.Common.{◌∙◌, arith}
 use Rattle.mako_words.specs.declared.name.Name.{Name}
 use Rattle.mako_shape.specs.declared.numbers.Numbers.{Numbers}
 use Rattle.mako_shape.specs.Places.{barrier}
@@ -12,7 +13,8 @@ use Rattle.mako_joint.specs.Joints.{JointScene, Joint}
 use Rattle.mako_pause.specs.Collecting.{Holdings}
 use Rattle.mako_pause.specs.Keeping.{Runs}
 use Rattle.mako_pause.specs.declared.stage.NoticeStage.{NoticeStage}
-use Rattle.mako_pause.specs.declared.stage.NoticeStage.TheVariants.{Looking as NoticeLook, Clearing as NoticeClear, StoringIdle}
+use Rattle.mako_pause.specs.declared.stage.NoticeStage.TheVariants.{Looking as NoticeLook, Clearing as NoticeClear}
+use Rattle.mako_pause.specs.declared.stage.NoticeStage.TheVariants.{StoringIdle}
 use Rattle.mako_pause.specs.declared.stage.CollectStage.TheVariants.{Noticing}
 use Rattle.mako_collecting.specs.Facets as collector
 use Rattle.mako_collecting.specs.Facets.{IsCollector, ring_facet}

@@ -1,5 +1,6 @@
 -- Servers sit past a step of the collector at notices.
-use Rattle.std.proofs.Common.{◌≡◌, ◌≢◌, ℕ, ◌+◌, ◌<◌, Bool, false, List, [], slice_index, sym, ap, subst, refl, ◌∙◌, arith}
+use Rattle.std.proofs.Common.{◌≡◌, ◌≢◌, ℕ, ◌+◌, ◌<◌, Bool, false, List, [], slice_index, sym, ap, subst, refl, ◌∙◌}
+use Rattle.std.proofs.Common.{arith}
 use Rattle.mako_words.specs.declared.name.Name.{Name}
 use Rattle.mako_words.specs.declared.phase_word.PhaseWord.TheVariants.{Evac}
 use Rattle.mako_words.specs.Phases.{phase_at, cycle_of}
@@ -26,7 +27,8 @@ use Rattle.mako_tracing.specs.ServerFacets.{tracer_laden}
 use Rattle.mako_clearing.specs.ClearingFacets.{server_seat, stage_carries}
 use Rattle.mako_clearing.specs.Notices.{SendingStands}
 use Rattle.mako_clearing.specs.Clearing.{SeatStands, ClearingStands, tells_end}
-use Rattle.mako_clearing.specs.Hearing.{notice_server, notice_part, HearingStands, IsSender, with_hearing, words_next, done_left, HearingGoesOn, IsReading}
+use Rattle.mako_clearing.specs.Hearing.{notice_server, notice_part, HearingStands, IsSender, with_hearing, words_next}
+use Rattle.mako_clearing.specs.Hearing.{done_left, HearingGoesOn, IsReading}
 use Rattle.mako_clearing.proofs.Heard.{evac_here}
 use Rattle.mako_clearing.proofs.HearingApart.{hearing_is_apart}
 use Rattle.mako_clearing.proofs.Rings.{sending_stays}

@@ -3,7 +3,9 @@ use Rattle.std.proofs.Common.{ℕ, List}
 use Rattle.mako_pause.specs.Collecting.{Holdings, at}
 use Rattle.mako_cycles.specs.Housing.{ChoiceGives}
 use Rattle.mako_pause.specs.declared.stage.ChoiceStage.{ChoiceStage}
-use Rattle.mako_pause.specs.declared.stage.ChoiceStage.TheVariants.{LoadingLive, LoadingTop, LoadingHome, StoringLeaving, StoringHome, StoringTop, StoringEvac, Opening as Reopening}
+use Rattle.mako_pause.specs.declared.stage.ChoiceStage.TheVariants.{LoadingLive, LoadingTop, LoadingHome}
+use Rattle.mako_pause.specs.declared.stage.ChoiceStage.TheVariants.{StoringLeaving, StoringHome, StoringTop}
+use Rattle.mako_pause.specs.declared.stage.ChoiceStage.TheVariants.{StoringEvac, Opening as Reopening}
 use Rattle.mako_pause.specs.declared.stage.CollectStage.TheVariants.{Choosing}
 use Rattle.mako_cycles.proofs.Gifts.{collectors_give}
 use Rattle.mako_collecting.specs.Roles.{HasSpare}

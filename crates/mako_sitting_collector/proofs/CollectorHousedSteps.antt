@@ -1,5 +1,6 @@
 -- The steps of the choice find each home as it was stored, and store homes as they keep them.
-use Rattle.std.proofs.Common.{◌≡◌, ◌≢◌, ℕ, ◌+◌, ◌*◌, ◌<◌, ◌==◌, cond, inl, inr, Bool, List, [], ◌∷◌, ◌++◌, sym, ap, subst, refl, ◌∙◌, eq-eqb}
+use Rattle.std.proofs.Common.{◌≡◌, ◌≢◌, ℕ, ◌+◌, ◌*◌, ◌<◌, ◌==◌, cond, inl, inr, Bool, List, [], ◌∷◌, ◌++◌, sym, ap}
+use Rattle.std.proofs.Common.{subst, refl, ◌∙◌, eq-eqb}
 use Rattle.std.proofs.lemmas.Bool.{cases_eq, ne_eqb}
 use Rattle.mako_shape.specs.declared.numbers.Numbers.{Numbers}
 use Rattle.mako_shape.specs.Places.{home, top, leaving, live, index, word_at}
@@ -13,7 +14,9 @@ use Rattle.mako_joint.specs.Joints.{JointScene}
 use Rattle.mako_pause.specs.Collecting.{Holdings, Collecting, at, next_of, Fits, fed, chosen_tablet}
 use Rattle.mako_cycles.specs.Housing.{Housed, FindsHome, homes_after, given_after, housed_opening}
 use Rattle.mako_pause.specs.declared.stage.ChoiceStage.{ChoiceStage}
-use Rattle.mako_pause.specs.declared.stage.ChoiceStage.TheVariants.{LoadingLive, LoadingTop, LoadingHome, StoringLeaving, StoringHome, StoringTop, StoringEvac, Opening as Reopening}
+use Rattle.mako_pause.specs.declared.stage.ChoiceStage.TheVariants.{LoadingLive, LoadingTop, LoadingHome}
+use Rattle.mako_pause.specs.declared.stage.ChoiceStage.TheVariants.{StoringLeaving, StoringHome, StoringTop}
+use Rattle.mako_pause.specs.declared.stage.ChoiceStage.TheVariants.{StoringEvac, Opening as Reopening}
 use Rattle.mako_pause.specs.declared.stage.CollectStage.TheVariants.{Choosing}
 use Rattle.mako_collecting.specs.Laws.{Stands}
 use Rattle.mako_collecting.specs.Steps.{words_next, collector_next}
@@ -46,7 +49,8 @@ module _ (w : Facts) (s : JointScene) (places : ℕ → ℕ) (k : Holdings) wher
 
   same_home : (i : ℕ) (t : ℕ) → word_at n s.words (home t)
       ≡ word_at n (words_next (at k (Choosing (LoadingHome i))) s.words) (home t)
-  same_home i t = ap (λ (us : List ℕ). word_at n us (home t)) (sym (load_leaves s.words (index n (home (chosen_tablet k i)))))
+  same_home i t = ap (λ (us : List ℕ). word_at n us (home t))
+      (sym (load_leaves s.words (index n (home (chosen_tablet k i)))))
 
   moved_home : (homes : ℕ → ℕ) (u region t : ℕ) (us : List ℕ)
       → (word_at n us (home u) ≡ region) → (t ≢ u → homes t ≡ word_at n us (home t))
@@ -66,7 +70,8 @@ module _ (w : Facts) (s : JointScene) (places : ℕ → ℕ) (k : Holdings) wher
       (at k (Choosing (LoadingLive r place))) _ (finds (next_of (at k (Choosing (LoadingLive r place)))) s.words) h refl
       fits tt
       (λ t low. h.stored t low
-      ∙ ap (λ (us : List ℕ). word_at n us (home t)) (sym (load_leaves s.words (index n (live (r * n.tablets + place))))))
+      ∙ ap (λ (us : List ℕ). word_at n us (home t))
+          (sym (load_leaves s.words (index n (live (r * n.tablets + place))))))
   housed_at (LoadingTop r place number) is x fits h =
       goes_on n s.words (words_next (at k (Choosing (LoadingTop r place number))) s.words)
       (at k (Choosing (LoadingTop r place number))) _
@@ -76,7 +81,8 @@ module _ (w : Facts) (s : JointScene) (places : ℕ → ℕ) (k : Holdings) wher
   housed_at (LoadingHome i) is x fits h =
       goes_on n s.words (words_next (at k (Choosing (LoadingHome i))) s.words) (at k (Choosing (LoadingHome i))) _
       (finds (next_of (at k (Choosing (LoadingHome i)))) s.words) h refl fits
-      (sym (h.stored (chosen_tablet k i) (x.known.chosen i 0 x.keeps.stage.1))) (λ t low. h.stored t low ∙ same_home i t)
+      (sym (h.stored (chosen_tablet k i) (x.known.chosen i 0 x.keeps.stage.1))) (λ t low. h.stored t low
+          ∙ same_home i t)
   housed_at (StoringLeaving i gift) is x fits h =
       let inside = x.known.chosen i 0 x.keeps.stage.1.0 in
       goes_on n s.words (words_next (at k (Choosing (StoringLeaving i gift))) s.words)

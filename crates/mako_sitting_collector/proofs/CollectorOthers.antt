@@ -1,5 +1,6 @@
 -- All other seats sit past a step of the collector.
-use Rattle.std.proofs.Common.{◌≡◌, ◌≢◌, ℕ, ◌*◌, ◌<◌, ◌⊎◌, inl, inr, List, [], length-set, map, slice_get, slice_set, Some, sum_by, sym, ap, subst, refl, ◌∙◌, arith}
+use Rattle.std.proofs.Common.{◌≡◌, ◌≢◌, ℕ, ◌*◌, ◌<◌, ◌⊎◌, inl, inr, List, [], length-set, map, slice_get, slice_set}
+use Rattle.std.proofs.Common.{Some, sum_by, sym, ap, subst, refl, ◌∙◌, arith}
 use Rattle.mako_words.specs.declared.name.Name.{Name}
 use Rattle.mako_words.specs.Phases.{cycle_of}
 use Rattle.mako_shape.specs.declared.numbers.Numbers.{Numbers}
@@ -34,7 +35,8 @@ use Rattle.mako_clearing.proofs.Apart.{due_same}
 use Rattle.mako_clearing.proofs.Rings.{sending_stays}
 use Rattle.mako_clearing.proofs.Staying.{clearing_stays}
 use Rattle.mako_writes.proofs.Servers.{own_entry}
-use Rattle.mako_sitting.specs.Seats.{MutatorSits, GoneOver, HeardIn, RestSits, StageSits, ServerSits, CollectorSits, SeatSits, LivesFit, live_facet, AllSit}
+use Rattle.mako_sitting.specs.Seats.{MutatorSits, GoneOver, HeardIn, RestSits, StageSits, ServerSits, CollectorSits}
+use Rattle.mako_sitting.specs.Seats.{SeatSits, LivesFit, live_facet, AllSit}
 use Rattle.mako_sitting_collector.specs.CollectorLeaves.{CollectorLeaves, LeavesServers}
 
 -- a sum stays where the number of the one that changes does

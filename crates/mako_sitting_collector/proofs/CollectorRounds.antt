@@ -1,5 +1,6 @@
 -- The collector's stores into rings and its poll keep all seats.
-use Rattle.std.proofs.Common.{◌≡◌, ℕ, ◌%◌, ◌<◌, inr, Some, List, [], ◌∷◌, map, set, slice_get, slice_set, slice_index, sym, ap, subst, refl, ◌∙◌, arith}
+use Rattle.std.proofs.Common.{◌≡◌, ℕ, ◌%◌, ◌<◌, inr, Some, List, [], ◌∷◌, map, set, slice_get, slice_set, slice_index}
+use Rattle.std.proofs.Common.{sym, ap, subst, refl, ◌∙◌, arith}
 use Rattle.std.proofs.lemmas.Nat.{mod_below}
 use Rattle.mako_words.specs.declared.name.Name.{Name}
 use Rattle.mako_words.specs.Names.{name_word}
@@ -17,14 +18,16 @@ use Rattle.mako_poll.specs.declared.poller.PollStage.{PollStage}
 use Rattle.mako_poll.specs.declared.poller.PollStage.TheVariants.{Asking, Reading, Ended as Polled}
 use Rattle.mako_poll.specs.declared.poller.Polled.TheVariants.{Told, NotYet}
 use Rattle.mako_joint.specs.Joints.{JointScene, Joint}
-use Rattle.mako_pause.specs.Collecting.{Collecting, Holdings, at, next_of, Fits, window_of, set_window, forward_from, polled_at}
+use Rattle.mako_pause.specs.Collecting.{Collecting, Holdings, at, next_of, Fits, window_of, set_window, forward_from}
+use Rattle.mako_pause.specs.Collecting.{polled_at}
 use Rattle.mako_pause.specs.declared.stage.Pause.TheVariants.{Choice as ForChoice}
 use Rattle.mako_pause.specs.declared.stage.PauseStage.TheVariants.{Shutting}
 use Rattle.mako_pause.specs.declared.stage.ForwardStage.TheVariants.{Looking, Storing}
 use Rattle.mako_pause.specs.declared.stage.BarrierStage.TheVariants.{Loading, Clearing}
 use Rattle.mako_pause.specs.declared.stage.ChoiceStage.TheVariants.{LoadingLive}
 use Rattle.mako_pause.specs.declared.stage.CollectStage.{CollectStage}
-use Rattle.mako_pause.specs.declared.stage.CollectStage.TheVariants.{Idle, Pausing, Forwarding, Barriers, Emptying, Polling, Choosing, Noticing, Ended}
+use Rattle.mako_pause.specs.declared.stage.CollectStage.TheVariants.{Idle, Pausing, Forwarding, Barriers, Emptying}
+use Rattle.mako_pause.specs.declared.stage.CollectStage.TheVariants.{Polling, Choosing, Noticing, Ended}
 use Rattle.mako_server.specs.Serving.{Serving}
 use Rattle.mako_seat.specs.declared.seat.Seat.{Seat}
 use Rattle.mako_seat.specs.declared.seat.Seat.TheVariants.{Server, Collector}

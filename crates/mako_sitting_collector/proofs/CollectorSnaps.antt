@@ -1,5 +1,6 @@
 -- The store of Trace, with the snapshot, keeps all seats.
-use Rattle.std.proofs.Common.{◌≡◌, ◌≢◌, ℕ, zero, suc, ◌+◌, ◌<◌, ◌≤◌, inl, inr, true, false, List, [], ◌∷◌, ◌++◌, map, replicate, set, slice_get, slice_set, Some, sym, ap, subst, refl, ◌∙◌, arith}
+use Rattle.std.proofs.Common.{◌≡◌, ◌≢◌, ℕ, zero, suc, ◌+◌, ◌<◌, ◌≤◌, inl, inr, true, false, List, [], ◌∷◌, ◌++◌, map}
+use Rattle.std.proofs.Common.{replicate, set, slice_get, slice_set, Some, sym, ap, subst, refl, ◌∙◌, arith}
 use Rattle.std.proofs.lemmas.Option.{same_Some, none-some}
 use Rattle.std.proofs.lemmas.List.{length-replicate}
 use Rattle.mako_words.specs.declared.phase_word.PhaseWord.TheVariants.{Idle as IdlePhase, Trace}
@@ -29,7 +30,8 @@ use Rattle.mako_joint.specs.Joints.{JointScene, Joint}
 use Rattle.mako_joint.proofs.Pauses.{by_part}
 use Rattle.mako_evac.specs.Evacuating.{Evacuation, slot_of, next_of as evac_next, stage_next as evac_stage_next}
 use Rattle.mako_evac.specs.declared.stage.EvacStage.{EvacStage}
-use Rattle.mako_evac.specs.declared.stage.EvacStage.TheVariants.{Evacuating as EvacTablet, Freeing, AwaitingEnd, TellingEnd, Ended as EvacEnded}
+use Rattle.mako_evac.specs.declared.stage.EvacStage.TheVariants.{Evacuating as EvacTablet, Freeing, AwaitingEnd}
+use Rattle.mako_evac.specs.declared.stage.EvacStage.TheVariants.{TellingEnd, Ended as EvacEnded}
 use Rattle.mako_server.specs.Serving.{Serving, StageIsKnown}
 use Rattle.mako_server.specs.declared.stage.ServerStage.{ServerStage}
 use Rattle.mako_server.specs.declared.stage.ServerStage.TheVariants.{Turning, Tracing, Evacuating, Ended}
@@ -56,9 +58,11 @@ use Rattle.mako_collecting.proofs.Idling.{phase_now}
 use Rattle.mako_collecting.proofs.Known.{steps_keep_known}
 use Rattle.mako_writes.specs.Writes.{CollectorWrites, LeavesOthers}
 use Rattle.mako_writes.proofs.Collectors.{collectors_write}
-use Rattle.mako_sitting.specs.Seats.{GoneOver, HeardIn, RestSits, StageSits, ServerSits, CollectorSits, LivesFit, live_facet, AllSit}
+use Rattle.mako_sitting.specs.Seats.{GoneOver, HeardIn, RestSits, StageSits, ServerSits, CollectorSits, LivesFit}
+use Rattle.mako_sitting.specs.Seats.{live_facet, AllSit}
 use Rattle.mako_sitting_collector.specs.CollectorLeaves.{CollectorLeaves}
-use Rattle.mako_sitting_collector.specs.CollectorSnaps.{SeatsAreAll, TiesHoldAtSnapshots, storing, snapshot_taken, SnapshotsKeepGroups, SnapshotsKeepAll}
+use Rattle.mako_sitting_collector.specs.CollectorSnaps.{SeatsAreAll, TiesHoldAtSnapshots, storing, snapshot_taken}
+use Rattle.mako_sitting_collector.specs.CollectorSnaps.{SnapshotsKeepGroups, SnapshotsKeepAll}
 use Rattle.mako_sitting_collector.proofs.CollectorOthers.{servers_sit_by, all_sit}
 use Rattle.mako_sitting_collector.proofs.CollectorTies.{traces_sole, traces_tied, nothing_held, roots_stand}
 

@@ -4,7 +4,8 @@ use Rattle.mako_words.specs.declared.phase_word.PhaseWord.{PhaseWord}
 use Rattle.mako_words.specs.declared.phase_word.PhaseWord.TheVariants.{Idle, Trace, Evac, Stop}
 use Rattle.mako_words.specs.Phases.{cycle_of}
 use Rattle.mako_shape.specs.declared.numbers.Numbers.{Numbers}
-use Rattle.mako_shape.specs.Places.{Place, phase, barrier, flags, work, notice, live, entry, index, total, Within, word_at}
+use Rattle.mako_shape.specs.Places.{Place, phase, barrier, flags, work, notice, live, entry, index, total, Within}
+use Rattle.mako_shape.specs.Places.{word_at}
 use Rattle.mako_shape.proofs.PlaceLaws.{word_other}
 use Rattle.mako_model.specs.declared.point.Point.{Point}
 use Rattle.mako_model.specs.Legal.{Facts}

@@ -1,6 +1,8 @@
--- The facets of one seat are of one machine, as steps of the collector ask; and in a pause roots stand, and nothing else
+-- The facets of one seat are of one machine, as steps of the collector ask; and in a pause roots stand, and nothing
+-- else
 -- is to be used.
-use Rattle.std.proofs.Common.{◌≡◌, ℕ, zero, suc, ◌+◌, ◌-◌, ◌<◌, ⊎_elim, List, [], ◌∷◌, length, replicate, slice_get, slice_index_or, Some, None, sym, ap, subst, refl, ◌∙◌, arith}
+use Rattle.std.proofs.Common.{◌≡◌, ℕ, zero, suc, ◌+◌, ◌-◌, ◌<◌, ⊎_elim, List, [], ◌∷◌, length, replicate, slice_get}
+use Rattle.std.proofs.Common.{slice_index_or, Some, None, sym, ap, subst, refl, ◌∙◌, arith}
 use Rattle.std.proofs.lemmas.Option.{same_Some, none-some}
 use Rattle.std.specs.List.{Contains}
 use Rattle.mako_words.specs.declared.name.Name.{Name}
@@ -33,16 +35,19 @@ use Rattle.mako_joint.proofs.Heaps.{values_fit}
 use Rattle.mako_joint.proofs.Pauses.{gates_drain}
 use Rattle.mako_call.specs.declared.object.Put.{Put as PutArgs}
 use Rattle.mako_call.specs.declared.call_stage.CallStage.{CallStage}
-use Rattle.mako_call.specs.declared.call_stage.CallStage.TheVariants.{Arriving, Rooting, Entering, Moving, Getting, Putting, Allocating, Asking, Leaving, Ended}
+use Rattle.mako_call.specs.declared.call_stage.CallStage.TheVariants.{Arriving, Rooting, Entering, Moving, Getting}
+use Rattle.mako_call.specs.declared.call_stage.CallStage.TheVariants.{Putting, Allocating, Asking, Leaving, Ended}
 use Rattle.mako_call.specs.declared.putting.PutStage.{PutStage}
-use Rattle.mako_call.specs.declared.putting.PutStage.TheVariants.{LoadingHeader as PutHeader, LoadingOld, LookingAtBarrier, StoringBarrier, StoringField}
+use Rattle.mako_call.specs.declared.putting.PutStage.TheVariants.{LoadingHeader as PutHeader, LoadingOld}
+use Rattle.mako_call.specs.declared.putting.PutStage.TheVariants.{LookingAtBarrier, StoringBarrier, StoringField}
 use Rattle.mako_mutator.specs.declared.progress.Task.{Task}
 use Rattle.mako_mutator.specs.declared.progress.Task.TheVariants.{Attempting, Awaiting, Finishing, Ended as TaskEnded}
 use Rattle.mako_pause.specs.Collecting.{Collecting}
 use Rattle.mako_seat.specs.declared.seat.Seat.{Seat}
 use Rattle.mako_seat.specs.declared.seat.Seat.TheVariants.{Mutator, Server, Collector}
 use Rattle.mako_state.specs.Carried.{stage_carried, task_carried, WordStands}
-use Rattle.mako_mutating.specs.MutatorFacets.{storing_in, put_trace, stage_trace, task_trace, task_admission, stage_admission, stage_held, task_held, held_of, trace_of}
+use Rattle.mako_mutating.specs.MutatorFacets.{storing_in, put_trace, stage_trace, task_trace, task_admission}
+use Rattle.mako_mutating.specs.MutatorFacets.{stage_admission, stage_held, task_held, held_of, trace_of}
 use Rattle.mako_tracing.specs.ServerFacets.{server_trace, server_phase}
 use Rattle.mako_tracing.proofs.Resting.{unladen_rest}
 use Rattle.mako_collecting.specs.Facets.{part_of, names_of, phase_facet}

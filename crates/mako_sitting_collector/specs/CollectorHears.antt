@@ -14,7 +14,8 @@ use Rattle.mako_collecting.specs.Roles.{role_of}
 use Rattle.mako_pause.specs.declared.stage.NoticeStage.{NoticeStage}
 use Rattle.mako_seat.specs.declared.seat.Seat.{Seat}
 use Rattle.mako_seat.specs.declared.seat.Seat.TheVariants.{Collector}
-use Rattle.mako_clearing.specs.Hearing.{notice_server, NoticeKnows, with_hearing, noticing, words_next, hears_next, IsReading}
+use Rattle.mako_clearing.specs.Hearing.{notice_server, NoticeKnows, with_hearing, noticing, words_next, hears_next}
+use Rattle.mako_clearing.specs.Hearing.{IsReading}
 use Rattle.mako_sitting.specs.Seats.{AllSit}
 
 -- nothing is left of what the servers have sent that the collector has read already

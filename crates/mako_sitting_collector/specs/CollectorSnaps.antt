@@ -22,7 +22,8 @@ pub record SeatsAreAll (n : Numbers) (s : JointScene) : Type 0 where
   pub held : (i : ℕ) (names : List Name) (name : Name) → slice_get s.facets.names.held i ≡ Some names
       → Contains names name → i < n.mutators
 
--- What the facets of tracing, those of the order of the phases, roots and names in use are to each other, as the snapshot
+-- What the facets of tracing, those of the order of the phases, roots and names in use are to each other, as the
+-- snapshot
 -- asks.
 pub record TiesHold (n : Numbers) (w : Facts) (s : JointScene) : Type 0 where
   pub sole : AreSole s.facets.trace

@@ -11,7 +11,8 @@ use Rattle.mako_pause.specs.declared.stage.PauseStage.TheVariants.{Draining, Loa
 use Rattle.mako_pause.specs.declared.stage.ForwardStage.TheVariants.{Looking}
 use Rattle.mako_pause.specs.declared.stage.BarrierStage.TheVariants.{Loading}
 use Rattle.mako_pause.specs.declared.stage.CollectStage.{CollectStage}
-use Rattle.mako_pause.specs.declared.stage.CollectStage.TheVariants.{Idle, Pausing, Forwarding, Barriers, Emptying, Choosing}
+use Rattle.mako_pause.specs.declared.stage.CollectStage.TheVariants.{Idle, Pausing, Forwarding, Barriers, Emptying}
+use Rattle.mako_pause.specs.declared.stage.CollectStage.TheVariants.{Choosing}
 use Rattle.mako_pause.specs.declared.stage.ChoiceStage.TheVariants.{LoadingLive, LoadingTop}
 use Rattle.mako_seat.specs.declared.seat.Seat.{Seat}
 use Rattle.mako_seat.specs.declared.seat.Seat.TheVariants.{Collector}

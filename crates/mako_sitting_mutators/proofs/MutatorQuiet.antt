@@ -1,5 +1,6 @@
 -- The finished word after the step of a mutator, and the words that the collector has found.
-use Rattle.std.proofs.Common.{◌≡◌, ℕ, ◌<◌, ◌+◌, ◌^◌, Bool, true, false, List, set, Option, None, Some, sym, ap, subst, refl, ◌∙◌, arith}
+use Rattle.std.proofs.Common.{◌≡◌, ℕ, ◌<◌, ◌+◌, ◌^◌, Bool, true, false, List, set, Option, None, Some, sym, ap, subst}
+use Rattle.std.proofs.Common.{refl, ◌∙◌, arith}
 use Rattle.std.specs.Prelude.{slice_get, sum_by}
 use Rattle.mako_gate.proofs.Found.{one_more}
 use Rattle.mako_gate.proofs.Lists.{sum_at}
@@ -19,7 +20,8 @@ use Rattle.mako_call.specs.declared.call_machine.Keep.{Keep}
 use Rattle.mako_call.specs.Calls as calling
 use Rattle.mako_call.specs.Calls.{Calling, outcome_in}
 use Rattle.mako_call.specs.declared.call_stage.CallStage.{CallStage}
-use Rattle.mako_call.specs.declared.call_stage.CallStage.TheVariants.{Arriving, Rooting, Entering, Moving, Getting, Putting, Allocating, Asking, Leaving, Ended}
+use Rattle.mako_call.specs.declared.call_stage.CallStage.TheVariants.{Arriving, Rooting, Entering, Moving, Getting}
+use Rattle.mako_call.specs.declared.call_stage.CallStage.TheVariants.{Putting, Allocating, Asking, Leaving, Ended}
 use Rattle.mako_mutator.specs.declared.progress.Task.{Task}
 use Rattle.mako_mutator.specs.declared.progress.Progress.{Progress}
 use Rattle.mako_mutator.specs.declared.progress.Task.TheVariants.{Attempting, Awaiting, Finishing, Ended as TaskEnded}

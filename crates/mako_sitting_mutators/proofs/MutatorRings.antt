@@ -18,8 +18,11 @@ use Rattle.mako_model.specs.Heaps.{Heap}
 use Rattle.mako_model.specs.Legal.{Facts, state_of}
 use Rattle.mako_call.specs.Agreeing.{StageOf}
 use Rattle.mako_call.specs.declared.call_stage.CallStage.{CallStage}
-use Rattle.mako_call.specs.declared.call_stage.CallStage.TheVariants.{Arriving, Rooting, Entering, Moving, Getting, Putting, Allocating, Asking, Leaving, Ended}
-use Rattle.mako_call.specs.declared.putting.PutStage.TheVariants.{LoadingHeader as PutHeader, LoadingOld, LookingAtBarrier, StoringBarrier, StoringField as StoringPut}
+use Rattle.mako_call.specs.declared.call_stage.CallStage.TheVariants.{Arriving, Rooting, Entering, Moving, Getting}
+use Rattle.mako_call.specs.declared.call_stage.CallStage.TheVariants.{Putting, Allocating, Asking, Leaving, Ended}
+use Rattle.mako_call.specs.declared.putting.PutStage.TheVariants.{LoadingHeader as PutHeader, LoadingOld}
+use Rattle.mako_call.specs.declared.putting.PutStage.TheVariants.{LookingAtBarrier, StoringBarrier}
+use Rattle.mako_call.specs.declared.putting.PutStage.TheVariants.{StoringField as StoringPut}
 use Rattle.mako_mutator.specs.declared.progress.Task.{Task}
 use Rattle.mako_mutator.specs.declared.progress.Task.TheVariants.{Attempting, Awaiting, Finishing, Ended as TaskEnded}
 use Rattle.mako_mutator.specs.Drivers as drivers
@@ -29,12 +32,14 @@ use Rattle.mako_pause.specs.Collecting.{Collecting, Holdings}
 use Rattle.mako_pause.specs.Keeping.{IsKeptKnown, StageIsKnown}
 use Rattle.mako_pause.specs.declared.stage.BarrierStage.TheVariants.{Loading as BarrierLook, Clearing as BarrierClear}
 use Rattle.mako_pause.specs.declared.stage.CollectStage.{CollectStage}
-use Rattle.mako_pause.specs.declared.stage.CollectStage.TheVariants.{Idle, Pausing, Forwarding, Barriers, Emptying, Polling, Choosing, Noticing, Ended as CollectEnded}
+use Rattle.mako_pause.specs.declared.stage.CollectStage.TheVariants.{Idle, Pausing, Forwarding, Barriers, Emptying}
+use Rattle.mako_pause.specs.declared.stage.CollectStage.TheVariants.{Polling, Choosing, Noticing, Ended as CollectEnded}
 use Rattle.mako_seat.specs.declared.seat.Seat.{Seat}
 use Rattle.mako_seat.specs.declared.seat.Seat.TheVariants.{Mutator}
 use Rattle.mako_mutating.specs.Mutators.{found_by, stepped, TaskKeeps, StageKeeps}
 use Rattle.mako_making.proofs.Tasks.{only_asks}
-use Rattle.mako_collecting.specs.Keeping.{CollectorKeeps, StageKeeps as CollectorStageKeeps, BarrierRing, BarrierRingsStand}
+use Rattle.mako_collecting.specs.Keeping.{CollectorKeeps, StageKeeps as CollectorStageKeeps, BarrierRing}
+use Rattle.mako_collecting.specs.Keeping.{BarrierRingsStand}
 use Rattle.mako_collecting.proofs.BarrierRings.{ring_stays}
 use Rattle.mako_tracing.proofs.Lists.{if_same, if_other}
 use Rattle.mako_sitting.specs.Seats.{AllSit, PutsAt, MutatorSits, CollectorSits}

@@ -15,9 +15,12 @@ use Rattle.mako_joint.specs.Joints.{JointScene}
 use Rattle.mako_pause.specs.Collecting.{Collecting, Holdings, chosen_tablet}
 use Rattle.mako_pause.specs.Keeping.{IsKeptKnown, StageIsKnown}
 use Rattle.mako_pause.specs.declared.stage.ChoiceStage.{ChoiceStage}
-use Rattle.mako_pause.specs.declared.stage.ChoiceStage.TheVariants.{LoadingLive, LoadingTop, LoadingHome, StoringLeaving, StoringHome, StoringTop, StoringEvac, Opening as Reopening}
+use Rattle.mako_pause.specs.declared.stage.ChoiceStage.TheVariants.{LoadingLive, LoadingTop, LoadingHome}
+use Rattle.mako_pause.specs.declared.stage.ChoiceStage.TheVariants.{StoringLeaving, StoringHome, StoringTop}
+use Rattle.mako_pause.specs.declared.stage.ChoiceStage.TheVariants.{StoringEvac, Opening as Reopening}
 use Rattle.mako_pause.specs.declared.stage.CollectStage.{CollectStage}
-use Rattle.mako_pause.specs.declared.stage.CollectStage.TheVariants.{Idle, Pausing, Forwarding, Barriers, Emptying, Polling, Choosing, Noticing, Ended}
+use Rattle.mako_pause.specs.declared.stage.CollectStage.TheVariants.{Idle, Pausing, Forwarding, Barriers, Emptying}
+use Rattle.mako_pause.specs.declared.stage.CollectStage.TheVariants.{Polling, Choosing, Noticing, Ended}
 use Rattle.mako_seat.specs.declared.seat.Seat.{Seat}
 use Rattle.mako_seat.specs.declared.seat.Seat.TheVariants.{Mutator, Server, Collector}
 use Rattle.mako_mutating.specs.Mutators.{stepped}
@@ -25,7 +28,8 @@ use Rattle.mako_collecting.specs.Facets.{IsCollector}
 use Rattle.mako_collecting.specs.Roles.{ChoiceGift}
 use Rattle.mako_sitting.specs.Seats.{AllSit, SeatSits, CollectorSits, ChoiceSits}
 use Rattle.mako_sitting_mutators.specs.MutatorSteps.{mutator_next, places_after, MutatorsKeepAll}
-use Rattle.mako_sitting_mutators.proofs.MutatorBeside.{kept, leaves, own_sits, other_sits, server_sits, few_after, finished_same}
+use Rattle.mako_sitting_mutators.proofs.MutatorBeside.{kept, leaves, own_sits, other_sits, server_sits, few_after}
+use Rattle.mako_sitting_mutators.proofs.MutatorBeside.{finished_same}
 use Rattle.mako_sitting_mutators.proofs.MutatorQuiet.{ends_counted}
 use Rattle.mako_sitting_mutators.proofs.MutatorRings.{keeps_after}
 use Rattle.mako_sitting_mutators.proofs.MutatorBarriers.{collector_left}

@@ -13,7 +13,8 @@ use Rattle.mako_model.specs.Legal.{Facts}
 use Rattle.mako_model.specs.declared.attempt.Attempt.TheVariants.{Answer, Full, Pause as Paused}
 use Rattle.mako_call.specs.Calls.{Calling, outcome_in}
 use Rattle.mako_call.specs.declared.call_stage.CallStage.{CallStage}
-use Rattle.mako_call.specs.declared.call_stage.CallStage.TheVariants.{Arriving, Rooting, Entering, Moving, Getting, Putting, Allocating, Asking, Leaving, Ended}
+use Rattle.mako_call.specs.declared.call_stage.CallStage.TheVariants.{Arriving, Rooting, Entering, Moving, Getting}
+use Rattle.mako_call.specs.declared.call_stage.CallStage.TheVariants.{Putting, Allocating, Asking, Leaving, Ended}
 use Rattle.mako_call.specs.declared.leaving.LeaveStage.TheVariants.{Refused, TurnedAway, FromTablet, FromOwn}
 use Rattle.mako_mutator.specs.declared.progress.Task.{Task}
 use Rattle.mako_mutator.specs.declared.progress.Task.TheVariants.{Attempting, Awaiting, Finishing, Ended as TaskEnded}
@@ -28,7 +29,8 @@ use Rattle.mako_mutating.specs.Mutators.{found_by, stepped, IsAttempting}
 use Rattle.mako_mutating.proofs.MoveSteps.{attempts_keep, attempts_can_go}
 use Rattle.mako_making.specs.Going.{IsBesideObjects, IsAtRoom}
 use Rattle.mako_making.specs.Makings.{IsMaking, MakingKeeps}
-use Rattle.mako_making.specs.Stages.{IsElsewhere, TaskIsElsewhere, IsAllocating, AttemptsObject, IsAsking, AttemptsCollect, AwaitsCycle, IsPastCalls, LeavesFilled, AttemptsFilled}
+use Rattle.mako_making.specs.Stages.{IsElsewhere, TaskIsElsewhere, IsAllocating, AttemptsObject, IsAsking}
+use Rattle.mako_making.specs.Stages.{AttemptsCollect, AwaitsCycle, IsPastCalls, LeavesFilled, AttemptsFilled}
 use Rattle.mako_making.proofs.Beginning.{none_begins}
 use Rattle.mako_making.proofs.Going.{makings_can_go}
 use Rattle.mako_making.proofs.Wholes.{objects_keep, collects_keep, filled_keep, waits_keep, ends_keep}

@@ -21,9 +21,12 @@ use Rattle.mako_evac.specs.Evacuating.{Evacuation}
 use Rattle.mako_server.specs.declared.stage.ServerStage.TheVariants.{Turning, Evacuating}
 use Rattle.mako_server.specs.Serving.{Serving, evacuated as evacuated_to}
 use Rattle.mako_tracing.specs.ServerFacets.{tracer_laden, server_gate, server_work, server_phase}
-use Rattle.mako_clearing.specs.ClearingFacets.{clearing_phase, clearing_ended, clearing_gate, clearing_work, stage_carries, stage_phase, stage_ended, stage_watch, stage_work, stage_through}
+use Rattle.mako_clearing.specs.ClearingFacets.{clearing_phase, clearing_ended, clearing_gate, clearing_work}
+use Rattle.mako_clearing.specs.ClearingFacets.{stage_carries, stage_phase, stage_ended, stage_watch, stage_work}
+use Rattle.mako_clearing.specs.ClearingFacets.{stage_through}
 use Rattle.mako_clearing.specs.Notices.{SendingStands}
-use Rattle.mako_clearing.specs.Clearing.{SeatStands, ClearingStands, ClearingGoesOn, ReadersMatch, ObjectsAreSmall, IsFreeing, IsAtTablet, tells_end}
+use Rattle.mako_clearing.specs.Clearing.{SeatStands, ClearingStands, ClearingGoesOn, ReadersMatch, ObjectsAreSmall}
+use Rattle.mako_clearing.specs.Clearing.{IsFreeing, IsAtTablet, tells_end}
 use Rattle.mako_clearing.proofs.Keeping.{tablets_keep, freeing_keeps}
 use Rattle.mako_clearing.proofs.Seated.{Works, cycle_in, phase_is_evac}
 use Rattle.mako_clearing.proofs.Turning.{evacuations_end}

@@ -1,5 +1,6 @@
 -- Live counts past a step of a server, and what the collector has found.
-use Rattle.std.proofs.Common.{◌≡◌, ◌≢◌, ℕ, Bool, true, false, List, ◌∷◌, ◌++◌, set, slice_get, Some, sym, ap, subst, refl, ◌∙◌}
+use Rattle.std.proofs.Common.{◌≡◌, ◌≢◌, ℕ, Bool, true, false, List, ◌∷◌, ◌++◌, set, slice_get, Some, sym, ap, subst}
+use Rattle.std.proofs.Common.{refl, ◌∙◌}
 use Rattle.mako_words.specs.declared.phase_word.PhaseWord.{PhaseWord}
 use Rattle.mako_words.specs.declared.phase_word.PhaseWord.TheVariants.{Idle, Trace, Evac, Stop}
 use Rattle.mako_words.specs.Phases.{phase_at}
@@ -16,9 +17,11 @@ use Rattle.mako_ring.specs.Tracing as tracer
 use Rattle.mako_ring.specs.Tracing.{TracerView}
 use Rattle.mako_ring.specs.TraceFacets.{empty}
 use Rattle.mako_ring.specs.TracerFacets.{hand_of}
-use Rattle.mako_ring.specs.declared.tracing.MarkStage.TheVariants.{Considering, Measuring, Marking as EntryMark, Counting}
+use Rattle.mako_ring.specs.declared.tracing.MarkStage.TheVariants.{Considering, Measuring, Marking as EntryMark}
+use Rattle.mako_ring.specs.declared.tracing.MarkStage.TheVariants.{Counting}
 use Rattle.mako_ring.specs.declared.tracing.TraceStage.{TraceStage}
-use Rattle.mako_ring.specs.declared.tracing.TraceStage.TheVariants.{Sending, Scanning, Receiving, Marking, Resting, Ended as AtEnd}
+use Rattle.mako_ring.specs.declared.tracing.TraceStage.TheVariants.{Sending, Scanning, Receiving, Marking, Resting}
+use Rattle.mako_ring.specs.declared.tracing.TraceStage.TheVariants.{Ended as AtEnd}
 use Rattle.mako_phases.specs.Facets as order
 use Rattle.mako_phases.specs.Lives.{LiveFacet, AreCounted, ArePast}
 use Rattle.mako_phases.specs.Snapshots.{before_snap}

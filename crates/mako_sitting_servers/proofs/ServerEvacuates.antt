@@ -1,5 +1,6 @@
 -- Each step of a server's evacuation keeps all seats; and so each step of a server.
-use Rattle.std.proofs.Common.{◌≡◌, ℕ, ◌+◌, ◌<◌, ◌≤◌, ◌⊎◌, Bool, List, ◌++◌, [], map, set, slice_get, Some, sym, ap, subst, refl, ◌∙◌}
+use Rattle.std.proofs.Common.{◌≡◌, ℕ, ◌+◌, ◌<◌, ◌≤◌, ◌⊎◌, Bool, List, ◌++◌, [], map, set, slice_get, Some, sym, ap}
+use Rattle.std.proofs.Common.{subst, refl, ◌∙◌}
 use Rattle.mako_words.specs.declared.name.Name.{Name}
 use Rattle.mako_words.specs.declared.phase_word.PhaseWord.{PhaseWord}
 use Rattle.mako_words.specs.declared.phase_word.PhaseWord.TheVariants.{Trace, Evac}
@@ -20,7 +21,8 @@ use Rattle.mako_ring.specs.TracerFacts.{TracerStands}
 use Rattle.mako_ring.specs.Tracing as tracer
 use Rattle.mako_ring.specs.Tracing.{TracerView}
 use Rattle.mako_phases.specs.Facets as order
-use Rattle.mako_phases.specs.Facets.{Part, choosing, collecting, PhaseFacet, mutating, serving, IsRestful, phase_during, role_of}
+use Rattle.mako_phases.specs.Facets.{Part, choosing, collecting, PhaseFacet, mutating, serving, IsRestful, phase_during}
+use Rattle.mako_phases.specs.Facets.{role_of}
 use Rattle.mako_phases.specs.Lives.{counting}
 use Rattle.mako_phases.proofs.LiveLaws.{past_stays}
 use Rattle.mako_phases.proofs.Says.{part_phase}
@@ -29,7 +31,8 @@ use Rattle.mako_evac.specs.Evacuating as evacuations
 use Rattle.mako_evac.specs.Evacuating.{Evacuation}
 use Rattle.mako_server.specs.declared.stage.ServerStage.{ServerStage}
 use Rattle.mako_server.specs.declared.stage.ServerStage.TheVariants.{Turning, Tracing, Evacuating, Ended}
-use Rattle.mako_server.specs.Serving.{Serving, IsKnown, StageIsKnown, StageFits, EvacuationIsKnown, next_of, Fits, stage_next, stage_fed, evacuated as evacuated_to}
+use Rattle.mako_server.specs.Serving.{Serving, IsKnown, StageIsKnown, StageFits, EvacuationIsKnown, next_of, Fits}
+use Rattle.mako_server.specs.Serving.{stage_next, stage_fed, evacuated as evacuated_to}
 use Rattle.mako_pause.specs.Collecting.{Collecting, running}
 use Rattle.mako_seat.specs.declared.seat.Seat.{Seat}
 use Rattle.mako_seat.specs.declared.seat.Seat.TheVariants.{Server}
@@ -38,7 +41,8 @@ use Rattle.mako_tracing.specs.ServerFacets.{IsServerSeat, tracer_owed, server_li
 use Rattle.mako_tracing.specs.ServerKeeps.{StageIsFree, SlotsBelong, IsNameFor}
 use Rattle.mako_tracing.specs.ServerLives.{IsMeasured}
 use Rattle.mako_tracing.proofs.Acts.{tracing_can_go, turns_can_go}
-use Rattle.mako_clearing.specs.ClearingFacets.{server_seat, clearing_gate, clearing_phase, clearing_ended, clearing_work}
+use Rattle.mako_clearing.specs.ClearingFacets.{server_seat, clearing_gate, clearing_phase, clearing_ended}
+use Rattle.mako_clearing.specs.ClearingFacets.{clearing_work}
 use Rattle.mako_clearing.specs.Clearing.{ClearingGoesOn, evacuated}
 use Rattle.mako_writes.specs.Writes.{LeavesOthers, ServerWrites}
 use Rattle.mako_sitting.specs.Seats.{StageSits, ServerSits, LivesFit, live_facet, AllSit}

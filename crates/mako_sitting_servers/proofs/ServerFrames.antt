@@ -18,7 +18,8 @@ use Rattle.mako_ring.specs.Tracing.{TracerView}
 use Rattle.mako_ring.specs.TraceFacets as trace
 use Rattle.mako_ring.specs.TraceFacets.{InHand, Hand, empty}
 use Rattle.mako_ring.specs.TracerFacets.{hand_of, work_of}
-use Rattle.mako_phases.specs.Facets.{Part, idle, pausing, rooting, tracing, choosing, evacuating, stopped, phase_during, IsRestful, serving}
+use Rattle.mako_phases.specs.Facets.{Part, idle, pausing, rooting, tracing, choosing, evacuating, stopped, phase_during}
+use Rattle.mako_phases.specs.Facets.{IsRestful, serving}
 use Rattle.mako_phases.proofs.Says.{part_phase}
 use Rattle.mako_joint.specs.Joints.{JointScene, trace_in, TracksFit, Joint}
 use Rattle.mako_evac.specs.Evacuating as evacuations
@@ -28,10 +29,12 @@ use Rattle.mako_server.specs.declared.stage.ServerStage.TheVariants.{Turning, Tr
 use Rattle.mako_server.specs.Serving.{Serving, next_of, fed, stage_fed, turned, traced, evacuated as evacuated_to}
 use Rattle.mako_trace.proofs.SameServer.{begun_same, fed_same}
 use Rattle.mako_tracing.specs.Laws.{words_next, server_next, scene_next, ServerStands}
-use Rattle.mako_tracing.specs.ServerFacets.{tracer_laden, server_trace, server_gate, server_work, server_phase, server_serving, IsServerSeat}
+use Rattle.mako_tracing.specs.ServerFacets.{tracer_laden, server_trace, server_gate, server_work, server_phase}
+use Rattle.mako_tracing.specs.ServerFacets.{server_serving, IsServerSeat}
 use Rattle.mako_tracing.proofs.Lists.{if_other}
 use Rattle.mako_tracing.proofs.Resting.{unladen_rest}
-use Rattle.mako_clearing.specs.ClearingFacets.{server_seat, clearing_phase, clearing_ended, clearing_gate, clearing_work, clearing_through, stage_sends}
+use Rattle.mako_clearing.specs.ClearingFacets.{server_seat, clearing_phase, clearing_ended, clearing_gate}
+use Rattle.mako_clearing.specs.ClearingFacets.{clearing_work, clearing_through, stage_sends}
 use Rattle.mako_clearing.specs.Clearing.{evacuated}
 use Rattle.mako_writes.specs.Writes.{HandIsOwn, ServerWrites, LeavesOthers}
 use Rattle.mako_writes.proofs.Servers.{servers_write}

@@ -7,7 +7,8 @@ use Rattle.mako_step.specs.Acts.{does}
 use Rattle.mako_step.specs.declared.act.Op.{Op}
 use Rattle.mako_step.specs.declared.act.Op.TheVariants.{Store}
 use Rattle.mako_shape.specs.declared.numbers.Numbers.{Numbers}
-use Rattle.mako_shape.specs.Places.{Place, flags, work, ghost, notice, tablet_gate, top, leaving, live, entry, region_word, index}
+use Rattle.mako_shape.specs.Places.{Place, flags, work, ghost, notice, tablet_gate, top, leaving, live, entry}
+use Rattle.mako_shape.specs.Places.{region_word, index}
 use Rattle.mako_shape.specs.Belongings.{tablet_of_entry, server_of_entry, server_of_tablet}
 use Rattle.mako_shape.proofs.BelongingLaws.{belongings_in_range}
 use Rattle.mako_shape.proofs.Rows.{row-below, row-and-column, div-below, width}
@@ -25,11 +26,13 @@ use Rattle.mako_ring.specs.declared.tracing.ScanStage.TheVariants.{FieldLoad, En
 use Rattle.mako_ring.specs.declared.tracing.ReceiveStage.{ReceiveStage}
 use Rattle.mako_ring.specs.declared.tracing.ReceiveStage.TheVariants.{SlotLook, BusyRaise, SlotClear}
 use Rattle.mako_ring.specs.declared.tracing.MarkStage.{MarkStage}
-use Rattle.mako_ring.specs.declared.tracing.MarkStage.TheVariants.{Considering, Measuring, Marking as EntryMark, Counting}
+use Rattle.mako_ring.specs.declared.tracing.MarkStage.TheVariants.{Considering, Measuring, Marking as EntryMark}
+use Rattle.mako_ring.specs.declared.tracing.MarkStage.TheVariants.{Counting}
 use Rattle.mako_ring.specs.declared.tracing.RestStage.{RestStage}
 use Rattle.mako_ring.specs.declared.tracing.RestStage.TheVariants.{BusyLower, TailLook, GhostLower}
 use Rattle.mako_ring.specs.declared.tracing.TraceStage.{TraceStage}
-use Rattle.mako_ring.specs.declared.tracing.TraceStage.TheVariants.{Sending, Scanning, Receiving, Marking, Resting, Ended as AtEnd}
+use Rattle.mako_ring.specs.declared.tracing.TraceStage.TheVariants.{Sending, Scanning, Receiving, Marking, Resting}
+use Rattle.mako_ring.specs.declared.tracing.TraceStage.TheVariants.{Ended as AtEnd}
 use Rattle.mako_trace.specs.Held as held
 use Rattle.mako_evac.specs.Evacuating as evacuating
 use Rattle.mako_evac.specs.Evacuating.{Evacuation}
@@ -38,9 +41,12 @@ use Rattle.mako_evac.specs.Owners.{tablets_end, IsOwner, IsOwnTablet, IsOwnEntry
 use Rattle.mako_evac.specs.Tablets as tablets
 use Rattle.mako_evac.specs.declared.owner.Owner.{Owner}
 use Rattle.mako_evac.specs.declared.stage.EvacStage.{EvacStage}
-use Rattle.mako_evac.specs.declared.stage.EvacStage.TheVariants.{Evacuating as AtTablet, Freeing, AwaitingEnd, TellingEnd, Ended as Evacuated}
+use Rattle.mako_evac.specs.declared.stage.EvacStage.TheVariants.{Evacuating as AtTablet, Freeing, AwaitingEnd}
+use Rattle.mako_evac.specs.declared.stage.EvacStage.TheVariants.{TellingEnd, Ended as Evacuated}
 use Rattle.mako_evac.specs.declared.tablet.TabletStage.{TabletStage}
-use Rattle.mako_evac.specs.declared.tablet.TabletStage.TheVariants.{LoadingLeaving, Shutting, Draining, LoadingHome, LoadingEntry, Copying as Copies, Clearing, Reopening}
+use Rattle.mako_evac.specs.declared.tablet.TabletStage.TheVariants.{LoadingLeaving, Shutting, Draining, LoadingHome}
+use Rattle.mako_evac.specs.declared.tablet.TabletStage.TheVariants.{LoadingEntry, Copying as Copies, Clearing}
+use Rattle.mako_evac.specs.declared.tablet.TabletStage.TheVariants.{Reopening}
 use Rattle.mako_evac.specs.declared.freeing.FreeStage.{FreeStage}
 use Rattle.mako_evac.specs.declared.freeing.FreeStage.TheVariants.{Loading, Storing, Awaiting, Telling}
 use Rattle.mako_writes.proofs.Copies.{copies}

@@ -9,13 +9,16 @@ use Rattle.mako_names.specs.Tables.{phase_of}
 use Rattle.mako_names.proofs.Going.{get_map as get_mapped}
 use Rattle.mako_layout.specs.StepParts.{collector_seat}
 use Rattle.mako_phases.specs.Facets as order
-use Rattle.mako_phases.specs.Facets.{Part, choosing, collecting, PhaseFacet, mutating, serving, IsRestful, phase_during, role_of}
+use Rattle.mako_phases.specs.Facets.{Part, choosing, collecting, PhaseFacet, mutating, serving, IsRestful, phase_during}
+use Rattle.mako_phases.specs.Facets.{role_of}
 use Rattle.mako_phases.proofs.Frames.{get_map}
 use Rattle.mako_joint.specs.Joints.{JointScene}
 use Rattle.mako_server.specs.declared.stage.ServerStage.TheVariants.{Turning, Tracing}
 use Rattle.mako_server.specs.Serving.{Serving, next_of}
 use Rattle.mako_pause.specs.Collecting.{Holdings, Collecting, running}
-use Rattle.mako_pause.specs.declared.stage.ChoiceStage.TheVariants.{LoadingLive, LoadingTop, LoadingHome, StoringLeaving, StoringHome, StoringTop, StoringEvac, Opening as Reopening}
+use Rattle.mako_pause.specs.declared.stage.ChoiceStage.TheVariants.{LoadingLive, LoadingTop, LoadingHome}
+use Rattle.mako_pause.specs.declared.stage.ChoiceStage.TheVariants.{StoringLeaving, StoringHome, StoringTop}
+use Rattle.mako_pause.specs.declared.stage.ChoiceStage.TheVariants.{StoringEvac, Opening as Reopening}
 use Rattle.mako_pause.specs.declared.stage.CollectStage.{CollectStage}
 use Rattle.mako_pause.specs.declared.stage.CollectStage.TheVariants as collect
 use Rattle.mako_seat.specs.declared.seat.Seat.{Seat}

@@ -1,6 +1,7 @@
 -- Which mutators a legal history answers, and to which of their calls.
 use mathlib.Core.List.{IsPrefix}
-use Rattle.std.proofs.Common.{◌≡◌, ℕ, zero, suc, ◌+◌, ◌<◌, List, [], ◌∷◌, length, slice_get, Some, sym, ap, subst, refl, arith, eq-eqb, ne_eqb, length-set}
+use Rattle.std.proofs.Common.{◌≡◌, ℕ, zero, suc, ◌+◌, ◌<◌, List, [], ◌∷◌, length, slice_get, Some, sym, ap, subst, refl}
+use Rattle.std.proofs.Common.{arith, eq-eqb, ne_eqb, length-set}
 use Rattle.std.proofs.lemmas.Option.{none-some}
 use Rattle.mako_words.specs.declared.name.Name.{Name}
 use Rattle.mako_words.specs.declared.value.Value.{Value}

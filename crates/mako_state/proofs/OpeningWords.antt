@@ -1,19 +1,24 @@
 -- The words at the start, place by place.
-use Rattle.std.proofs.Common.{◌≡◌, ◌≢◌, ℕ, zero, suc, ◌+◌, ◌*◌, ◌<◌, ◌≤◌, ◌⊎◌, ⊎_elim, inl, inr, ◌==◌, cond, List, [], ◌∷◌, ◌++◌, length, set, replicate, get_or, ne_eqb, sym, ap, subst, refl, ◌∙◌, arith, length-set}
+use Rattle.std.proofs.Common.{◌≡◌, ◌≢◌, ℕ, zero, suc, ◌+◌, ◌*◌, ◌<◌, ◌≤◌, ◌⊎◌, ⊎_elim, inl, inr, ◌==◌, cond, List, []}
+use Rattle.std.proofs.Common.{◌∷◌, ◌++◌, length, set, replicate, get_or, ne_eqb, sym, ap, subst, refl, ◌∙◌, arith}
+use Rattle.std.proofs.Common.{length-set}
 use Rattle.std.proofs.lemmas.Bool.{cases_eq}
 use Rattle.std.proofs.lemmas.List.{length-replicate}
 use Rattle.mako_words.specs.Names.{name_word}
 use Rattle.mako_words.specs.Entries.{entry_word}
 use Rattle.mako_shape.specs.declared.numbers.Numbers.{Numbers}
 use Rattle.mako_shape.specs.Limits.{IsShape, EachInRange, tested}
-use Rattle.mako_shape.specs.Places.{Place, phase, demand, finished, mutator_gate, root, barrier, flags, work, ghost, notice, tablet_gate, turn, home, top, leaving, live, entry, region_word, index, total, Within, word_at}
+use Rattle.mako_shape.specs.Places.{Place, phase, demand, finished, mutator_gate, root, barrier, flags, work, ghost}
+use Rattle.mako_shape.specs.Places.{notice, tablet_gate, turn, home, top, leaving, live, entry, region_word, index}
+use Rattle.mako_shape.specs.Places.{total, Within, word_at}
 use Rattle.mako_shape.proofs.PlaceLaws.{one_place, word_same, word_other}
 use Rattle.mako_shape.proofs.Rows.{row-below}
 use Rattle.mako_model.specs.Heaps.{board_name}
 use Rattle.mako_gate.specs.Changes.{tablets_of}
 use Rattle.mako_layout.specs.Layouts.{entries_of, regions_of}
 use Rattle.mako_layout.specs.Openings.{board_entry, opening_words}
-use Rattle.mako_state.specs.Openings.{Placed, board_roots, first_homes, board_places, opening_places, written, words_at_start}
+use Rattle.mako_state.specs.Openings.{Placed, board_roots, first_homes, board_places, opening_places, written}
+use Rattle.mako_state.specs.Openings.{words_at_start}
 
 -- ---- writes that agree with one function of places
 

@@ -1,5 +1,6 @@
 -- The core at its start: what its script, its words and its seats give to the openings of other definitions.
-use Rattle.std.proofs.Common.{◌≡◌, ℕ, ◌+◌, ◌<◌, ◌≤◌, false, List, length, map, slice_get, sum_by, Some, sym, ap, refl, ◌∙◌, arith}
+use Rattle.std.proofs.Common.{◌≡◌, ℕ, ◌+◌, ◌<◌, ◌≤◌, false, List, length, map, slice_get, sum_by, Some, sym, ap, refl}
+use Rattle.std.proofs.Common.{◌∙◌, arith}
 use Rattle.std.proofs.lemmas.Bool.Decides.{nat_tests}
 use Rattle.std.proofs.lemmas.List.{length-map}
 use Rattle.std.proofs.lemmas.Option.{same_Some, slice_get_within, slice_get_read}
@@ -31,7 +32,8 @@ use Rattle.mako_names.proofs.Going.{map_get}
 use Rattle.mako_state.specs.Facets.{gate_facet, work_facet, left_facet, ended_of}
 use Rattle.mako_state.proofs.Seating.{map_at}
 use Rattle.mako_state.proofs.OpeningWords.{entries_some}
-use Rattle.mako_state.proofs.OpeningSeats.{IsOpeningSeat, of_mutator, of_server, of_collector, gate_is, work_is, none_ended, gates_are, works_are, sum_none}
+use Rattle.mako_state.proofs.OpeningSeats.{IsOpeningSeat, of_mutator, of_server, of_collector, gate_is, work_is}
+use Rattle.mako_state.proofs.OpeningSeats.{none_ended, gates_are, works_are, sum_none}
 
 -- ---- the script
 

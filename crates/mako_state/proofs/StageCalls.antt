@@ -7,7 +7,9 @@ use Rattle.mako_model.specs.declared.call.Call.TheVariants as call
 use Rattle.mako_call.specs.declared.object.Access.TheVariants.{Get as Gets, Put as Puts}
 use Rattle.mako_call.specs.declared.object.Get.{Get as GetArgs}
 use Rattle.mako_call.specs.declared.object.Put.{Put as PutArgs}
-use Rattle.mako_call.specs.declared.rooting.RootStage.TheVariants.{LoadingCopied, LoadingShown, LoadingSource, LoadingTarget, LoadingValue, LoadingPhase, StoringCopied, StoringNull, StoringNumber}
+use Rattle.mako_call.specs.declared.rooting.RootStage.TheVariants.{LoadingCopied, LoadingShown, LoadingSource}
+use Rattle.mako_call.specs.declared.rooting.RootStage.TheVariants.{LoadingTarget, LoadingValue, LoadingPhase}
+use Rattle.mako_call.specs.declared.rooting.RootStage.TheVariants.{StoringCopied, StoringNull, StoringNumber}
 use Rattle.mako_call.specs.Agreeing.{RootStageOf, AccessOf}
 
 -- ---- at roots

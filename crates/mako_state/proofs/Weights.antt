@@ -1,7 +1,9 @@
 -- The calls that made objects weigh no more than those of all programs: no more names are made than programs have
 -- calls for.
 use mathlib.Core.List.{IsPrefix}
-use Rattle.std.proofs.Common.{◌≡◌, ℕ, zero, suc, ◌+◌, ◌<◌, ◌≤◌, ⊎_elim, Bool, cond, ltb, List, [], ◌∷◌, length, flat_map, slice_get, Some, sum_by, sym, ap, subst, refl, ◌∙◌, arith, eq-eqb, ne_eqb, length-append, length-set}
+use Rattle.std.proofs.Common.{◌≡◌, ℕ, zero, suc, ◌+◌, ◌<◌, ◌≤◌, ⊎_elim, Bool, cond, ltb, List, [], ◌∷◌, length}
+use Rattle.std.proofs.Common.{flat_map, slice_get, Some, sum_by, sym, ap, subst, refl, ◌∙◌, arith, eq-eqb, ne_eqb}
+use Rattle.std.proofs.Common.{length-append, length-set}
 use Rattle.std.proofs.lemmas.Bool.{cases_eq, cases_lt, lt-ltb, le-ltb}
 use Rattle.std.proofs.lemmas.List.Sums.{sum_by-cons, sum_by-append}
 use Rattle.std.proofs.lemmas.Option.{none-some}

@@ -2,7 +2,8 @@
 use Rattle.std.proofs.Common.{◌≡◌, ◌≢◌, ℕ, ◌<◌, List, length, set, sym, ap}
 use Rattle.std.proofs.lemmas.List.{set-get_or}
 use Rattle.mako_shape.specs.declared.numbers.Numbers.{Numbers}
-use Rattle.mako_shape.specs.Places.{Place, phase, mutator_gate, root, tablet_gate, turn, home, top, leaving, entry, region_word, rank, index, total, Within, word_at}
+use Rattle.mako_shape.specs.Places.{Place, phase, mutator_gate, root, tablet_gate, turn, home, top, leaving, entry}
+use Rattle.mako_shape.specs.Places.{region_word, rank, index, total, Within, word_at}
 use Rattle.mako_shape.proofs.PlaceLaws.{word_same, word_other}
 use Rattle.mako_step.specs.Acts.{words_after}
 use Rattle.mako_step.specs.declared.act.Op.TheVariants.{Load}

@@ -1,5 +1,6 @@
 -- The names in slots belong to the servers that take them, whatever a server's tracing stores.
-use Rattle.std.proofs.Common.{◌≡◌, ℕ, zero, suc, ◌⊎◌, inl, inr, ⊎_elim, List, length, replicate, set, slice_index_or, sym, ap, subst, refl, ◌∙◌}
+use Rattle.std.proofs.Common.{◌≡◌, ℕ, zero, suc, ◌⊎◌, inl, inr, ⊎_elim, List, length, replicate, set, slice_index_or}
+use Rattle.std.proofs.Common.{sym, ap, subst, refl, ◌∙◌}
 use Rattle.std.proofs.lemmas.List.{set-get_or, length-replicate}
 use Rattle.mako_words.specs.declared.name.Name.{Name}
 use Rattle.mako_words.specs.Names.{name_word}
@@ -13,10 +14,12 @@ use Rattle.mako_ring.specs.declared.window.Window.{Window}
 use Rattle.mako_ring.specs.declared.tracing.SendStage.TheVariants.{HeadLook, GhostRaise, HeadStore}
 use Rattle.mako_ring.specs.declared.tracing.ScanStage.TheVariants.{FieldLoad, EntryLoad, HeaderLoad}
 use Rattle.mako_ring.specs.declared.tracing.ReceiveStage.TheVariants.{SlotLook, BusyRaise, SlotClear}
-use Rattle.mako_ring.specs.declared.tracing.MarkStage.TheVariants.{Considering, Measuring, Marking as EntryMark, Counting}
+use Rattle.mako_ring.specs.declared.tracing.MarkStage.TheVariants.{Considering, Measuring, Marking as EntryMark}
+use Rattle.mako_ring.specs.declared.tracing.MarkStage.TheVariants.{Counting}
 use Rattle.mako_ring.specs.declared.tracing.RestStage.TheVariants.{BusyLower, TailLook, GhostLower}
 use Rattle.mako_ring.specs.declared.tracing.TraceStage.{TraceStage}
-use Rattle.mako_ring.specs.declared.tracing.TraceStage.TheVariants.{Sending, Scanning, Receiving, Marking, Resting, Ended}
+use Rattle.mako_ring.specs.declared.tracing.TraceStage.TheVariants.{Sending, Scanning, Receiving, Marking, Resting}
+use Rattle.mako_ring.specs.declared.tracing.TraceStage.TheVariants.{Ended}
 use Rattle.mako_shades.proofs.Words.{written}
 use Rattle.mako_names.specs.Uses.{IsUseSlot}
 use Rattle.mako_shades.specs.Steps.{IsIncoming}

@@ -1,5 +1,6 @@
 -- A server's machine keeps the live counts, in its tracing and at its turn.
-use Rattle.std.proofs.Common.{◌≡◌, ◌≢◌, ℕ, ◌==◌, ◌⊎◌, if◌then◌else◌, inl, inr, Bool, true, false, List, replicate, set, slice_get, Some, None, sym, ap, subst, refl, ◌∙◌, arith}
+use Rattle.std.proofs.Common.{◌≡◌, ◌≢◌, ℕ, ◌==◌, ◌⊎◌, if◌then◌else◌, inl, inr, Bool, true, false, List, replicate, set}
+use Rattle.std.proofs.Common.{slice_get, Some, None, sym, ap, subst, refl, ◌∙◌, arith}
 use Rattle.std.proofs.lemmas.Bool.Decides.{nat_tests}
 use Rattle.std.proofs.lemmas.List.{set-get_or}
 use Rattle.mako_words.specs.declared.phase_word.PhaseWord.TheVariants.{Trace}
@@ -15,7 +16,8 @@ use Rattle.mako_model.specs.Legal.{Facts, state_of}
 use Rattle.mako_model.proofs.Lists.{get_set_same}
 use Rattle.mako_names.specs.Tables.{phase_of}
 use Rattle.mako_ring.specs.Tracing as tracer
-use Rattle.mako_ring.specs.Tracing.{TracerView, owner, window_of, head_slot, slot_of, own_tablet, live_of, at_stage, next_work, begun}
+use Rattle.mako_ring.specs.Tracing.{TracerView, owner, window_of, head_slot, slot_of, own_tablet, live_of, at_stage}
+use Rattle.mako_ring.specs.Tracing.{next_work, begun}
 use Rattle.mako_phases.specs.Lives.{LiveFacet, counting, AreCounted}
 use Rattle.mako_phases.specs.LiveSteps as lives
 use Rattle.mako_phases.specs.LiveSteps.{LiveScene, LeavesLives, OldMarksAdd}

@@ -1,5 +1,6 @@
 -- Each step of a server's tracing keeps the live counts.
-use Rattle.std.proofs.Common.{◌≡◌, ◌≢◌, ℕ, ◌+◌, inl, true, List, ◌∷◌, ◌++◌, Contains, length, set, slice_get, slice_index, Option, Some, None, sym, ap, subst, refl, ◌∙◌, arith, length-set}
+use Rattle.std.proofs.Common.{◌≡◌, ◌≢◌, ℕ, ◌+◌, inl, true, List, ◌∷◌, ◌++◌, Contains, length, set, slice_get}
+use Rattle.std.proofs.Common.{slice_index, Option, Some, None, sym, ap, subst, refl, ◌∙◌, arith, length-set}
 use Rattle.std.proofs.lemmas.List.{set-get_or}
 use Rattle.mako_words.specs.declared.entry_word.EntryWord.{EntryWord}
 use Rattle.mako_words.specs.declared.name.Name.{Name}
@@ -24,15 +25,18 @@ use Rattle.mako_ring.specs.TraceFacets as trace
 use Rattle.mako_ring.specs.TraceFacets.{Work}
 use Rattle.mako_ring.specs.TracerFacets.{work_of}
 use Rattle.mako_ring.specs.Tracing as tracer
-use Rattle.mako_ring.specs.Tracing.{TracerView, owner, window_of, head_slot, slot_of, own_tablet, live_of, at_stage, next_work, begun}
+use Rattle.mako_ring.specs.Tracing.{TracerView, owner, window_of, head_slot, slot_of, own_tablet, live_of, at_stage}
+use Rattle.mako_ring.specs.Tracing.{next_work, begun}
 use Rattle.mako_ring.specs.declared.tracing.Source.TheVariants.{Collector, Server}
 use Rattle.mako_ring.specs.declared.tracing.SendStage.TheVariants.{HeadLook, GhostRaise, HeadStore}
 use Rattle.mako_ring.specs.declared.tracing.ScanStage.TheVariants.{FieldLoad, EntryLoad, HeaderLoad}
 use Rattle.mako_ring.specs.declared.tracing.ReceiveStage.TheVariants.{SlotLook, BusyRaise, SlotClear}
-use Rattle.mako_ring.specs.declared.tracing.MarkStage.TheVariants.{Considering, Measuring, Marking as EntryMark, Counting}
+use Rattle.mako_ring.specs.declared.tracing.MarkStage.TheVariants.{Considering, Measuring, Marking as EntryMark}
+use Rattle.mako_ring.specs.declared.tracing.MarkStage.TheVariants.{Counting}
 use Rattle.mako_ring.specs.declared.tracing.RestStage.TheVariants.{BusyLower, TailLook, GhostLower}
 use Rattle.mako_ring.specs.declared.tracing.TraceStage.{TraceStage}
-use Rattle.mako_ring.specs.declared.tracing.TraceStage.TheVariants.{Sending, Scanning, Receiving, Marking, Resting, Ended}
+use Rattle.mako_ring.specs.declared.tracing.TraceStage.TheVariants.{Sending, Scanning, Receiving, Marking, Resting}
+use Rattle.mako_ring.specs.declared.tracing.TraceStage.TheVariants.{Ended}
 use Rattle.mako_shades.specs.Serving.{ServerStands as TracesAs, HandStands}
 use Rattle.mako_shades.proofs.Chains.{unmarked_old}
 use Rattle.mako_shades.proofs.ForNames.{held_good}

@@ -1,5 +1,6 @@
 -- The words that a server's tracing finds are those that it can go on with.
-use Rattle.std.proofs.Common.{◌≡◌, ℕ, ◌+◌, ◌*◌, ◌<◌, ◌⊎◌, ◌||◌, inl, inr, true, false, length, slice_get, slice_index, get_or, Some, sym, ap, subst, refl, ◌∙◌, arith, mul_comm}
+use Rattle.std.proofs.Common.{◌≡◌, ℕ, ◌+◌, ◌*◌, ◌<◌, ◌⊎◌, ◌||◌, inl, inr, true, false, length, slice_get, slice_index}
+use Rattle.std.proofs.Common.{get_or, Some, sym, ap, subst, refl, ◌∙◌, arith, mul_comm}
 use Rattle.std.proofs.lemmas.Option.{slice_get-get_or}
 use Rattle.mako_words.specs.declared.entry_word.EntryWord.{EntryWord}
 use Rattle.mako_words.specs.declared.name.Name.{Name}
@@ -23,17 +24,20 @@ use Rattle.mako_names.specs.Uses.{IsGood}
 use Rattle.mako_ring.specs.TraceFacets as trace
 use Rattle.mako_ring.specs.TraceFacets.{Work, considering, marking, pushing, popped, located}
 use Rattle.mako_ring.specs.TracerFacets.{work_of, serving_of}
-use Rattle.mako_ring.specs.Tracing.{TracerView, own_tablet, slot_of, at_stage, FieldFits, RecordFits, IsOwnName, StageFits, stage_next}
+use Rattle.mako_ring.specs.Tracing.{TracerView, own_tablet, slot_of, at_stage, FieldFits, RecordFits, IsOwnName}
+use Rattle.mako_ring.specs.Tracing.{StageFits, stage_next}
 use Rattle.mako_ring.specs.declared.tracing.Scan.{Scan}
 use Rattle.mako_ring.specs.declared.tracing.Source.{Source}
 use Rattle.mako_ring.specs.declared.tracing.Source.TheVariants.{Collector, Server}
 use Rattle.mako_ring.specs.declared.tracing.SendStage.TheVariants.{HeadLook, GhostRaise, HeadStore}
 use Rattle.mako_ring.specs.declared.tracing.ScanStage.TheVariants.{FieldLoad, EntryLoad, HeaderLoad}
 use Rattle.mako_ring.specs.declared.tracing.ReceiveStage.TheVariants.{SlotLook, BusyRaise, SlotClear}
-use Rattle.mako_ring.specs.declared.tracing.MarkStage.TheVariants.{Considering, Measuring, Marking as EntryMark, Counting}
+use Rattle.mako_ring.specs.declared.tracing.MarkStage.TheVariants.{Considering, Measuring, Marking as EntryMark}
+use Rattle.mako_ring.specs.declared.tracing.MarkStage.TheVariants.{Counting}
 use Rattle.mako_ring.specs.declared.tracing.RestStage.TheVariants.{BusyLower, TailLook, GhostLower}
 use Rattle.mako_ring.specs.declared.tracing.TraceStage.{TraceStage}
-use Rattle.mako_ring.specs.declared.tracing.TraceStage.TheVariants.{Sending, Scanning, Receiving, Marking, Resting, Ended}
+use Rattle.mako_ring.specs.declared.tracing.TraceStage.TheVariants.{Sending, Scanning, Receiving, Marking, Resting}
+use Rattle.mako_ring.specs.declared.tracing.TraceStage.TheVariants.{Ended}
 use Rattle.mako_ring.specs.Facets as rings
 use Rattle.mako_ring.specs.Facets.{IsSource}
 use Rattle.mako_ring.specs.Polling.{WorkStands, GhostStands}

@@ -1,5 +1,7 @@
 -- Where the parts of a server's tracing lead: what it then has to trace, and that it stays in its cycle.
-use Rattle.std.proofs.Common.{◌≡◌, ℕ, ◌+◌, ◌-◌, ◌==◌, ◌&&◌, nat_lt, if◌then◌else◌, Bool, true, false, Option, Some, None, is_none, List, [], ◌∷◌, ◌++◌, length, take, drop, slice_index, slice_get, slice_set, position, refl}
+use Rattle.std.proofs.Common.{◌≡◌, ℕ, ◌+◌, ◌-◌, ◌==◌, ◌&&◌, nat_lt, if◌then◌else◌, Bool, true, false, Option, Some}
+use Rattle.std.proofs.Common.{None, is_none, List, [], ◌∷◌, ◌++◌, length, take, drop, slice_index, slice_get, slice_set}
+use Rattle.std.proofs.Common.{position, refl}
 use Rattle.mako_words.specs.declared.name.Name.{Name}
 use Rattle.mako_words.specs.declared.value.Value.{Value}
 use Rattle.mako_words.specs.declared.value.Value.TheVariants.{Null, Num, Ref}
@@ -12,16 +14,20 @@ use Rattle.mako_ring.specs.Facets.{Serving}
 use Rattle.mako_ring.specs.TraceFacets.{empty, nothing, popped, Work, TraceFacet}
 use Rattle.mako_ring.specs.TracerFacets.{work_of}
 use Rattle.mako_ring.specs.Windows.{tail_up, head_up, found_room}
-use Rattle.mako_ring.specs.Tracing.{TracerView, owner, window_of, set_window, own_tablet, live_of, scan_of, behind_field, at_stage, is_open, work_on, next_work, past_windows, windows_from, rest, past_rings, after_source, rings_from, field_found, stage_fed}
+use Rattle.mako_ring.specs.Tracing.{TracerView, owner, window_of, set_window, own_tablet, live_of, scan_of}
+use Rattle.mako_ring.specs.Tracing.{behind_field, at_stage, is_open, work_on, next_work, past_windows, windows_from}
+use Rattle.mako_ring.specs.Tracing.{rest, past_rings, after_source, rings_from, field_found, stage_fed}
 use Rattle.mako_ring.specs.declared.tracing.Scan.{Scan}
 use Rattle.mako_ring.specs.declared.tracing.Source.TheVariants.{Collector, Server}
 use Rattle.mako_ring.specs.declared.tracing.SendStage.TheVariants.{HeadLook, GhostRaise, HeadStore}
 use Rattle.mako_ring.specs.declared.tracing.ScanStage.TheVariants.{FieldLoad, EntryLoad, HeaderLoad}
 use Rattle.mako_ring.specs.declared.tracing.ReceiveStage.TheVariants.{SlotLook, BusyRaise, SlotClear}
-use Rattle.mako_ring.specs.declared.tracing.MarkStage.TheVariants.{Considering, Measuring, Marking as EntryMark, Counting}
+use Rattle.mako_ring.specs.declared.tracing.MarkStage.TheVariants.{Considering, Measuring, Marking as EntryMark}
+use Rattle.mako_ring.specs.declared.tracing.MarkStage.TheVariants.{Counting}
 use Rattle.mako_ring.specs.declared.tracing.RestStage.TheVariants.{BusyLower, TailLook, GhostLower}
 use Rattle.mako_ring.specs.declared.tracing.TraceStage.{TraceStage}
-use Rattle.mako_ring.specs.declared.tracing.TraceStage.TheVariants.{Sending, Scanning, Receiving, Marking, Resting, Ended}
+use Rattle.mako_ring.specs.declared.tracing.TraceStage.TheVariants.{Sending, Scanning, Receiving, Marking, Resting}
+use Rattle.mako_ring.specs.declared.tracing.TraceStage.TheVariants.{Ended}
 use Rattle.mako_shades.specs.Steps as shades
 use Rattle.mako_phases.specs.Facets.{PhaseFacet}
 use Rattle.mako_joint.specs.Joints.{JointScene, Joint}

@@ -1,5 +1,6 @@
 -- Steps of a server's tracing that change nothing of what it has to trace: looks, and what it makes of its flags.
-use Rattle.std.proofs.Common.{◌≡◌, ◌≢◌, ℕ, ◌+◌, ◌==◌, ◌⊎◌, ◌||◌, nat_lt, if◌then◌else◌, inl, inr, Bool, true, false, Option, Some, None, set, sym, ap, subst, refl, ◌∙◌, arith}
+use Rattle.std.proofs.Common.{◌≡◌, ◌≢◌, ℕ, ◌+◌, ◌==◌, ◌⊎◌, ◌||◌, nat_lt, if◌then◌else◌, inl, inr, Bool, true, false}
+use Rattle.std.proofs.Common.{Option, Some, None, set, sym, ap, subst, refl, ◌∙◌, arith}
 use Rattle.std.proofs.lemmas.List.{set-get_or}
 use Rattle.std.proofs.lemmas.Bool.Decides.{nat_tests}
 use Rattle.mako_words.specs.declared.name.Name.{Name}
@@ -13,7 +14,8 @@ use Rattle.mako_names.specs.Tables.{phase_of}
 use Rattle.mako_names.specs.Uses.{IsUseSlot}
 use Rattle.mako_ring.specs.TracerFacets.{work_of, serving_of}
 use Rattle.mako_ring.specs.TracerFacts.{holds}
-use Rattle.mako_ring.specs.Tracing.{TracerView, owner, window_of, set_window, slot_of, at_stage, windows_from, past_rings, after_source, rings_from}
+use Rattle.mako_ring.specs.Tracing.{TracerView, owner, window_of, set_window, slot_of, at_stage, windows_from}
+use Rattle.mako_ring.specs.Tracing.{past_rings, after_source, rings_from}
 use Rattle.mako_ring.specs.Windows.{tail_up, found_room}
 use Rattle.mako_ring.specs.declared.tracing.Source.{Source}
 use Rattle.mako_ring.specs.declared.tracing.Source.TheVariants.{Collector, Server}
@@ -30,7 +32,8 @@ use Rattle.mako_joint.specs.Joints.{JointScene}
 use Rattle.mako_tracing.specs.ServerFacets.{is_laden, tracer_laden}
 use Rattle.mako_tracing.proofs.Leading.{rested_work, windows_work, rest_work}
 use Rattle.mako_tracing.proofs.Scenes.{WordsKeep, words_same, words_elsewhere}
-use Rattle.mako_tracing.proofs.Tracers.{At, next, us, fed_at, traces_with, Goes, slot_within, order_seen, order_on, order_found, tracks_stay, stepped}
+use Rattle.mako_tracing.proofs.Tracers.{At, next, us, fed_at, traces_with, Goes, slot_within, order_seen, order_on}
+use Rattle.mako_tracing.proofs.Tracers.{order_found, tracks_stay, stepped}
 
 -- past all rings it rests, with what it had to trace
 past_work : (t : TracerView) (o : Option Name) → work_of (past_rings t o) ≡ rested_work t

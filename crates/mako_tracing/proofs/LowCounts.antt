@@ -1,8 +1,10 @@
 -- Live counts are far from their bound: a tablet has few entries, and no object has many fields.
-use Rattle.std.proofs.Common.{◌≡◌, ℕ, ◌+◌, ◌*◌, ◌/◌, ◌%◌, ◌<◌, ◌≤◌, ◌^◌, ⊎_elim, List, [], ◌∷◌, Contains, length, map, slice_index, get_or, Option, Some, None, sym, ap, subst, refl, ◌∙◌, arith}
+use Rattle.std.proofs.Common.{◌≡◌, ℕ, ◌+◌, ◌*◌, ◌/◌, ◌%◌, ◌<◌, ◌≤◌, ◌^◌, ⊎_elim, List, [], ◌∷◌, Contains, length, map}
+use Rattle.std.proofs.Common.{slice_index, get_or, Option, Some, None, sym, ap, subst, refl, ◌∙◌, arith}
 use Rattle.std.proofs.lemmas.Bool.{cases_lt}
 use Rattle.std.proofs.lemmas.List.{length-map, get_or_past}
-use Rattle.std.proofs.lemmas.List.Elements.{Contains-get_or, Contains-append_cases, Contains-append_left, Contains-append_right, Contains-push, Contains-push_cases}
+use Rattle.std.proofs.lemmas.List.Elements.{Contains-get_or, Contains-append_cases, Contains-append_left}
+use Rattle.std.proofs.lemmas.List.Elements.{Contains-append_right, Contains-push, Contains-push_cases}
 use Rattle.std.proofs.lemmas.List.Sums.{sum_by-le}
 use Rattle.std.proofs.lemmas.Nat.{mod-mul-add}
 use Rattle.mako_words.specs.declared.name.Name.{Name}
@@ -22,7 +24,8 @@ use Rattle.mako_shades.specs.Serving.{StandOnce}
 use Rattle.mako_shades.proofs.Stacks.{range_room}
 use Rattle.mako_joint.specs.Joints.{JointScene}
 use Rattle.mako_phases.specs.Facets.{serving}
-use Rattle.mako_phases.specs.Lives.{LiveFacet, IsSum, counting, sized, record_size, own_count, owed_to, AreOnce, IsCounted, CounterStands}
+use Rattle.mako_phases.specs.Lives.{LiveFacet, IsSum, counting, sized, record_size, own_count, owed_to, AreOnce}
+use Rattle.mako_phases.specs.Lives.{IsCounted, CounterStands}
 use Rattle.mako_phases.specs.Marked.{IsMarked}
 use Rattle.mako_phases.proofs.Sizes.{sizes_those}
 use Rattle.mako_server.specs.declared.stage.ServerStage.{ServerStage}

@@ -1,5 +1,6 @@
 -- Steps of a server's tracing on slots and marks: names sent and taken, considered, marked and counted.
-use Rattle.std.proofs.Common.{◌≡◌, ℕ, ◌+◌, ◌*◌, ◌<◌, ◌==◌, ◌%◌, ◌^◌, ◌⊎◌, ◌∷◌, ◌++◌, [], if◌then◌else◌, inl, inr, Bool, true, false, None, set, slice_index, slice_set, sym, ap, subst, refl, ◌∙◌, arith}
+use Rattle.std.proofs.Common.{◌≡◌, ℕ, ◌+◌, ◌*◌, ◌<◌, ◌==◌, ◌%◌, ◌^◌, ◌⊎◌, ◌∷◌, ◌++◌, [], if◌then◌else◌, inl, inr, Bool}
+use Rattle.std.proofs.Common.{true, false, None, set, slice_index, slice_set, sym, ap, subst, refl, ◌∙◌, arith}
 use Rattle.std.proofs.lemmas.List.{set-get_or}
 use Rattle.std.proofs.lemmas.Bool.Decides.{nat_tests}
 use Rattle.mako_words.specs.declared.entry_word.EntryWord.{EntryWord}
@@ -22,13 +23,15 @@ use Rattle.mako_ring.specs.TraceFacets as trace
 use Rattle.mako_ring.specs.TraceFacets.{Work, empty, considering, marking, pushing, nothing, located}
 use Rattle.mako_ring.specs.TracerFacets.{work_of, serving_of}
 use Rattle.mako_ring.specs.TracerFacts.{holds}
-use Rattle.mako_ring.specs.Tracing.{TracerView, owner, window_of, set_window, head_slot, own_tablet, live_of, at_stage, next_work}
+use Rattle.mako_ring.specs.Tracing.{TracerView, owner, window_of, set_window, head_slot, own_tablet, live_of, at_stage}
+use Rattle.mako_ring.specs.Tracing.{next_work}
 use Rattle.mako_ring.specs.Windows.{head_up}
 use Rattle.mako_ring.specs.declared.tracing.Source.{Source}
 use Rattle.mako_ring.specs.declared.tracing.Source.TheVariants.{Collector, Server}
 use Rattle.mako_ring.specs.declared.tracing.SendStage.TheVariants.{HeadStore}
 use Rattle.mako_ring.specs.declared.tracing.ReceiveStage.TheVariants.{SlotClear}
-use Rattle.mako_ring.specs.declared.tracing.MarkStage.TheVariants.{Considering, Measuring, Marking as EntryMark, Counting}
+use Rattle.mako_ring.specs.declared.tracing.MarkStage.TheVariants.{Considering, Measuring, Marking as EntryMark}
+use Rattle.mako_ring.specs.declared.tracing.MarkStage.TheVariants.{Counting}
 use Rattle.mako_ring.specs.declared.tracing.TraceStage.{TraceStage}
 use Rattle.mako_ring.specs.declared.tracing.TraceStage.TheVariants.{Sending, Receiving, Marking}
 use Rattle.mako_ring.proofs.Turns.{place_below}
@@ -46,7 +49,8 @@ use Rattle.mako_tracing.proofs.Leading.{rested_work}
 use Rattle.mako_tracing.proofs.Looking.{or_true, sent_laden}
 use Rattle.mako_tracing.proofs.Scenes.{WordsKeep, words_elsewhere, words_slot, rejobbed}
 use Rattle.mako_tracing.proofs.Working.{ends_with, loaded, tracks}
-use Rattle.mako_tracing.proofs.Tracers.{At, slot_within, us, fed_at, after_with, traces_with, Goes, trace_after, traces, order_seen, order_on, order_moved, tracks_go, tracks_stay, stepped}
+use Rattle.mako_tracing.proofs.Tracers.{At, slot_within, us, fed_at, after_with, traces_with, Goes, trace_after, traces}
+use Rattle.mako_tracing.proofs.Tracers.{order_seen, order_on, order_moved, tracks_go, tracks_stay, stepped}
 
 -- a name that fits is told by its word
 named_by : (x y : Name) → x.entry < 2 ^ 20 → FitsName y → name_word x ≡ name_word y → x ≡ y

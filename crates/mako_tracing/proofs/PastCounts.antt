@@ -12,7 +12,8 @@ use Rattle.mako_step.specs.declared.step.Step.TheVariants.{Do, Ended as NoStep}
 use Rattle.mako_model.specs.Legal.{Facts}
 use Rattle.mako_names.specs.Tables.{phase_of}
 use Rattle.mako_ring.specs.Tracing as tracer
-use Rattle.mako_ring.specs.Tracing.{TracerView, owner, window_of, head_slot, slot_of, own_tablet, live_of, at_stage, next_work, begun}
+use Rattle.mako_ring.specs.Tracing.{TracerView, owner, window_of, head_slot, slot_of, own_tablet, live_of, at_stage}
+use Rattle.mako_ring.specs.Tracing.{next_work, begun}
 use Rattle.mako_phases.specs.Lives.{counting}
 use Rattle.mako_joint.specs.Joints.{JointScene}
 use Rattle.mako_server.specs.declared.stage.ServerStage.{ServerStage}

@@ -32,10 +32,12 @@ use Rattle.mako_layout.proofs.EachStep.{each_step_keeps}
 use Rattle.mako_layout.proofs.Frames.{places_are_apart}
 use Rattle.mako_phases.specs.Facets.{PhaseFacet, ServerStage, serving, mutating, collecting, Admission, Part}
 use Rattle.mako_phases.specs.Orders.{PhaseOrder}
-use Rattle.mako_joint.specs.Joints.{JointScene, names_in, trace_in, layout_in, TracksFit, IsClearing, GatesMatch, ChoiceMatches, Joint}
+use Rattle.mako_joint.specs.Joints.{JointScene, names_in, trace_in, layout_in, TracksFit, IsClearing, GatesMatch}
+use Rattle.mako_joint.specs.Joints.{ChoiceMatches, Joint}
 use Rattle.mako_joint.proofs.Heaps.{heaps_stand}
 use Rattle.mako_server.specs.Serving.{Serving as Machine}
-use Rattle.mako_tracing.specs.ServerFacets.{servers_with, server_trace, server_gate, server_work, server_phase, server_serving, IsServerSeat, with_server}
+use Rattle.mako_tracing.specs.ServerFacets.{servers_with, server_trace, server_gate, server_work, server_phase}
+use Rattle.mako_tracing.specs.ServerFacets.{server_serving, IsServerSeat, with_server}
 use Rattle.mako_tracing.proofs.Lists.{if_same}
 
 -- the scene with these words, and these facets of a server's seat

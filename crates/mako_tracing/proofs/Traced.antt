@@ -16,10 +16,12 @@ use Rattle.mako_ring.specs.Tracing.{TracerView}
 use Rattle.mako_ring.specs.declared.tracing.SendStage.TheVariants.{HeadLook, GhostRaise, HeadStore}
 use Rattle.mako_ring.specs.declared.tracing.ScanStage.TheVariants.{FieldLoad, EntryLoad, HeaderLoad}
 use Rattle.mako_ring.specs.declared.tracing.ReceiveStage.TheVariants.{SlotLook, BusyRaise, SlotClear}
-use Rattle.mako_ring.specs.declared.tracing.MarkStage.TheVariants.{Considering, Measuring, Marking as EntryMark, Counting}
+use Rattle.mako_ring.specs.declared.tracing.MarkStage.TheVariants.{Considering, Measuring, Marking as EntryMark}
+use Rattle.mako_ring.specs.declared.tracing.MarkStage.TheVariants.{Counting}
 use Rattle.mako_ring.specs.declared.tracing.RestStage.TheVariants.{BusyLower, TailLook, GhostLower}
 use Rattle.mako_ring.specs.declared.tracing.TraceStage.{TraceStage}
-use Rattle.mako_ring.specs.declared.tracing.TraceStage.TheVariants.{Sending, Scanning, Receiving, Marking, Resting, Ended as AtEnd}
+use Rattle.mako_ring.specs.declared.tracing.TraceStage.TheVariants.{Sending, Scanning, Receiving, Marking, Resting}
+use Rattle.mako_ring.specs.declared.tracing.TraceStage.TheVariants.{Ended as AtEnd}
 use Rattle.mako_model.proofs.Lists.{get_set_same}
 use Rattle.mako_shades.proofs.Lists.{set_twice}
 use Rattle.mako_layout.specs.Facets.{idle}

@@ -1,5 +1,6 @@
 -- A server that traces, in a scene: what polls, the order of phases and words make of each of its steps.
-use Rattle.std.proofs.Common.{◌≡◌, ◌≢◌, ℕ, ◌<◌, ◌⊎◌, inl, inr, Bool, true, false, List, set, slice_get, Some, sym, ap, subst, refl, ◌∙◌, arith}
+use Rattle.std.proofs.Common.{◌≡◌, ◌≢◌, ℕ, ◌<◌, ◌⊎◌, inl, inr, Bool, true, false, List, set, slice_get, Some, sym, ap}
+use Rattle.std.proofs.Common.{subst, refl, ◌∙◌, arith}
 use Rattle.mako_words.specs.declared.phase_word.PhaseWord.TheVariants.{Trace}
 use Rattle.mako_shape.specs.declared.numbers.Numbers.{Numbers}
 use Rattle.mako_shape.specs.Places.{Place, Within, index, word_at}
@@ -25,7 +26,8 @@ use Rattle.mako_shades.specs.Holding.{AgreeOnTrace}
 use Rattle.mako_shades.specs.Steps.{TraceScene, TraceStep}
 use Rattle.mako_shades.proofs.AllSteps as tracing
 use Rattle.mako_phases.specs.Facets as order
-use Rattle.mako_phases.specs.Facets.{Part, PhaseFacet, ServerStage, serving, working, clearing, idle, pausing, rooting, choosing, evacuating, stopped, IsRestful, phase_during}
+use Rattle.mako_phases.specs.Facets.{Part, PhaseFacet, ServerStage, serving, working, clearing, idle, pausing, rooting}
+use Rattle.mako_phases.specs.Facets.{choosing, evacuating, stopped, IsRestful, phase_during}
 use Rattle.mako_phases.specs.Orders.{PhaseOrder, ServerFits}
 use Rattle.mako_phases.specs.Steps as phases
 use Rattle.mako_phases.specs.Steps.{IsPhaseWord}

@@ -1,5 +1,6 @@
 -- A server's turn on the phase keeps all groups, and what it keeps of itself.
-use Rattle.std.proofs.Common.{◌≡◌, ℕ, ◌*◌, ◌<◌, ◌==◌, if◌then◌else◌, ⊎_elim, Bool, true, false, set, replicate, sym, ap, subst, refl, ◌∙◌, arith}
+use Rattle.std.proofs.Common.{◌≡◌, ℕ, ◌*◌, ◌<◌, ◌==◌, if◌then◌else◌, ⊎_elim, Bool, true, false, set, replicate, sym, ap}
+use Rattle.std.proofs.Common.{subst, refl, ◌∙◌, arith}
 use Rattle.std.proofs.lemmas.Bool.{cases_eq}
 use Rattle.std.proofs.lemmas.Bool.Decides.{nat_tests}
 use Rattle.std.proofs.lemmas.List.{set-get_or}
@@ -41,12 +42,14 @@ use Rattle.mako_server.specs.declared.stage.ServerStage.TheVariants.{Turning, Tr
 use Rattle.mako_server.specs.Serving.{Serving, PhaseFits, owner_in, turned}
 use Rattle.mako_server.proofs.Going.{known_fed}
 use Rattle.mako_tracing.specs.Laws.{words_next, server_next, ServerStands, ServerGoes, TurnsGo}
-use Rattle.mako_tracing.specs.ServerFacets.{servers_with, is_laden, tracer_laden, stage_order, stage_watch, stage_work, with_server}
+use Rattle.mako_tracing.specs.ServerFacets.{servers_with, is_laden, tracer_laden, stage_order, stage_watch, stage_work}
+use Rattle.mako_tracing.specs.ServerFacets.{with_server}
 use Rattle.mako_tracing.specs.ServerKeeps.{SlotsBelong, StageIsFree}
 use Rattle.mako_tracing.proofs.Leading.{rested_work, next_work_has, next_work_leads}
 use Rattle.mako_tracing.proofs.Lists.{set_back, if_same, if_other}
 use Rattle.mako_tracing.proofs.Scenes.{seated_after, scene_of, words_same, assembled}
-use Rattle.mako_tracing.proofs.Phases.{at_end, phase_fits, phase_packed, not_clearing, begins_phase, begins_gate, begins_work}
+use Rattle.mako_tracing.proofs.Phases.{at_end, phase_fits, phase_packed, not_clearing, begins_phase, begins_gate}
+use Rattle.mako_tracing.proofs.Phases.{begins_work}
 
 module _ (w : Facts) (s : JointScene) (seat : ℕ) (t : TracerView) (notice_at ended : ℕ) where
   abbrev n : Numbers

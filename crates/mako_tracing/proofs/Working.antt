@@ -1,5 +1,6 @@
 -- Steps of a server's tracing that change what it has to trace: scans, names taken and sent, and marks.
-use Rattle.std.proofs.Common.{◌≡◌, ℕ, ◌==◌, ◌||◌, if◌then◌else◌, inl, Bool, true, false, Option, Some, None, List, slice_index, sym, ap, subst, refl, ◌∙◌, arith}
+use Rattle.std.proofs.Common.{◌≡◌, ℕ, ◌==◌, ◌||◌, if◌then◌else◌, inl, Bool, true, false, Option, Some, None, List}
+use Rattle.std.proofs.Common.{slice_index, sym, ap, subst, refl, ◌∙◌, arith}
 use Rattle.std.proofs.lemmas.List.{set-get_or}
 use Rattle.std.proofs.lemmas.Bool.Decides.{nat_tests}
 use Rattle.mako_words.specs.declared.name.Name.{Name}
@@ -30,7 +31,8 @@ use Rattle.mako_joint.specs.Joints.{JointScene, trace_in, TracksFit, Joint}
 use Rattle.mako_tracing.specs.ServerFacets.{tracer_laden}
 use Rattle.mako_tracing.proofs.Leading.{rested_work, next_work_has}
 use Rattle.mako_tracing.proofs.Scenes.{WordsKeep, words_same}
-use Rattle.mako_tracing.proofs.Tracers.{At, next, us, fed_at, after_with, traces_with, Goes, trace_after, traces, order_on, tracks_go, stepped}
+use Rattle.mako_tracing.proofs.Tracers.{At, next, us, fed_at, after_with, traces_with, Goes, trace_after, traces}
+use Rattle.mako_tracing.proofs.Tracers.{order_on, tracks_go, stepped}
 
 module _ (w : Facts) (s : JointScene) (seat : ℕ) (t : TracerView) (ended : ℕ) where
   abbrev n : Numbers

@@ -1,5 +1,6 @@
 -- What the groups of the invariant read of a server, and the scene in which its seat has these facets.
-use Rattle.std.specs.Prelude.{ℕ, ◌≡◌, ◌+◌, ◌==◌, ◌||◌, if◌then◌else◌, Bool, true, false, List, slice_get, slice_set, Option, Some, None}
+use Rattle.std.specs.Prelude.{ℕ, ◌≡◌, ◌+◌, ◌==◌, ◌||◌, if◌then◌else◌, Bool, true, false, List, slice_get, slice_set}
+use Rattle.std.specs.Prelude.{Option, Some, None}
 use Rattle.mako_words.specs.declared.name.Name.{Name}
 use Rattle.mako_gate.specs.Standings.{Watch, rests, GateFacet, shutter_at}
 use Rattle.mako_ring.specs.Facets as rings
@@ -9,9 +10,11 @@ use Rattle.mako_ring.specs.TraceFacets.{TraceFacet}
 use Rattle.mako_ring.specs.TracerFacets.{work_of, serving_of}
 use Rattle.mako_ring.specs.Tracing.{TracerView}
 use Rattle.mako_ring.specs.declared.tracing.MarkStage.{MarkStage}
-use Rattle.mako_ring.specs.declared.tracing.MarkStage.TheVariants.{Considering, Measuring, Marking as EntryMark, Counting}
+use Rattle.mako_ring.specs.declared.tracing.MarkStage.TheVariants.{Considering, Measuring, Marking as EntryMark}
+use Rattle.mako_ring.specs.declared.tracing.MarkStage.TheVariants.{Counting}
 use Rattle.mako_ring.specs.declared.tracing.TraceStage.{TraceStage}
-use Rattle.mako_ring.specs.declared.tracing.TraceStage.TheVariants.{Sending, Scanning, Receiving, Marking, Resting, Ended as AtEnd}
+use Rattle.mako_ring.specs.declared.tracing.TraceStage.TheVariants.{Sending, Scanning, Receiving, Marking, Resting}
+use Rattle.mako_ring.specs.declared.tracing.TraceStage.TheVariants.{Ended as AtEnd}
 use Rattle.mako_layout.specs.Facets.{Work, idle}
 use Rattle.mako_phases.specs.Facets as order
 use Rattle.mako_phases.specs.Facets.{PhaseFacet}

@@ -13,7 +13,8 @@ use Rattle.mako_ring.specs.Tracing.{TracerView}
 use Rattle.mako_ring.specs.declared.tracing.ScanStage.{ScanStage}
 use Rattle.mako_ring.specs.declared.tracing.ScanStage.TheVariants.{FieldLoad, EntryLoad, HeaderLoad}
 use Rattle.mako_ring.specs.declared.tracing.TraceStage.{TraceStage}
-use Rattle.mako_ring.specs.declared.tracing.TraceStage.TheVariants.{Sending, Scanning, Receiving, Marking, Resting, Ended}
+use Rattle.mako_ring.specs.declared.tracing.TraceStage.TheVariants.{Sending, Scanning, Receiving, Marking, Resting}
+use Rattle.mako_ring.specs.declared.tracing.TraceStage.TheVariants.{Ended}
 use Rattle.mako_server.specs.Serving.{Serving, IsKnown}
 
 -- the word is that of a name of the server's own

@@ -1,8 +1,11 @@
 //! Laws of a server's turn and of its tracing. The functions do nothing; what they ensure is for contracts and proofs.
 
-ghost use Rattle.mako_tracing.specs.Laws.{EmptySlotsBelong, FieldsStayFew, OpeningServersStand, OpeningsHaveFew, OpeningsKeep, StoresLeaveSlots, TracingCanGo, TracingStepsGo, TurnsCanGo, TurnsGo};
+ghost use Rattle.mako_tracing.specs.Laws.{EmptySlotsBelong, FieldsStayFew, OpeningServersStand, OpeningsHaveFew};
+ghost use Rattle.mako_tracing.specs.Laws.{OpeningsKeep, StoresLeaveSlots, TracingCanGo, TracingStepsGo, TurnsCanGo};
+ghost use Rattle.mako_tracing.specs.Laws.{TurnsGo};
 ghost use Rattle.mako_tracing.specs.Resting.{MeasuredStays, QuietServersAreUnladen, UnladenServersRest};
-ghost use Rattle.mako_tracing.specs.ServerLives.{CountsStayLow, TracingCounts, TracingLeavesCounts, TurnsCount, TurnsLeaveCounts};
+ghost use Rattle.mako_tracing.specs.ServerLives.{CountsStayLow, TracingCounts, TracingLeavesCounts, TurnsCount};
+ghost use Rattle.mako_tracing.specs.ServerLives.{TurnsLeaveCounts};
 
 /// A server's turn on the phase keeps all groups, whichever phase it finds.
 pub fn turns_keep_all()

@@ -45,7 +45,8 @@ module _ (n : Numbers) (w : Facts) (s : JointScene) (seats : List Seat) (i : ℕ
   by : (sent : List Name) (st : ServerStage) → v.stage ≡ st → BarriersHold n (stage_after n s i v sent st).words
   by sent Turning is = left
   by sent Tracing is = left
-  by sent (Evacuating e) is = subst (λ t. BarriersHold n (words_stepped (serving.stage_next v.tracer t) s.words)) is left
+  by sent (Evacuating e) is =
+      subst (λ t. BarriersHold n (words_stepped (serving.stage_next v.tracer t) s.words)) is left
   by sent Ended is = hold
 
 pub servers_hold_barriers : ServersHoldBarriers

@@ -4,13 +4,17 @@ use Rattle.mako_shape.specs.declared.numbers.Numbers.{Numbers}
 use Rattle.mako_model.specs.Legal.{Facts}
 use Rattle.mako_pause.specs.Collecting.{Holdings, at}
 use Rattle.mako_pause.specs.declared.stage.IdleStage.TheVariants.{LoadingDemand, LookingFinished, StoringStop}
-use Rattle.mako_pause.specs.declared.stage.PauseStage.TheVariants.{Draining, LoadingRoot, Shutting, StoringTrace, Opening}
+use Rattle.mako_pause.specs.declared.stage.PauseStage.TheVariants.{Draining, LoadingRoot, Shutting, StoringTrace}
+use Rattle.mako_pause.specs.declared.stage.PauseStage.TheVariants.{Opening}
 use Rattle.mako_pause.specs.declared.stage.ForwardStage.TheVariants.{Looking, Storing}
 use Rattle.mako_pause.specs.declared.stage.BarrierStage.TheVariants.{Loading, Clearing}
 use Rattle.mako_pause.specs.declared.stage.ChoiceStage.{ChoiceStage}
-use Rattle.mako_pause.specs.declared.stage.ChoiceStage.TheVariants.{LoadingLive, LoadingTop, LoadingHome, StoringLeaving, StoringHome, StoringTop, StoringEvac, Opening as Reopening}
+use Rattle.mako_pause.specs.declared.stage.ChoiceStage.TheVariants.{LoadingLive, LoadingTop, LoadingHome}
+use Rattle.mako_pause.specs.declared.stage.ChoiceStage.TheVariants.{StoringLeaving, StoringHome, StoringTop}
+use Rattle.mako_pause.specs.declared.stage.ChoiceStage.TheVariants.{StoringEvac, Opening as Reopening}
 use Rattle.mako_pause.specs.declared.stage.CollectStage.{CollectStage}
-use Rattle.mako_pause.specs.declared.stage.CollectStage.TheVariants.{Idle, Pausing, Forwarding, Barriers, Emptying, Polling, Choosing, Noticing, Ended}
+use Rattle.mako_pause.specs.declared.stage.CollectStage.TheVariants.{Idle, Pausing, Forwarding, Barriers, Emptying}
+use Rattle.mako_pause.specs.declared.stage.CollectStage.TheVariants.{Polling, Choosing, Noticing, Ended}
 use Rattle.mako_seat.specs.declared.seat.Seat.TheVariants.{Collector}
 use Rattle.mako_state.specs.CoreStates.{CoreState, step_of}
 use Rattle.mako_whole.specs.AllRuns.{SeatsSit, CollectorIsAt}
@@ -21,7 +25,8 @@ use Rattle.mako_sitting_collector.specs.CollectorSteps.{IsLook}
 use Rattle.mako_whole.specs.AllCollecting.{FactsStand, CollectorsKeepSeats}
 use Rattle.mako_whole.proofs.AllCollecting.{findings_fit, notices_run}
 use Rattle.mako_whole.proofs.AllRuns.{step_sits}
-use Rattle.mako_whole.proofs.AllRunsCollector.{looks_run, round_stores_run, polls_run, choices_run, gates_run, stops_run, snapshots_run, evacs_run}
+use Rattle.mako_whole.proofs.AllRunsCollector.{looks_run, round_stores_run, polls_run, choices_run, gates_run}
+use Rattle.mako_whole.proofs.AllRunsCollector.{stops_run, snapshots_run, evacs_run}
 
 module _ (n : Numbers) (w : Facts) (st : CoreState) (sits : SeatsSit n w st) (facts : FactsStand n w st sits.facets)
     (i : ℕ) (k : Holdings) where

@@ -1,5 +1,6 @@
 -- After all but one stage no region that was given up is still to be told.
-use Rattle.std.proofs.Common.{◌≡◌, ℕ, ◌+◌, ◌*◌, ◌%◌, ◌==◌, nat_lt, Bool, cond, Option, Some, None, List, [], ◌∷◌, ◌++◌, length, position, slice_index, refl}
+use Rattle.std.proofs.Common.{◌≡◌, ℕ, ◌+◌, ◌*◌, ◌%◌, ◌==◌, nat_lt, Bool, cond, Option, Some, None, List, [], ◌∷◌, ◌++◌}
+use Rattle.std.proofs.Common.{length, position, slice_index, refl}
 use Rattle.mako_words.specs.Gates.{count_of}
 use Rattle.mako_words.specs.Names.{name_at}
 use Rattle.mako_words.specs.declared.name.Name.{Name}
@@ -11,17 +12,23 @@ use Rattle.mako_poll.specs.Polls as poll
 use Rattle.mako_poll.specs.declared.poller.PollStage.{PollStage}
 use Rattle.mako_poll.specs.declared.poller.PollStage.TheVariants.{Asking, Reading, Ended as Polled}
 use Rattle.mako_poll.specs.declared.poller.Polled.TheVariants.{Told, NotYet}
-use Rattle.mako_pause.specs.Collecting.{Holdings, Collecting, at, window_of, set_window, next_of, forward, forward_from, empty, empty_from, barriers_from, polled_at, paused, gifts_from, gift_of, server_chosen, servers_from, after_tablet, chosen_tablet, spare_for}
+use Rattle.mako_pause.specs.Collecting.{Holdings, Collecting, at, window_of, set_window, next_of, forward, forward_from}
+use Rattle.mako_pause.specs.Collecting.{empty, empty_from, barriers_from, polled_at, paused, gifts_from, gift_of}
+use Rattle.mako_pause.specs.Collecting.{server_chosen, servers_from, after_tablet, chosen_tablet, spare_for}
 use Rattle.mako_pause.specs.declared.stage.Pause.{Pause}
 use Rattle.mako_pause.specs.declared.stage.Pause.TheVariants.{Snapshot, Choice as ForChoice}
 use Rattle.mako_pause.specs.declared.stage.IdleStage.TheVariants.{LoadingDemand, LookingFinished, StoringStop}
-use Rattle.mako_pause.specs.declared.stage.PauseStage.TheVariants.{Shutting, Draining, LoadingRoot, StoringTrace, Opening}
+use Rattle.mako_pause.specs.declared.stage.PauseStage.TheVariants.{Shutting, Draining, LoadingRoot, StoringTrace}
+use Rattle.mako_pause.specs.declared.stage.PauseStage.TheVariants.{Opening}
 use Rattle.mako_pause.specs.declared.stage.ForwardStage.TheVariants.{Looking, Storing}
 use Rattle.mako_pause.specs.declared.stage.BarrierStage.TheVariants.{Loading, Clearing}
-use Rattle.mako_pause.specs.declared.stage.ChoiceStage.TheVariants.{LoadingLive, LoadingTop, LoadingHome, StoringLeaving, StoringHome, StoringTop, StoringEvac, Opening as Reopening}
+use Rattle.mako_pause.specs.declared.stage.ChoiceStage.TheVariants.{LoadingLive, LoadingTop, LoadingHome}
+use Rattle.mako_pause.specs.declared.stage.ChoiceStage.TheVariants.{StoringLeaving, StoringHome, StoringTop}
+use Rattle.mako_pause.specs.declared.stage.ChoiceStage.TheVariants.{StoringEvac, Opening as Reopening}
 use Rattle.mako_pause.specs.declared.stage.NoticeStage.TheVariants.{Looking as NoticeLook}
 use Rattle.mako_pause.specs.declared.stage.CollectStage.{CollectStage}
-use Rattle.mako_pause.specs.declared.stage.CollectStage.TheVariants.{Idle, Pausing, Forwarding, Barriers, Emptying, Polling, Choosing, Noticing, Ended}
+use Rattle.mako_pause.specs.declared.stage.CollectStage.TheVariants.{Idle, Pausing, Forwarding, Barriers, Emptying}
+use Rattle.mako_pause.specs.declared.stage.CollectStage.TheVariants.{Polling, Choosing, Noticing, Ended}
 use Rattle.mako_collecting.specs.Steps.{collector_next}
 use Rattle.mako_collecting.proofs.Idling.{either_way}
 use Rattle.mako_whole.specs.AllGifts.{untold_in, GivesNone}

@@ -1,5 +1,6 @@
 -- Gifts at the start, and past each step of each seat.
-use Rattle.std.proofs.Common.{◌≡◌, ◌≢◌, ℕ, ◌+◌, ◌%◌, ◌<◌, ◌≤◌, ◌==◌, Bool, true, false, nat_lt, if◌then◌else◌, List, [], length, slice_get, Some, sym, ap, subst, refl, ◌∙◌, arith}
+use Rattle.std.proofs.Common.{◌≡◌, ◌≢◌, ℕ, ◌+◌, ◌%◌, ◌<◌, ◌≤◌, ◌==◌, Bool, true, false, nat_lt, if◌then◌else◌, List, []}
+use Rattle.std.proofs.Common.{length, slice_get, Some, sym, ap, subst, refl, ◌∙◌, arith}
 use Rattle.mako_shape.specs.declared.numbers.Numbers.{Numbers}
 use Rattle.mako_step.specs.Acts.{finds}
 use Rattle.mako_model.specs.Legal.{Facts}
@@ -20,11 +21,14 @@ use Rattle.mako_pause.specs.declared.regions.Role.{Role}
 use Rattle.mako_pause.specs.declared.regions.Role.TheVariants.{Home, Spare}
 use Rattle.mako_pause.specs.declared.stage.Gift.{Gift as Exchange}
 use Rattle.mako_pause.specs.declared.stage.ChoiceStage.{ChoiceStage}
-use Rattle.mako_pause.specs.declared.stage.ChoiceStage.TheVariants.{LoadingLive, LoadingTop, LoadingHome, StoringLeaving, StoringHome, StoringTop, StoringEvac, Opening as Reopening}
+use Rattle.mako_pause.specs.declared.stage.ChoiceStage.TheVariants.{LoadingLive, LoadingTop, LoadingHome}
+use Rattle.mako_pause.specs.declared.stage.ChoiceStage.TheVariants.{StoringLeaving, StoringHome, StoringTop}
+use Rattle.mako_pause.specs.declared.stage.ChoiceStage.TheVariants.{StoringEvac, Opening as Reopening}
 use Rattle.mako_pause.specs.declared.stage.NoticeStage.TheVariants.{StoringIdle}
 use Rattle.mako_pause.specs.declared.stage.PauseStage.TheVariants.{StoringTrace}
 use Rattle.mako_pause.specs.declared.stage.CollectStage.{CollectStage}
-use Rattle.mako_pause.specs.declared.stage.CollectStage.TheVariants.{Idle, Pausing, Forwarding, Barriers, Emptying, Polling, Choosing, Noticing, Ended}
+use Rattle.mako_pause.specs.declared.stage.CollectStage.TheVariants.{Idle, Pausing, Forwarding, Barriers, Emptying}
+use Rattle.mako_pause.specs.declared.stage.CollectStage.TheVariants.{Polling, Choosing, Noticing, Ended}
 use Rattle.mako_cycles.proofs.Roles.{opening_at}
 use Rattle.mako_seat.specs.declared.seat.Seat.{Seat}
 use Rattle.mako_seat.specs.declared.seat.Seat.TheVariants.{Mutator, Server, Collector}
@@ -42,7 +46,9 @@ use Rattle.mako_sitting_mutators.specs.MutatorSteps.{mutator_next}
 use Rattle.mako_sitting_servers.specs.ServerSteps.{stage_after}
 use Rattle.mako_sitting_collector.specs.CollectorSnaps.{storing}
 use Rattle.mako_sitting.specs.Openings.{opening_scene}
-use Rattle.mako_whole.specs.AllGifts.{given_at, untold_in, RolesAreNext, GivesNone, NoticesFindGifts, OpeningsGiveNone, MutatorsKeepGifts, ServersKeepGifts, StepsKeepGifts, SnapshotsKeepGifts, PollsKeepGifts, ChoicesKeepGifts, HearingKeepsGifts, FinishKeepsGifts}
+use Rattle.mako_whole.specs.AllGifts.{given_at, untold_in, RolesAreNext, GivesNone, NoticesFindGifts, OpeningsGiveNone}
+use Rattle.mako_whole.specs.AllGifts.{MutatorsKeepGifts, ServersKeepGifts, StepsKeepGifts, SnapshotsKeepGifts}
+use Rattle.mako_whole.specs.AllGifts.{PollsKeepGifts, ChoicesKeepGifts, HearingKeepsGifts, FinishKeepsGifts}
 use Rattle.mako_whole.proofs.AllGifts.{none_at, spare_soon, same_roles, others_keep, collector_keeps}
 use Rattle.mako_whole.proofs.AllGiftsCalm.{steps_are_calm}
 use Rattle.mako_whole.proofs.AllGiftsChoice.{one_more, told, soon_next}

@@ -23,7 +23,8 @@ use Rattle.mako_mutating.specs.Mutators.{stepped}
 use Rattle.mako_tracing.specs.Laws.{server_next}
 use Rattle.mako_collecting.specs.Steps.{words_next, collector_next}
 use Rattle.mako_writes.proofs.Mutators.{mutators_write}
-use Rattle.mako_whole.specs.AllHoused.{SeatIsHoused, AllHoused, OpeningsAreHoused, MutatorsLeaveHoused, ServersLeaveHoused, CollectorsStayHoused, AllHousedHaveSpares}
+use Rattle.mako_whole.specs.AllHoused.{SeatIsHoused, AllHoused, OpeningsAreHoused, MutatorsLeaveHoused}
+use Rattle.mako_whole.specs.AllHoused.{ServersLeaveHoused, CollectorsStayHoused, AllHousedHaveSpares}
 use Rattle.mako_sitting_mutators.specs.MutatorSteps.{mutator_next}
 use Rattle.mako_sitting.specs.Seats.{AllSit, MutatorSits, ServerSits}
 use Rattle.mako_sitting_servers.specs.ServerSteps.{server_stepped}

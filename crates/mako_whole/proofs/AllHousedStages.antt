@@ -25,17 +25,22 @@ use Rattle.mako_pause.specs.Keeping.{IsKeptKnown, IsKeptName}
 use Rattle.mako_pause.specs.declared.stage.IdleStage.{IdleStage}
 use Rattle.mako_pause.specs.declared.stage.IdleStage.TheVariants.{LoadingDemand, LookingFinished, StoringStop}
 use Rattle.mako_pause.specs.declared.stage.PauseStage.{PauseStage}
-use Rattle.mako_pause.specs.declared.stage.PauseStage.TheVariants.{Shutting, Draining, LoadingRoot, StoringTrace, Opening}
+use Rattle.mako_pause.specs.declared.stage.PauseStage.TheVariants.{Shutting, Draining, LoadingRoot, StoringTrace}
+use Rattle.mako_pause.specs.declared.stage.PauseStage.TheVariants.{Opening}
 use Rattle.mako_pause.specs.declared.stage.ForwardStage.{ForwardStage}
 use Rattle.mako_pause.specs.declared.stage.ForwardStage.TheVariants.{Looking, Storing}
 use Rattle.mako_pause.specs.declared.stage.BarrierStage.{BarrierStage}
 use Rattle.mako_pause.specs.declared.stage.BarrierStage.TheVariants.{Loading, Clearing}
 use Rattle.mako_pause.specs.declared.stage.ChoiceStage.{ChoiceStage}
-use Rattle.mako_pause.specs.declared.stage.ChoiceStage.TheVariants.{LoadingLive, LoadingTop, LoadingHome, StoringLeaving, StoringHome, StoringTop, StoringEvac, Opening as Reopening}
+use Rattle.mako_pause.specs.declared.stage.ChoiceStage.TheVariants.{LoadingLive, LoadingTop, LoadingHome}
+use Rattle.mako_pause.specs.declared.stage.ChoiceStage.TheVariants.{StoringLeaving, StoringHome, StoringTop}
+use Rattle.mako_pause.specs.declared.stage.ChoiceStage.TheVariants.{StoringEvac, Opening as Reopening}
 use Rattle.mako_pause.specs.declared.stage.NoticeStage.{NoticeStage}
-use Rattle.mako_pause.specs.declared.stage.NoticeStage.TheVariants.{Looking as NoticeLook, Clearing as NoticeClear, StoringIdle}
+use Rattle.mako_pause.specs.declared.stage.NoticeStage.TheVariants.{Looking as NoticeLook, Clearing as NoticeClear}
+use Rattle.mako_pause.specs.declared.stage.NoticeStage.TheVariants.{StoringIdle}
 use Rattle.mako_pause.specs.declared.stage.CollectStage.{CollectStage}
-use Rattle.mako_pause.specs.declared.stage.CollectStage.TheVariants.{Idle, Pausing, Forwarding, Barriers, Emptying, Polling, Choosing, Noticing, Ended}
+use Rattle.mako_pause.specs.declared.stage.CollectStage.TheVariants.{Idle, Pausing, Forwarding, Barriers, Emptying}
+use Rattle.mako_pause.specs.declared.stage.CollectStage.TheVariants.{Polling, Choosing, Noticing, Ended}
 use Rattle.mako_collecting.specs.Laws.{Stands}
 use Rattle.mako_collecting.specs.Steps.{words_next, collector_next}
 use Rattle.mako_writes.proofs.Touching.{Leaves, looks, at_place}

@@ -1,5 +1,6 @@
 -- What stands of notices holds at the start, and each step of a mutator keeps it.
-use Rattle.std.proofs.Common.{◌≡◌, ◌≢◌, ℕ, ◌<◌, ⊎_elim, List, set, slice_get, slice_index, Some, sym, ap, subst, ◌∙◌, arith}
+use Rattle.std.proofs.Common.{◌≡◌, ◌≢◌, ℕ, ◌<◌, ⊎_elim, List, set, slice_get, slice_index, Some, sym, ap, subst, ◌∙◌}
+use Rattle.std.proofs.Common.{arith}
 use Rattle.mako_words.specs.Notices.{notice_at}
 use Rattle.mako_shape.specs.declared.numbers.Numbers.{Numbers}
 use Rattle.mako_shape.specs.Places.{notice, word_at}
@@ -11,9 +12,11 @@ use Rattle.mako_pause.specs.Collecting.{Holdings, Collecting}
 use Rattle.mako_pause.specs.Opening as collectors
 use Rattle.mako_pause.specs.Keeping.{IsKeptKnown, StageIsKnown, NoticeIsKnown}
 use Rattle.mako_pause.specs.declared.stage.NoticeStage.{NoticeStage}
-use Rattle.mako_pause.specs.declared.stage.NoticeStage.TheVariants.{Looking as NoticeLook, Clearing as NoticeClear, StoringIdle}
+use Rattle.mako_pause.specs.declared.stage.NoticeStage.TheVariants.{Looking as NoticeLook, Clearing as NoticeClear}
+use Rattle.mako_pause.specs.declared.stage.NoticeStage.TheVariants.{StoringIdle}
 use Rattle.mako_pause.specs.declared.stage.CollectStage.{CollectStage}
-use Rattle.mako_pause.specs.declared.stage.CollectStage.TheVariants.{Idle, Pausing, Forwarding, Barriers, Emptying, Polling, Choosing, Noticing, Ended}
+use Rattle.mako_pause.specs.declared.stage.CollectStage.TheVariants.{Idle, Pausing, Forwarding, Barriers, Emptying}
+use Rattle.mako_pause.specs.declared.stage.CollectStage.TheVariants.{Polling, Choosing, Noticing, Ended}
 use Rattle.mako_clearing.specs.Hearing.{NoticeKnows}
 use Rattle.mako_seat.specs.declared.seat.Seat.{Seat}
 use Rattle.mako_seat.specs.declared.seat.Seat.TheVariants.{Mutator, Collector}

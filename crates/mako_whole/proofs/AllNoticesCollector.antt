@@ -1,5 +1,6 @@
 -- Each step of the collector keeps what stands of notices.
-use Rattle.std.proofs.Common.{◌≡◌, ℕ, ◌+◌, ◌==◌, nat_lt, Option, Some, None, List, [], ◌∷◌, length, set, slice_get, sym, subst, ◌∙◌, arith}
+use Rattle.std.proofs.Common.{◌≡◌, ℕ, ◌+◌, ◌==◌, nat_lt, Option, Some, None, List, [], ◌∷◌, length, set, slice_get, sym}
+use Rattle.std.proofs.Common.{subst, ◌∙◌, arith}
 use Rattle.mako_words.specs.declared.name.Name.{Name}
 use Rattle.mako_words.specs.Gates.{count_of}
 use Rattle.mako_shape.specs.declared.numbers.Numbers.{Numbers}
@@ -12,26 +13,33 @@ use Rattle.mako_poll.specs.Polls as polls
 use Rattle.mako_poll.specs.declared.poller.PollStage.{PollStage}
 use Rattle.mako_poll.specs.declared.poller.PollStage.TheVariants.{Asking, Reading, Ended as Polled}
 use Rattle.mako_poll.specs.declared.poller.Polled.TheVariants.{Told, NotYet}
-use Rattle.mako_pause.specs.Collecting.{Holdings, Collecting, at, idle_fed, forward_from, paused, pause_fed, forward_fed, empty_from, barrier_fed, polled_at, gifts_from, gift_of, choice_fed, stage_fed}
+use Rattle.mako_pause.specs.Collecting.{Holdings, Collecting, at, idle_fed, forward_from, paused, pause_fed}
+use Rattle.mako_pause.specs.Collecting.{forward_fed, empty_from, barrier_fed, polled_at, gifts_from, gift_of}
+use Rattle.mako_pause.specs.Collecting.{choice_fed, stage_fed}
 use Rattle.mako_pause.specs.declared.stage.Pause.{Pause}
 use Rattle.mako_pause.specs.declared.stage.Pause.TheVariants.{Snapshot, Choice}
 use Rattle.mako_pause.specs.declared.stage.IdleStage.{IdleStage}
 use Rattle.mako_pause.specs.declared.stage.IdleStage.TheVariants.{LoadingDemand, LookingFinished, StoringStop}
 use Rattle.mako_pause.specs.declared.stage.PauseStage.{PauseStage}
-use Rattle.mako_pause.specs.declared.stage.PauseStage.TheVariants.{Shutting, Draining, LoadingRoot, StoringTrace, Opening}
+use Rattle.mako_pause.specs.declared.stage.PauseStage.TheVariants.{Shutting, Draining, LoadingRoot, StoringTrace}
+use Rattle.mako_pause.specs.declared.stage.PauseStage.TheVariants.{Opening}
 use Rattle.mako_pause.specs.declared.stage.ForwardStage.{ForwardStage}
 use Rattle.mako_pause.specs.declared.stage.ForwardStage.TheVariants.{Looking, Storing}
 use Rattle.mako_pause.specs.declared.stage.BarrierStage.{BarrierStage}
 use Rattle.mako_pause.specs.declared.stage.BarrierStage.TheVariants.{Loading, Clearing}
 use Rattle.mako_pause.specs.declared.stage.ChoiceStage.{ChoiceStage}
-use Rattle.mako_pause.specs.declared.stage.ChoiceStage.TheVariants.{LoadingLive, LoadingTop, LoadingHome, StoringLeaving, StoringHome, StoringTop, StoringEvac, Opening as Reopening}
+use Rattle.mako_pause.specs.declared.stage.ChoiceStage.TheVariants.{LoadingLive, LoadingTop, LoadingHome}
+use Rattle.mako_pause.specs.declared.stage.ChoiceStage.TheVariants.{StoringLeaving, StoringHome, StoringTop}
+use Rattle.mako_pause.specs.declared.stage.ChoiceStage.TheVariants.{StoringEvac, Opening as Reopening}
 use Rattle.mako_pause.specs.declared.stage.CollectStage.{CollectStage}
-use Rattle.mako_pause.specs.declared.stage.CollectStage.TheVariants.{Idle, Pausing, Forwarding, Barriers, Emptying, Polling, Choosing, Noticing, Ended}
+use Rattle.mako_pause.specs.declared.stage.CollectStage.TheVariants.{Idle, Pausing, Forwarding, Barriers, Emptying}
+use Rattle.mako_pause.specs.declared.stage.CollectStage.TheVariants.{Polling, Choosing, Noticing, Ended}
 use Rattle.mako_seat.specs.declared.seat.Seat.{Seat}
 use Rattle.mako_seat.specs.declared.seat.Seat.TheVariants.{Collector}
 use Rattle.mako_sitting.specs.Seats.{CollectorSits, AllSit}
 use Rattle.mako_sitting_collector.specs.CollectorSnaps.{storing, snapshot_taken}
-use Rattle.mako_whole.specs.AllNotices.{StageKnows, NoticesStand, IsBesideNotices, StandsBeside, CollectorNotices, HearingNotices, FinishNotices}
+use Rattle.mako_whole.specs.AllNotices.{StageKnows, NoticesStand, IsBesideNotices, StandsBeside, CollectorNotices}
+use Rattle.mako_whole.specs.AllNotices.{HearingNotices, FinishNotices}
 use Rattle.mako_whole.proofs.AllNotices.{same_collector, set_knows}
 
 -- ---- the collector after a step that is none at its notices

@@ -14,9 +14,12 @@ use Rattle.mako_evac.specs.Owners.{IsOwner, IsOwnTablet, IsOwnEntry}
 use Rattle.mako_evac.specs.Tablets as tablets
 use Rattle.mako_evac.specs.declared.owner.Owner.{Owner}
 use Rattle.mako_evac.specs.declared.stage.EvacStage.{EvacStage}
-use Rattle.mako_evac.specs.declared.stage.EvacStage.TheVariants.{Evacuating as AtTablet, Freeing, AwaitingEnd, TellingEnd, Ended as Evacuated}
+use Rattle.mako_evac.specs.declared.stage.EvacStage.TheVariants.{Evacuating as AtTablet, Freeing, AwaitingEnd}
+use Rattle.mako_evac.specs.declared.stage.EvacStage.TheVariants.{TellingEnd, Ended as Evacuated}
 use Rattle.mako_evac.specs.declared.tablet.TabletStage.{TabletStage}
-use Rattle.mako_evac.specs.declared.tablet.TabletStage.TheVariants.{LoadingLeaving, Shutting, Draining, LoadingHome, LoadingEntry, Copying as Copies, Clearing, Reopening}
+use Rattle.mako_evac.specs.declared.tablet.TabletStage.TheVariants.{LoadingLeaving, Shutting, Draining, LoadingHome}
+use Rattle.mako_evac.specs.declared.tablet.TabletStage.TheVariants.{LoadingEntry, Copying as Copies, Clearing}
+use Rattle.mako_evac.specs.declared.tablet.TabletStage.TheVariants.{Reopening}
 use Rattle.mako_evac.specs.declared.freeing.FreeStage.{FreeStage}
 use Rattle.mako_evac.specs.declared.freeing.FreeStage.TheVariants.{Loading, Storing, Awaiting, Telling}
 use Rattle.mako_clearing.specs.Clearing.{FreeKnows, StageKnows}

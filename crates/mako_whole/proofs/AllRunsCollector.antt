@@ -13,7 +13,8 @@ use Rattle.mako_shape.specs.declared.numbers.Numbers.{Numbers}
 use Rattle.mako_model.specs.Legal.{Facts}
 use Rattle.mako_pause.specs.Collecting.{Collecting, Holdings, at, running, stage_event}
 use Rattle.mako_pause.specs.declared.stage.IdleStage.TheVariants.{StoringStop}
-use Rattle.mako_pause.specs.declared.stage.PauseStage.TheVariants.{Draining, LoadingRoot, Shutting, StoringTrace, Opening}
+use Rattle.mako_pause.specs.declared.stage.PauseStage.TheVariants.{Draining, LoadingRoot, Shutting, StoringTrace}
+use Rattle.mako_pause.specs.declared.stage.PauseStage.TheVariants.{Opening}
 use Rattle.mako_pause.specs.declared.stage.ChoiceStage.TheVariants.{StoringEvac}
 use Rattle.mako_state.specs.CoreStates.{CoreState, front_after, step_of}
 use Rattle.mako_sitting_collector.specs.CollectorSteps.{IsLook}
@@ -23,11 +24,14 @@ use Rattle.mako_sitting_collector.specs.CollectorGates.{IsGateStore}
 use Rattle.mako_model.specs.declared.event.Event.TheVariants.{Nothing}
 use Rattle.mako_layout.specs.Facets.{Gift, Choice}
 use Rattle.mako_pause.specs.declared.stage.CollectStage.{CollectStage}
-use Rattle.mako_pause.specs.declared.stage.CollectStage.TheVariants.{Idle, Pausing, Forwarding, Barriers, Emptying, Polling, Choosing, Noticing, Ended}
+use Rattle.mako_pause.specs.declared.stage.CollectStage.TheVariants.{Idle, Pausing, Forwarding, Barriers, Emptying}
+use Rattle.mako_pause.specs.declared.stage.CollectStage.TheVariants.{Polling, Choosing, Noticing, Ended}
 use Rattle.mako_seat.specs.declared.seat.Seat.TheVariants.{Collector}
 use Rattle.mako_collecting.specs.Roles.{ChoiceOf}
-use Rattle.mako_collecting.specs.Steps.{stepped, polled, chosen, snapped, with_collector, words_next, collector_next, choice_begun}
-use Rattle.mako_whole.specs.AllRuns.{scene_in, SeatsSit, LookRuns, RoundStoreRuns, PollRuns, ChoiceRuns, GateRuns, StopRuns, SnapshotRuns, EvacRuns}
+use Rattle.mako_collecting.specs.Steps.{stepped, polled, chosen, snapped, with_collector, words_next, collector_next}
+use Rattle.mako_collecting.specs.Steps.{choice_begun}
+use Rattle.mako_whole.specs.AllRuns.{scene_in, SeatsSit, LookRuns, RoundStoreRuns, PollRuns, ChoiceRuns, GateRuns}
+use Rattle.mako_whole.specs.AllRuns.{StopRuns, SnapshotRuns, EvacRuns}
 use Rattle.mako_whole.proofs.AllRuns.{collectors_run}
 use Rattle.mako_sitting_collector.proofs.CollectorChoices.{choices_keep_all}
 use Rattle.mako_sitting_collector.proofs.CollectorEvac.{evac_keeps_all}

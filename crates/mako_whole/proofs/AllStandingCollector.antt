@@ -15,15 +15,20 @@ use Rattle.mako_layout.specs.StepParts.{collector_seat}
 use Rattle.mako_joint.specs.Joints.{JointScene}
 use Rattle.mako_pause.specs.Collecting.{Collecting, Holdings, at, next_of, event_of, fed, stage_event, Fits}
 use Rattle.mako_pause.specs.declared.stage.IdleStage.TheVariants.{LoadingDemand, LookingFinished, StoringStop}
-use Rattle.mako_pause.specs.declared.stage.PauseStage.TheVariants.{Draining, LoadingRoot, Shutting, StoringTrace, Opening}
+use Rattle.mako_pause.specs.declared.stage.PauseStage.TheVariants.{Draining, LoadingRoot, Shutting, StoringTrace}
+use Rattle.mako_pause.specs.declared.stage.PauseStage.TheVariants.{Opening}
 use Rattle.mako_pause.specs.declared.stage.ForwardStage.TheVariants.{Looking, Storing}
 use Rattle.mako_pause.specs.declared.stage.BarrierStage.TheVariants.{Loading, Clearing}
 use Rattle.mako_pause.specs.declared.stage.ChoiceStage.{ChoiceStage}
-use Rattle.mako_pause.specs.declared.stage.ChoiceStage.TheVariants.{LoadingLive, LoadingTop, LoadingHome, StoringLeaving, StoringHome, StoringTop, StoringEvac, Opening as Reopening}
+use Rattle.mako_pause.specs.declared.stage.ChoiceStage.TheVariants.{LoadingLive, LoadingTop, LoadingHome}
+use Rattle.mako_pause.specs.declared.stage.ChoiceStage.TheVariants.{StoringLeaving, StoringHome, StoringTop}
+use Rattle.mako_pause.specs.declared.stage.ChoiceStage.TheVariants.{StoringEvac, Opening as Reopening}
 use Rattle.mako_pause.specs.declared.stage.NoticeStage.{NoticeStage}
-use Rattle.mako_pause.specs.declared.stage.NoticeStage.TheVariants.{Looking as NoticeLook, Clearing as NoticeClear, StoringIdle}
+use Rattle.mako_pause.specs.declared.stage.NoticeStage.TheVariants.{Looking as NoticeLook, Clearing as NoticeClear}
+use Rattle.mako_pause.specs.declared.stage.NoticeStage.TheVariants.{StoringIdle}
 use Rattle.mako_pause.specs.declared.stage.CollectStage.{CollectStage}
-use Rattle.mako_pause.specs.declared.stage.CollectStage.TheVariants.{Idle, Pausing, Forwarding, Barriers, Emptying, Polling, Choosing, Noticing, Ended}
+use Rattle.mako_pause.specs.declared.stage.CollectStage.TheVariants.{Idle, Pausing, Forwarding, Barriers, Emptying}
+use Rattle.mako_pause.specs.declared.stage.CollectStage.TheVariants.{Polling, Choosing, Noticing, Ended}
 use Rattle.mako_seat.specs.declared.seat.Seat.{Seat}
 use Rattle.mako_seat.specs.declared.seat.Seat.TheVariants.{Collector}
 use Rattle.mako_state.specs.CoreStates.{CoreState, front_after, made, stepped_by, step_of}
@@ -47,7 +52,9 @@ use Rattle.mako_sitting_collector.specs.CollectorSnaps.{snapshot_taken, storing}
 use Rattle.mako_sitting_collector.specs.CollectorSteps.{IsLook}
 use Rattle.mako_whole.proofs.AllBarriers.{collectors_hold_barriers}
 use Rattle.mako_whole.proofs.AllCollecting.{findings_fit}
-use Rattle.mako_whole.proofs.AllGiftsSeats.{notices_find_gifts, steps_keep_gifts, snapshots_keep_gifts, polls_keep_gifts, choices_keep_gifts, hearing_keeps_gifts, finish_keeps_gifts}
+use Rattle.mako_whole.proofs.AllGiftsSeats.{notices_find_gifts, steps_keep_gifts, snapshots_keep_gifts}
+use Rattle.mako_whole.proofs.AllGiftsSeats.{polls_keep_gifts, choices_keep_gifts, hearing_keeps_gifts}
+use Rattle.mako_whole.proofs.AllGiftsSeats.{finish_keeps_gifts}
 use Rattle.mako_whole.proofs.AllHoused.{collectors_stay_housed, all_housed_have_spares}
 use Rattle.mako_whole.proofs.AllNoticesCollector.{collector_notices, hearing_notices, finish_notices}
 use Rattle.mako_sitting_collector.proofs.CollectorChoices.{choices_keep_all}

@@ -1,5 +1,6 @@
 -- What stands in states of a core: at its start, after each step of a mutator and of a server, and so over runs.
-use Rattle.std.proofs.Common.{◌≡◌, ℕ, List, slice_get, slice_set, Option, Some, None, sym, subst, refl, ◌<◌, ◌+◌, length}
+use Rattle.std.proofs.Common.{◌≡◌, ℕ, List, slice_get, slice_set, Option, Some, None, sym, subst, refl, ◌<◌, ◌+◌}
+use Rattle.std.proofs.Common.{length}
 use Rattle.std.specs.List.{Contains}
 use Rattle.std.proofs.lemmas.Option.{slice_get_within}
 use Rattle.mako_words.specs.declared.name.Name.{Name}

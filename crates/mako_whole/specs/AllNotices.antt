@@ -19,7 +19,8 @@ use Rattle.mako_pause.specs.declared.stage.ChoiceStage.{ChoiceStage}
 use Rattle.mako_pause.specs.declared.stage.CollectStage.{CollectStage}
 use Rattle.mako_pause.specs.declared.stage.CollectStage.TheVariants.{Choosing, Noticing}
 use Rattle.mako_collecting.specs.Steps.{collector_next, stepped, polled, chosen}
-use Rattle.mako_clearing.specs.Hearing.{notice_server, NoticeKnows, with_hearing, noticing, words_next, hears_next, with_finish}
+use Rattle.mako_clearing.specs.Hearing.{notice_server, NoticeKnows, with_hearing, noticing, words_next, hears_next}
+use Rattle.mako_clearing.specs.Hearing.{with_finish}
 use Rattle.mako_seat.specs.declared.seat.Seat.{Seat}
 use Rattle.mako_seat.specs.declared.seat.Seat.TheVariants.{Mutator, Server, Collector}
 use Rattle.mako_state.specs.Openings.{opening_seats}

@@ -9,7 +9,9 @@ use Rattle.mako_step.specs.Acts.{does}
 use Rattle.mako_step.specs.declared.act.Op.TheVariants.{Store}
 use Rattle.mako_record.specs.Copying.{StageIsKnown, copied_to, copy_next}
 use Rattle.mako_record.specs.declared.copier.CopyStage.{CopyStage}
-use Rattle.mako_record.specs.declared.copier.CopyStage.TheVariants.{LoadingTop, LoadingHeader, StoringHeader, LoadingField, StoringField, StoringEntry, RaisingTop, Ended}
+use Rattle.mako_record.specs.declared.copier.CopyStage.TheVariants.{LoadingTop, LoadingHeader, StoringHeader}
+use Rattle.mako_record.specs.declared.copier.CopyStage.TheVariants.{LoadingField, StoringField, StoringEntry}
+use Rattle.mako_record.specs.declared.copier.CopyStage.TheVariants.{RaisingTop, Ended}
 use Rattle.mako_writes.proofs.Touching.{Leaves, looks, at_place, ends}
 
 module _ (n : Numbers) (Writes : Place → Type 0) (records : (r o : ℕ) → Writes (region_word r o)) (x : ℕ)

@@ -1,5 +1,6 @@
 -- What a server writes, by its stage.
-use Rattle.std.proofs.Common.{◌≡◌, ℕ, ◌+◌, ◌-◌, ◌*◌, ◌/◌, ◌%◌, ◌<◌, add-mul, inl, inr, slice_index, sym, ap, subst, ◌∙◌, refl, arith}
+use Rattle.std.proofs.Common.{◌≡◌, ℕ, ◌+◌, ◌-◌, ◌*◌, ◌/◌, ◌%◌, ◌<◌, add-mul, inl, inr, slice_index, sym, ap, subst, ◌∙◌}
+use Rattle.std.proofs.Common.{refl, arith}
 use Rattle.std.proofs.lemmas.Nat.{mod_below, div-mul-add}
 use Rattle.std.proofs.lemmas.List.Elements.{All-get_or}
 use Rattle.std.proofs.Math.Nat.{le-div_iff_mul-le}
@@ -26,11 +27,13 @@ use Rattle.mako_ring.specs.declared.tracing.ScanStage.TheVariants.{FieldLoad, En
 use Rattle.mako_ring.specs.declared.tracing.ReceiveStage.{ReceiveStage}
 use Rattle.mako_ring.specs.declared.tracing.ReceiveStage.TheVariants.{SlotLook, BusyRaise, SlotClear}
 use Rattle.mako_ring.specs.declared.tracing.MarkStage.{MarkStage}
-use Rattle.mako_ring.specs.declared.tracing.MarkStage.TheVariants.{Considering, Measuring, Marking as EntryMark, Counting}
+use Rattle.mako_ring.specs.declared.tracing.MarkStage.TheVariants.{Considering, Measuring, Marking as EntryMark}
+use Rattle.mako_ring.specs.declared.tracing.MarkStage.TheVariants.{Counting}
 use Rattle.mako_ring.specs.declared.tracing.RestStage.{RestStage}
 use Rattle.mako_ring.specs.declared.tracing.RestStage.TheVariants.{BusyLower, TailLook, GhostLower}
 use Rattle.mako_ring.specs.declared.tracing.TraceStage.{TraceStage}
-use Rattle.mako_ring.specs.declared.tracing.TraceStage.TheVariants.{Sending, Scanning, Receiving, Marking, Resting, Ended as AtEnd}
+use Rattle.mako_ring.specs.declared.tracing.TraceStage.TheVariants.{Sending, Scanning, Receiving, Marking, Resting}
+use Rattle.mako_ring.specs.declared.tracing.TraceStage.TheVariants.{Ended as AtEnd}
 use Rattle.mako_trace.specs.Held as held
 use Rattle.mako_evac.specs.Evacuating as evacuating
 use Rattle.mako_evac.specs.Evacuating.{Evacuation}
@@ -39,9 +42,12 @@ use Rattle.mako_evac.specs.Owners.{tablets_end, IsOwner, IsOwnTablet, IsOwnEntry
 use Rattle.mako_evac.specs.Tablets as tablets
 use Rattle.mako_evac.specs.declared.owner.Owner.{Owner}
 use Rattle.mako_evac.specs.declared.stage.EvacStage.{EvacStage}
-use Rattle.mako_evac.specs.declared.stage.EvacStage.TheVariants.{Evacuating as AtTablet, Freeing, AwaitingEnd, TellingEnd, Ended as Evacuated}
+use Rattle.mako_evac.specs.declared.stage.EvacStage.TheVariants.{Evacuating as AtTablet, Freeing, AwaitingEnd}
+use Rattle.mako_evac.specs.declared.stage.EvacStage.TheVariants.{TellingEnd, Ended as Evacuated}
 use Rattle.mako_evac.specs.declared.tablet.TabletStage.{TabletStage}
-use Rattle.mako_evac.specs.declared.tablet.TabletStage.TheVariants.{LoadingLeaving, Shutting, Draining, LoadingHome, LoadingEntry, Copying as Copies, Clearing, Reopening}
+use Rattle.mako_evac.specs.declared.tablet.TabletStage.TheVariants.{LoadingLeaving, Shutting, Draining, LoadingHome}
+use Rattle.mako_evac.specs.declared.tablet.TabletStage.TheVariants.{LoadingEntry, Copying as Copies, Clearing}
+use Rattle.mako_evac.specs.declared.tablet.TabletStage.TheVariants.{Reopening}
 use Rattle.mako_evac.specs.declared.freeing.FreeStage.{FreeStage}
 use Rattle.mako_evac.specs.declared.freeing.FreeStage.TheVariants.{Loading, Storing, Awaiting, Telling}
 use Rattle.mako_server.specs.Serving as serving
@@ -89,7 +95,8 @@ module _ (t : TracerView) (known : held.IsKnown t)
       at_place n W (ghost a t.server (slice_index t.ghost_at a)) op (
         is,
         known.held.server,
-        All-get_or (λ at. at < n.ring) t.ghost_at a 0 (let count = known.held.ghost_at_are in omega arith) known.held.ghost_at,
+        All-get_or (λ at. at < n.ring) t.ghost_at a 0 (let count = known.held.ghost_at_are in
+            omega arith) known.held.ghost_at,
       )
       (inr refl)
 
@@ -151,7 +158,8 @@ module _ (o : Owner) (is_owner : IsOwner o) where
       } in
       let mine = own_tablet (x / m.entries) own in (
         subst (λ i. i < m.servers * m.tablets * m.entries) (row-and-column x m.entries)
-            (row-below (x / m.entries) m.entries (x % m.entries) (m.servers * m.tablets) mine.0 (mod_below x m.entries some)),
+            (row-below (x / m.entries) m.entries (x % m.entries) (m.servers * m.tablets) mine.0
+                (mod_below x m.entries some)),
         mine.1,
       )
 

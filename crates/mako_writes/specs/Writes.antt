@@ -2,7 +2,9 @@
 use Rattle.std.specs.Prelude.{ℕ, ◌≡◌, ◌⊎◌, List}
 use Rattle.mako_words.specs.declared.name.Name.{Name}
 use Rattle.mako_shape.specs.declared.numbers.Numbers.{Numbers}
-use Rattle.mako_shape.specs.Places.{Place, phase, demand, finished, mutator_gate, root, barrier, flags, work, ghost, notice, tablet_gate, turn, home, top, leaving, live, entry, region_word, Within, word_at}
+use Rattle.mako_shape.specs.Places.{Place, phase, demand, finished, mutator_gate, root, barrier, flags, work, ghost}
+use Rattle.mako_shape.specs.Places.{notice, tablet_gate, turn, home, top, leaving, live, entry, region_word, Within}
+use Rattle.mako_shape.specs.Places.{word_at}
 use Rattle.mako_shape.specs.Belongings.{server_of_tablet, server_of_entry}
 use Rattle.mako_step.specs.Acts.{words_stepped}
 use Rattle.mako_ring.specs.TraceFacets.{InHand}

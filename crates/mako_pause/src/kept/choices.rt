@@ -1,6 +1,7 @@
 //! What the collector keeps of tablets: what is loaded, which are chosen, and what they get.
 
-ghost use Rattle.std.specs.Prelude.{◌≡◌, ◌<◌, ◌≤◌, ◌+◌, ◌*◌, ◌^◌, ◌++◌, ◌∷◌, [], All, length, map, slice_set, vec_capacity};
+ghost use Rattle.std.specs.Prelude.{◌≡◌, ◌<◌, ◌≤◌, ◌+◌, ◌*◌, ◌^◌, ◌++◌, ◌∷◌, [], All, length, map, slice_set};
+ghost use Rattle.std.specs.Prelude.{vec_capacity};
 ghost use Rattle.mako_words.specs.Lives.{IsPackedLive};
 ghost use Rattle.mako_pause.specs.Collecting as collecting;
 ghost use Rattle.mako_pause.specs.Collecting.{at, running};
@@ -110,7 +111,9 @@ impl Kept {
         requires runs { Runs self.old }
         requires region { gift.region < all_regions self.old }
         requires former { gift.former < all_regions self.old }
-        ensures { self.new ≡ record self.old { roles = slice_set (slice_set self.old.roles gift.region roles.Home) gift.former (roles.Spare (running self.old + 1)) } }
+        ensures { self.new ≡ record self.old { roles =
+            slice_set (slice_set self.old.roles gift.region roles.Home) gift.former
+            (roles.Spare (running self.old + 1)) } }
     {
         let next = self.cycle + 2;
         self.roles[gift.region as usize] = Role::Home;

@@ -9,8 +9,10 @@ loop-mutator-preserved g c =
     let n = c.args.shape.now in
     let m = c.loop-mutator.mutator in
     let ws = g.W.Words.words c.loop-mutator.words in
-    let stored = c.store.ensures ∙ ap (λ k. set ws k c.pack-name.result) c.root.ensures.index ∙ ap (λ x. set ws (index n (root (m - 1) 0)) x) c.pack-name.ensures in
+    let stored = c.store.ensures ∙ ap (λ k. set ws k c.pack-name.result) c.root.ensures.index
+        ∙ ap (λ x. set ws (index n (root (m - 1) 0)) x) c.pack-name.ensures in
     record {
       size = ap length c.store.ensures ∙ length-set ws c.root.result c.pack-name.result ∙ c.loop-mutator.invariant.size;
-      rest = ap (λ (us : List ℕ). written n us (board_roots (m - 1))) stored ∙ root_written n ws m c.loop-mutator-test.true ∙ c.loop-mutator.invariant.rest;
+      rest = ap (λ (us : List ℕ). written n us (board_roots (m - 1))) stored
+          ∙ root_written n ws m c.loop-mutator-test.true ∙ c.loop-mutator.invariant.rest;
     }

@@ -6,5 +6,6 @@ use Rattle.mako_core.proofs.opening_words.settle_tablets.Given as goal
 abbrev pub invariant-loop-tablet : goal.invariant-loop-tablet
 invariant-loop-tablet g l = record {
   size : length (g.W.Words.words l.words) ≡ total l.shape;
-  rest : written l.shape (g.W.Words.words l.words) (first_homes l.shape l.tablet) ≡ written l.shape (g.W.Words.words l.initial.words) (first_homes l.shape (l.shape.servers * l.shape.tablets));
+  rest : written l.shape (g.W.Words.words l.words) (first_homes l.shape l.tablet) ≡ written l.shape
+      (g.W.Words.words l.initial.words) (first_homes l.shape (l.shape.servers * l.shape.tablets));
 }

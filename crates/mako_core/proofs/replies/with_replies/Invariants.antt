@@ -6,7 +6,8 @@ use Rattle.mako_core.proofs.replies.with_replies.Given as goal
 
 abbrev pub invariant-loop-seat : goal.invariant-loop-seat
 invariant-loop-seat l = record {
-  all : map (λ (v : Vec Reply Global). v.items) l.lists.items ++ replies_in (into_iter_items l.seat-iterator) ≡ map (λ (v : Vec Reply Global). v.items) l.initial.lists.items ++ replies_in (into_iter_items l.initial.seat-iterator);
+  all : map (λ (v : Vec Reply Global). v.items) l.lists.items ++ replies_in (into_iter_items l.seat-iterator) ≡ map
+      (λ (v : Vec Reply Global). v.items) l.initial.lists.items ++ replies_in (into_iter_items l.initial.seat-iterator);
   left : into_iter_len l.seat-iterator ≡ length (into_iter_items l.seat-iterator);
   room : vec_len l.lists + length (replies_in (into_iter_items l.seat-iterator)) ≤ vec_capacity l.lists;
 }

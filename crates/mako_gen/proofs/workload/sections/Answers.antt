@@ -8,7 +8,8 @@ use Rattle.mako_gen.proofs.workload.sections.Goals as goal
 pub loop-mutator-init : goal.loop-mutator-init
 loop-mutator-init c =
     record {
-      drawn = subst (λ (ps : List ProgramView). AreSections c.args.size c.args.generator.now ps c.args.generator.now) (sym c.new-programs.ensures.items) refl;
+      drawn = subst (λ (ps : List ProgramView). AreSections c.args.size c.args.generator.now ps c.args.generator.now)
+          (sym c.new-programs.ensures.items) refl;
       count = ap length c.new-programs.ensures.items;
     }
 
@@ -17,7 +18,9 @@ loop-mutator-preserved c =
     let p = c.in_ok-program.program in
     let items = c.in_ok-push.ensures.items in
     record {
-      drawn = subst (λ (ps : List ProgramView). AreSections c.args.size c.args.generator.now ps c.section.new.generator) (sym items)
+      drawn = subst (λ (ps : List ProgramView). AreSections c.args.size c.args.generator.now ps c.section.new.generator)
+          (sym items)
           (sections_more _ _ _ _ _ _ c.loop-mutator.invariant.drawn c.in_ok-program.ensures);
-      count = omega (arith, ap length items, length_push c.loop-mutator.programs.items p, c.loop-mutator.invariant.count);
+      count = omega (arith, ap length items, length_push c.loop-mutator.programs.items p,
+          c.loop-mutator.invariant.count);
     }

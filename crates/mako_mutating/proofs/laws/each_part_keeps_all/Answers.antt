@@ -1,4 +1,5 @@
-use Rattle.mako_mutating.proofs.MoveSteps.{arrivals_keep, roots_keep, enters_keep, moves_keep, gets_keep, puts_keep, leaves_keep}
+use Rattle.mako_mutating.proofs.MoveSteps.{arrivals_keep, roots_keep, enters_keep, moves_keep, gets_keep, puts_keep}
+use Rattle.mako_mutating.proofs.MoveSteps.{leaves_keep}
 use Rattle.mako_mutating.proofs.laws.each_part_keeps_all.Goals as goal
 
 pub returns-clause-arrivals : goal.returns-clause-arrivals

@@ -1,4 +1,5 @@
-use Rattle.std.proofs.Common.{◌≡◌, ◌⊎◌, inl, inr, ⊎_elim, ◌↔◌, [], length, IsTrue, ℕ, List, suc, ◌+◌, ◌∷◌, eqb-true, refl, sym, ap, ◌∙◌, subst, subst₂, arith}
+use Rattle.std.proofs.Common.{◌≡◌, ◌⊎◌, inl, inr, ⊎_elim, ◌↔◌, [], length, IsTrue, ℕ, List, suc, ◌+◌, ◌∷◌, eqb-true}
+use Rattle.std.proofs.Common.{refl, sym, ap, ◌∙◌, subst, subst₂, arith}
 use Rattle.mako_model.specs.Answering.{Answers, AnswersToEnd}
 use Rattle.mako_script.specs.ScriptFacts.{facts_of}
 use Rattle.mako_script.specs.Scripts.{ScriptView}
@@ -49,7 +50,8 @@ returns c =
       most = inv.most;
       ends = ⊎_elim inl (λ none. inr (subst (λ (st : CoreState). AreAllAtEnd st.seats) state
           (all_passed 0 r.core.state.seats (sym inv.live ∙ none)))) stops;
-      finished = subst₂ (λ (s : ScriptView) (st : CoreState). IsTrue c.is_finished-finished.result ↔ AllAtEnd s.numbers st.seats)
+      finished = subst₂ (λ (s : ScriptView)
+          (st : CoreState). IsTrue c.is_finished-finished.result ↔ AllAtEnd s.numbers st.seats)
           script state c.is_finished-finished.ensures;
       whole = c.finish.ensures.whole;
       freed = c.finish.ensures.freed;

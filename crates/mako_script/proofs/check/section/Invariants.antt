@@ -9,9 +9,12 @@ abbrev pub invariant-commands : goal.invariant-commands
 invariant-commands l = record {
   few : length l.names.items ≤ 32;
   left : length l.lines.rest.now ≤ length l.initial.lines.rest.now;
-  read : CallsSoFar l.roots l.before l.commands (map (λ name. name.now) l.names.items) (lines_of l.initial.lines.rest.now) (lines_of l.lines.rest.now);
-  inside : (text : List ℕ) (sections : ℕ) → Inside text l.roots sections l.before (board_name ∷ []) l.initial.lines.line (lines_of l.initial.lines.rest.now)
-      → Inside text l.roots sections l.commands (map (λ name. name.now) l.names.items) l.lines.line (lines_of l.lines.rest.now);
+  read : CallsSoFar l.roots l.before l.commands (map (λ name. name.now) l.names.items)
+      (lines_of l.initial.lines.rest.now) (lines_of l.lines.rest.now);
+  inside : (text : List ℕ) (sections : ℕ)
+      → Inside text l.roots sections l.before (board_name ∷ []) l.initial.lines.line (lines_of l.initial.lines.rest.now)
+      → Inside text l.roots sections l.commands (map (λ name. name.now) l.names.items) l.lines.line
+          (lines_of l.lines.rest.now);
 }
 
 abbrev pub decreases-commands : goal.decreases-commands

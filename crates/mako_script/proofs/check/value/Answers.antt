@@ -3,11 +3,14 @@ use Rattle.mako_reader.specs.Reading.{number_at, Refuses}
 use Rattle.mako_reader.specs.declared.refusal.Refusal.{Refusal}
 use Rattle.mako_reader.proofs.Digits.{number_takes, number_few, ten_digits_again}
 use Rattle.mako_script.proofs.check.value.Goals as goal
-use Rattle.mako_script.proofs.check.value.Goals.{then-value-from-via-then-value-from, then-value-from-via-else-value-from+then-value-from-2}
+use Rattle.mako_script.proofs.check.value.Goals.{then-value-from-via-then-value-from}
+use Rattle.mako_script.proofs.check.value.Goals.{then-value-from-via-else-value-from+then-value-from-2}
 
 pub returns-in_default : goal.returns-in_default
 returns-in_default c = λ n h.
-    let none : number_at c.args.word.now ≡ None = subst (λ (e : Refusal). Refuses e (number_at c.args.word.now)) c.in_default.ensures.kind c.in_default.ensures.read in
+    let none : number_at c.args.word.now ≡ None =
+        subst (λ (e : Refusal). Refuses e (number_at c.args.word.now)) c.in_default.ensures.kind
+        c.in_default.ensures.read in
     let some : number_at c.args.word.now ≡ Some n = ap number_at h.0 ∙ ten_digits_again n h.1 in
     cc
 
@@ -28,4 +31,5 @@ pub returns : goal.returns
 returns c =
     let word = c.args.word.now in
     let read : number_at word ≡ Some c.in-Ok.value = c.in-Ok.ensures.read in
-    ((number_takes word c.in-Ok.value read, number_few word c.in-Ok.value read), omega (arith, c.from.ensures), omega (arith, c.from-else-value-from.ensures))
+    ((number_takes word c.in-Ok.value read, number_few word c.in-Ok.value read), omega (arith, c.from.ensures), omega
+        (arith, c.from-else-value-from.ensures))

@@ -1,4 +1,6 @@
-use Rattle.mako_script.proofs.Worked.{large_number, no_character, no_command, no_end, no_feed, no_mutator, one_name_more, one_section_more, other_key, too_many_entries, too_many_words, undefined_name, zero_before}
+use Rattle.mako_script.proofs.Worked.{large_number, no_character, no_command, no_end, no_feed, no_mutator}
+use Rattle.mako_script.proofs.Worked.{one_name_more, one_section_more, other_key, too_many_entries, too_many_words}
+use Rattle.mako_script.proofs.Worked.{undefined_name, zero_before}
 use Rattle.mako_script.proofs.laws.worked_texts_have_their_faults.Goals as goal
 
 pub returns-clause-undefined : goal.returns-clause-undefined

@@ -1,4 +1,5 @@
-use Rattle.mako_sitting.proofs.Telling.{copies_are_alone, one_writes, records_stand, sitting_may_write, sitting_records_are_apart}
+use Rattle.mako_sitting.proofs.Telling.{copies_are_alone, one_writes, records_stand, sitting_may_write}
+use Rattle.mako_sitting.proofs.Telling.{sitting_records_are_apart}
 use Rattle.mako_sitting.proofs.laws.records_tell.Goals as goal
 
 pub returns-clause-each : goal.returns-clause-each

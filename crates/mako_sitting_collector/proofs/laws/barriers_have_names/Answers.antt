@@ -1,4 +1,5 @@
-use Rattle.mako_sitting_collector.proofs.CollectorGoingBarriers.{looks_find_names, emptying_leaves_names, puts_leave_names}
+use Rattle.mako_sitting_collector.proofs.CollectorGoingBarriers.{looks_find_names, emptying_leaves_names}
+use Rattle.mako_sitting_collector.proofs.CollectorGoingBarriers.{puts_leave_names}
 use Rattle.mako_sitting_collector.proofs.laws.barriers_have_names.Goals as goal
 
 pub returns-clause-looks : goal.returns-clause-looks

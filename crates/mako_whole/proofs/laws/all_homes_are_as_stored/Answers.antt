@@ -1,4 +1,5 @@
-use Rattle.mako_whole.proofs.AllHoused.{openings_are_housed, mutators_leave_housed, servers_leave_housed, collectors_stay_housed, all_housed_have_spares}
+use Rattle.mako_whole.proofs.AllHoused.{openings_are_housed, mutators_leave_housed, servers_leave_housed}
+use Rattle.mako_whole.proofs.AllHoused.{collectors_stay_housed, all_housed_have_spares}
 use Rattle.mako_whole.proofs.laws.all_homes_are_as_stored.Goals as goal
 
 pub returns-clause-opening : goal.returns-clause-opening

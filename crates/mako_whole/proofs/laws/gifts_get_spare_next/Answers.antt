@@ -1,4 +1,7 @@
-use Rattle.mako_whole.proofs.AllGiftsSeats.{notices_find_gifts, openings_give_none, mutators_keep_gifts, servers_keep_gifts, steps_keep_gifts, snapshots_keep_gifts, polls_keep_gifts, choices_keep_gifts, hearing_keeps_gifts, finish_keeps_gifts}
+use Rattle.mako_whole.proofs.AllGiftsSeats.{notices_find_gifts, openings_give_none, mutators_keep_gifts}
+use Rattle.mako_whole.proofs.AllGiftsSeats.{servers_keep_gifts, steps_keep_gifts, snapshots_keep_gifts}
+use Rattle.mako_whole.proofs.AllGiftsSeats.{polls_keep_gifts, choices_keep_gifts, hearing_keeps_gifts}
+use Rattle.mako_whole.proofs.AllGiftsSeats.{finish_keeps_gifts}
 use Rattle.mako_whole.proofs.laws.gifts_get_spare_next.Goals as goal
 
 pub returns-clause-notices : goal.returns-clause-notices

@@ -1,4 +1,5 @@
-use Rattle.mako_whole.proofs.AllRunsCollector.{choices_run, evacs_run, gates_run, looks_run, polls_run, round_stores_run, snapshots_run, stops_run}
+use Rattle.mako_whole.proofs.AllRunsCollector.{choices_run, evacs_run, gates_run, looks_run, polls_run}
+use Rattle.mako_whole.proofs.AllRunsCollector.{round_stores_run, snapshots_run, stops_run}
 use Rattle.mako_whole.proofs.laws.seats_sit_after_collecting.Goals as goal
 
 pub returns-clause-looks : goal.returns-clause-looks

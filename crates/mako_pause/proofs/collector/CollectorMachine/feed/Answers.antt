@@ -13,7 +13,8 @@ invariant_of-self c =
     let s = c.self.inside.stage in
     let w = c.args.before in
     let fits = subst (λ (q : Collecting). Fits q w) (sym c.self.view_is) c.requires.fits in
-    subst (λ (q : Collecting). StageIsKnown q.kept q.stage) (sym c.fed-self-inside.ensures) (stage_stands k s w c.numbers-known.ensures.known c.self.invariant fits)
+    subst (λ (q : Collecting). StageIsKnown q.kept q.stage) (sym c.fed-self-inside.ensures)
+        (stage_stands k s w c.numbers-known.ensures.known c.self.invariant fits)
 
 pub returns-clause-rank : goal.returns-clause-rank
 returns-clause-rank c =
@@ -23,5 +24,7 @@ returns-clause-rank c =
     let after = at c.fed-self-inside.new.kept c.fed-self-inside.result in
     let acts = subst (λ (q : Collecting). IsAct (next_of q)) (sym c.self.view_is) c.requires.acts in
     let here : stage_waits k s w ≡ false → Lowers (stage_renewed k s w) (stage_rank k s) (rank after) =
-    λ moves. subst (λ (q : Collecting). Lowers (stage_renewed k s w) (stage_rank k s) (rank q)) (sym c.fed-self-inside.ensures) (stage_lowers k s w c.self.invariant acts moves) in
-    subst (λ (q : Collecting). is_waiting q w ≡ false → Lowers (is_renewed q w) (rank q) (rank after)) c.self.view_is here
+    λ moves. subst (λ (q : Collecting). Lowers (stage_renewed k s w) (stage_rank k s) (rank q))
+        (sym c.fed-self-inside.ensures) (stage_lowers k s w c.self.invariant acts moves) in
+    subst (λ (q : Collecting). is_waiting q w ≡ false
+        → Lowers (is_renewed q w) (rank q) (rank after)) c.self.view_is here

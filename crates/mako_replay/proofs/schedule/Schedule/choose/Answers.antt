@@ -1,4 +1,5 @@
-use Rattle.std.proofs.Common.{◌≡◌, ℕ, ◌+◌, ◌<◌, ◌≤◌, ◌⊎◌, inl, inr, List, ◌∷◌, length, slice_index, get_or, arith, sym, ap, ◌∙◌}
+use Rattle.std.proofs.Common.{◌≡◌, ℕ, ◌+◌, ◌<◌, ◌≤◌, ◌⊎◌, inl, inr, List, ◌∷◌, length, slice_index, get_or, arith, sym}
+use Rattle.std.proofs.Common.{ap, ◌∙◌}
 use Rattle.std.proofs.lemmas.List.{get_or_default, get_or_past}
 use Rattle.mako_replay.specs.Schedules.{Left, left_after, chosen}
 use Rattle.mako_replay.specs.Schedules.Left.{rounds, draws}
@@ -20,8 +21,10 @@ chosen_at (Turns n) next place (rounds i) first others is stands wraps =
     let there : get_or (first ∷ others) next first ≡ get_or (first ∷ others) (place_from i (first ∷ others)) first =
     ap (λ k. get_or (first ∷ others) k first) (sym same ∙ stands) in
     elim wraps [
-      | inl t ↦ ap (λ k. get_or (first ∷ others) k 0) t.1 ∙ get_or_default (first ∷ others) next 0 first t.0 ∙ there ∙ sym at
-      | inr t ↦ ap (λ k. get_or (first ∷ others) k 0) t.1 ∙ sym (get_or_past (first ∷ others) next first t.0) ∙ there ∙ sym at
+      | inl t ↦ ap (λ k. get_or (first ∷ others) k 0) t.1 ∙ get_or_default (first ∷ others) next 0 first t.0 ∙ there
+          ∙ sym at
+      | inr t ↦ ap (λ k. get_or (first ∷ others) k 0) t.1 ∙ sym (get_or_past (first ∷ others) next first t.0) ∙ there
+          ∙ sym at
     ]
 chosen_at (Turns n) next place (draws g) first others is stands wraps = absurd stands
 chosen_at (Draws h) next place left first others is stands wraps = absurd cc
@@ -33,7 +36,8 @@ returns-after-next-count-clause-chosen c left first others count stands =
       | else-next-count w ↦ inr (omega arith, w.place-is)
     ])
 
-stands_next : (old : Schedule) (next place : ℕ) (left : Left) (live : List ℕ) → old ≡ Turns next → place < length live → IsAscending live
+stands_next : (old : Schedule) (next place : ℕ) (left : Left) (live : List ℕ) → old ≡ Turns next → place < length live
+    → IsAscending live
     → StandsFor old left live → StandsFor (Turns (place + 1)) (left_after left (slice_index live place)) live
 stands_next (Turns n) next place (rounds i) live is low up stands = sym (next_place 0 live place up low)
 stands_next (Turns n) next place (draws g) live is low up stands = stands

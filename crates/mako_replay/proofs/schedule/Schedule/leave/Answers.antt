@@ -7,7 +7,8 @@ use Rattle.mako_replay.specs.declared.schedule.Schedule.TheVariants.{Turns, Draw
 use Rattle.mako_replay.proofs.Places.{gone_place}
 use Rattle.mako_replay.proofs.schedule.Schedule.leave.Goals as goal
 
-left_behind : (old : Schedule) (next place : ℕ) (left : Left) (live : List ℕ) → old ≡ Turns next → place < length live → IsAscending live
+left_behind : (old : Schedule) (next place : ℕ) (left : Left) (live : List ℕ) → old ≡ Turns next → place < length live
+    → IsAscending live
     → StandsFor old (left_after left (slice_index live place)) live
     → StandsFor (Turns place) (left_after left (slice_index live place)) (remove live place)
 left_behind (Turns n) next place (rounds i) live is low up stands = sym (gone_place 0 live place up low)
