@@ -26,18 +26,28 @@ reached start tablets t h =
     let column : start % tablets < tablets = mod_below start tablets (omega arith) in
     elim (cases_lt t (start % tablets)) [
       | inr ahead ↦
-          let same : start + (t - start % tablets) ≡ start / tablets * tablets + t = omega arith in
-          (t - start % tablets, omega arith, ap (λ (x : ℕ). x % tablets) same ∙ mod-mul-add (start / tablets) tablets t h)
+          let same : start + (t - start % tablets) ≡ start / tablets * tablets + t = omega arith in (
+            t - start % tablets,
+            omega arith,
+            ap (λ (x : ℕ). x % tablets) same
+                ∙ mod-mul-add (start / tablets) tablets t h,
+          )
       | inl behind ↦
-          let same : start + (tablets + t - start % tablets) ≡ (start / tablets + 1) * tablets + t = omega (arith, add-mul (start / tablets) 1 tablets, one-mul tablets) in
-          (tablets + t - start % tablets, omega arith, ap (λ (x : ℕ). x % tablets) same ∙ mod-mul-add (start / tablets + 1) tablets t h)
+          let same : start + (tablets + t - start % tablets) ≡ (start / tablets + 1) * tablets + t =
+          omega (arith, add-mul (start / tablets) 1 tablets, one-mul tablets) in (
+            tablets + t - start % tablets,
+            omega arith,
+            ap (λ (x : ℕ). x % tablets) same
+                ∙ mod-mul-add (start / tablets + 1) tablets t h,
+          )
     ]
 
 -- each tablet is one of those that were gone over
 full_everywhere : (job : Job) (trail : List Observation) → AllFull job trail (all_tablets job.shape) →
     (t : ℕ) → t < all_tablets job.shape → IsFullTablet job trail t
 full_everywhere job trail all t h =
-    let there : (j : ℕ) × (j < all_tablets job.shape) × (tablet_at job j ≡ t) = reached job.mutator (all_tablets job.shape) t h in
+    let there : (j : ℕ) × (j < all_tablets job.shape)
+    × (tablet_at job j ≡ t) = reached job.mutator (all_tablets job.shape) t h in
     subst (λ (u : ℕ). IsFullTablet job trail u) there.2 (all there.0 there.1)
 
 end_caused : (job : Job) (kept : Option Reason) (found : Found) (trail : List Observation) →
@@ -55,7 +65,8 @@ caused : (job : Job) (trail : List Observation) (l : Allocation) (found : Found)
     l.progress.stage ≡ Ended found → IsCaused job trail found
 caused job trail l found ev same ended =
     let shown : EndShows l.job l.progress.note found trail =
-    subst (λ (s : NewStage). StageShows l.job (tablet_at l.job l.progress.passed) l.progress.note s trail) ended ev.stage in
+    subst (λ (s : NewStage). StageShows l.job (tablet_at l.job l.progress.passed) l.progress.note s trail) ended
+    ev.stage in
     subst (λ (j : Job). IsCaused j trail found) same (end_caused l.job l.progress.note found trail ev.notes shown)
 
 pub opening_known : (job : Job) → IsJob job → IsKnown job (opening job).progress
@@ -72,7 +83,8 @@ at_end : (job : Job) (trail : List Observation) (l : Allocation) → IsJob job �
     Goes next_of Fits fed (opening job) trail l →
     Along (λ m trail. Evidence m.job m.progress trail) (opening job) trail l
 at_end job trail l h goes =
-    along (λ m trail. Evidence m.job m.progress trail) (opening job) trail l goes (opening_known job h) shows (opening_shows job)
+    along (λ m trail. Evidence m.job m.progress trail) (opening job) trail l goes (opening_known job h) shows
+    (opening_shows job)
 
 pub results_are_caused : ResultsAreCaused
 results_are_caused job trail l found h goes ended =

@@ -1,5 +1,6 @@
 -- What the trail of a `new` shows at each stage.
-use Rattle.std.proofs.Common.{◌≡◌, ℕ, ◌+◌, ◌*◌, ◌<◌, List, [], ◌∷◌, ◌++◌, Option, Some, None, ap, subst, refl, ◌∙◌, append_assoc, ◌⊎◌, inl, inr, lit<}
+use Rattle.std.proofs.Common.{◌≡◌, ℕ, ◌+◌, ◌*◌, ◌<◌, List, [], ◌∷◌, ◌++◌, Option, Some, None, ap, subst, refl, ◌∙◌}
+use Rattle.std.proofs.Common.{append_assoc, ◌⊎◌, inl, inr, lit<}
 use Rattle.std.specs.List.{Contains}
 use Rattle.std.proofs.lemmas.List.{map-append}
 use Rattle.std.proofs.lemmas.List.Elements.{Contains-append_left, Contains-append_right}
@@ -14,13 +15,16 @@ use Rattle.mako_alloc.specs.declared.found.Found.TheVariants.{Made, Full, Pause}
 use Rattle.mako_alloc.specs.declared.job.Job.{Job}
 use Rattle.mako_alloc.specs.declared.progress.NewRecord.{NewRecord}
 use Rattle.mako_alloc.specs.declared.progress.NewStage.{NewStage}
-use Rattle.mako_alloc.specs.declared.progress.NewStage.TheVariants.{Arriving, TurnedAway, TakingTurn, LoadingLeaving, LoadingTop, LoadingEntry, LoadingHome, Making, GivingTurn, Leaving, Ended}
+use Rattle.mako_alloc.specs.declared.progress.NewStage.TheVariants.{Arriving, TurnedAway, TakingTurn, LoadingLeaving}
+use Rattle.mako_alloc.specs.declared.progress.NewStage.TheVariants.{LoadingTop, LoadingEntry, LoadingHome, Making}
+use Rattle.mako_alloc.specs.declared.progress.NewStage.TheVariants.{GivingTurn, Leaving, Ended}
 use Rattle.mako_alloc.specs.declared.progress.Part.{Part}
 use Rattle.mako_alloc.specs.declared.progress.Part.TheVariants.{Header, Field, Top, Entry}
 use Rattle.mako_alloc.specs.declared.progress.Progress.{Progress}
 use Rattle.mako_alloc.specs.Allocating.{HasRoom, all_tablets, tablet_at, record_word}
 use Rattle.mako_alloc.specs.Causes.{IsMaking, IsMade, null_stores, record_stores, stores}
-use Rattle.mako_alloc.specs.Seen.{IsAdmitted, IsTurnTaken, IsEntered, IsFree, IsFullTablet, IsSeenUsed, HasNoRoom, HasNoEntry, sees}
+use Rattle.mako_alloc.specs.Seen.{IsAdmitted, IsTurnTaken, IsEntered, IsFree, IsFullTablet, IsSeenUsed, HasNoRoom}
+use Rattle.mako_alloc.specs.Seen.{HasNoEntry, sees}
 use Rattle.mako_alloc.proofs.NoteLaws.{NoteStands}
 
 -- the tablet could be tried, and had room over this top
@@ -131,7 +135,8 @@ stored job trail t made acts o h = record {
   entered = h.entered;
   top_seen = h.top_seen;
   splits = ap (λ (xs : List Observation). xs ++ o ∷ []) h.splits ∙ append_assoc h.earlier _ (o ∷ []);
-  acts_are = map-append (λ (x : Observation). x.act) h.later (o ∷ []) ∙ ap (λ (xs : List Act). xs ++ o.act ∷ []) h.acts_are;
+  acts_are = map-append (λ (x : Observation). x.act) h.later (o ∷ [])
+      ∙ ap (λ (xs : List Act). xs ++ o.act ∷ []) h.acts_are;
 }
 
 -- the same stores, said otherwise

@@ -1,5 +1,6 @@
 -- An entry that is found is used or free.
-use Rattle.std.proofs.Common.{◌≡◌, ℕ, inl, inr, true, false, not, ◌&&◌, nat_lt, Option, Some, None, if◌then◌else◌, subst, refl}
+use Rattle.std.proofs.Common.{◌≡◌, ℕ, inl, inr, true, false, not, ◌&&◌, nat_lt, Option, Some, None, if◌then◌else◌}
+use Rattle.std.proofs.Common.{subst, refl}
 use Rattle.mako_words.specs.Entries.{entry_at}
 use Rattle.mako_shape.specs.declared.numbers.Numbers.{Numbers}
 use Rattle.mako_alloc.specs.Allocating.{free_generation}
@@ -13,7 +14,8 @@ pub by_entry : (P : Option ℕ → Type 0) (n : Numbers) (w : ℕ) → (IsUsed n
     P (free_generation n.generations w)
 unfolding free_generation
 by_entry P n w used free = elim ((entry_at w).taken) as
-    (λ b. (entry_at w).taken ≡ b → P (if not b && nat_lt (entry_at w).generation n.generations then Some (entry_at w).generation else None)) [
+    (λ b. (entry_at w).taken ≡ b
+    → P (if not b && nat_lt (entry_at w).generation n.generations then Some (entry_at w).generation else None)) [
       | true ↦ λ e. used (inl e)
       | false ↦ λ e. by_lt
           (λ v. P (if v then Some (entry_at w).generation else None))

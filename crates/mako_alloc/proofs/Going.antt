@@ -9,11 +9,16 @@ use Rattle.mako_alloc.specs.declared.found.Found.TheVariants.{Made}
 use Rattle.mako_alloc.specs.declared.job.Job.{Job}
 use Rattle.mako_alloc.specs.declared.progress.NewRecord.{NewRecord}
 use Rattle.mako_alloc.specs.declared.progress.NewStage.{NewStage}
-use Rattle.mako_alloc.specs.declared.progress.NewStage.TheVariants.{Arriving, TurnedAway, TakingTurn, LoadingLeaving, LoadingTop, LoadingEntry, LoadingHome, Making, GivingTurn, Leaving, Ended}
+use Rattle.mako_alloc.specs.declared.progress.NewStage.TheVariants.{Arriving, TurnedAway, TakingTurn, LoadingLeaving}
+use Rattle.mako_alloc.specs.declared.progress.NewStage.TheVariants.{LoadingTop, LoadingEntry, LoadingHome, Making}
+use Rattle.mako_alloc.specs.declared.progress.NewStage.TheVariants.{GivingTurn, Leaving, Ended}
 use Rattle.mako_alloc.specs.declared.progress.Part.{Part}
 use Rattle.mako_alloc.specs.declared.progress.Part.TheVariants.{Header, Field, Top, Entry}
 use Rattle.mako_alloc.specs.declared.progress.Progress.{Progress}
-use Rattle.mako_alloc.specs.Allocating.{IsKnown, HasRoom, IsRecord, IsFoundKnown, IsStageKnown, FitsBy, all_tablets, tablet_at, stage_next, stage_fed, stage_rank, part_fed, rank_by, next_by, progress_fed, passed_on, outcome, seeking, entry_fed, field_or_top, at, noted, first}
+use Rattle.mako_alloc.specs.Allocating.{IsKnown, HasRoom, IsRecord, IsFoundKnown, IsStageKnown, FitsBy, all_tablets}
+use Rattle.mako_alloc.specs.Allocating.{tablet_at, stage_next, stage_fed, stage_rank, part_fed, rank_by, next_by}
+use Rattle.mako_alloc.specs.Allocating.{progress_fed, passed_on, outcome, seeking, entry_fed, field_or_top, at, noted}
+use Rattle.mako_alloc.specs.Allocating.{first}
 use Rattle.mako_alloc.proofs.Bounds.{entry_below, tablet_below}
 use Rattle.mako_step.proofs.Cases.{by_lt, by_le, by_bool}
 use Rattle.mako_alloc.proofs.Frees.{by_entry}
@@ -25,13 +30,15 @@ GoesOn job before after = IsKnown job after × (rank_by job after < rank_by job 
 -- to another stage at the same tablet
 pub stays : (job : Job) (before : Progress) (reason : Option Reason) (stage : NewStage) → IsKnown job before →
     IsStageKnown job stage →
-    stage_rank job stage < stage_rank job before.stage → GoesOn job before (record { passed = before.passed; note = reason; stage = stage })
+    stage_rank job stage < stage_rank job before.stage
+    → GoesOn job before (record { passed = before.passed; note = reason; stage = stage })
 stays job before reason stage known here lower =
     (record { numbers = known.numbers; passed = known.passed; stage = here }, omega (arith, lower))
 
 -- one tablet fewer is left
 pub one_fewer : (tablets passed entries fields : ℕ) → passed + 1 < tablets →
-    (tablets - (passed + 1 + 1)) * (entries + 6) + (entries + fields + 8) < (tablets - (passed + 1)) * (entries + 6) + (fields + 3)
+    (tablets - (passed + 1 + 1)) * (entries + 6) + (entries + fields + 8) < (tablets - (passed + 1)) * (entries + 6) +
+    (fields + 3)
 one_fewer tablets passed entries fields h =
     let fewer : tablets - (passed + 1) ≡ 1 + (tablets - (passed + 1 + 1)) = omega arith in
     rw fewer (omega (arith, add-mul 1 (tablets - (passed + 1 + 1)) (entries + 6)))
@@ -45,14 +52,27 @@ outcome_known job (Some reason) = tt
 pub passes : (job : Job) (before : Progress) → IsKnown job before → stage_rank job before.stage ≡ job.fields + 3 →
     GoesOn job before (passed_on job before)
 passes job before known out = by_lt
-    (λ v. GoesOn job before (if v then record { passed = before.passed + 1; note = before.note; stage = Arriving } else at before (Ended (outcome before.note))))
+    (λ v. GoesOn job before (if v then record {
+      passed = before.passed + 1;
+      note = before.note;
+      stage = Arriving;
+    } else at before (Ended (outcome before.note))))
     (before.passed + 1)
     (all_tablets job.shape)
-    (λ h. (record { numbers = known.numbers; passed = h; stage = tt }, omega (arith, one_fewer (all_tablets job.shape) before.passed job.shape.entries job.fields h)))
-    (λ h. stays job before before.note (Ended (outcome before.note)) known (outcome_known job before.note) (omega arith))
+    (λ h. (
+      record {
+        numbers = known.numbers;
+        passed = h;
+        stage = tt;
+      },
+      omega (arith, one_fewer (all_tablets job.shape) before.passed job.shape.entries job.fields h),
+    ))
+    (λ h. stays job before before.note (Ended (outcome before.note)) known (outcome_known job before.note)
+    (omega arith))
 
 seeks : (job : Job) (before : Progress) (kept place : ℕ) → IsKnown job before → HasRoom job kept →
-    job.shape.entries - place + job.fields + 4 < stage_rank job before.stage → job.fields + 4 < stage_rank job before.stage →
+    job.shape.entries - place + job.fields + 4 < stage_rank job before.stage
+    → job.fields + 4 < stage_rank job before.stage →
     GoesOn job before (at before (seeking job kept place))
 seeks job before kept place known room lower out = by_lt
     (λ v. GoesOn job before (at before (if v then LoadingEntry kept place else GivingTurn)))
@@ -103,7 +123,8 @@ part_goes_on job passed reason t made Entry within known =
 stage_goes_on : (job : Job) (passed : ℕ) (reason : Option Reason) (t : ℕ) (stage : NewStage) (w : ℕ) →
     t < all_tablets job.shape →
     let before : Progress = record { passed = passed; note = reason; stage = stage } in
-    IsKnown job before → FitsBy job.shape stage w → IsAct (stage_next job t stage) → GoesOn job before (stage_fed job t before stage w)
+    IsKnown job before → FitsBy job.shape stage w → IsAct (stage_next job t stage)
+    → GoesOn job before (stage_fed job t before stage w)
 stage_goes_on job passed reason t Arriving w within known fits act = by_bool
     (λ v. GoesOn job (record { passed = passed; note = reason; stage = Arriving }) (if v
     then noted (record { passed = passed; note = reason; stage = Arriving }) (Shut t w) TurnedAway
@@ -139,7 +160,8 @@ stage_goes_on job passed reason t (LoadingEntry kept place) w within known fits 
     job.shape
     w
     (λ h. entry_goes_on job _ t kept place None known within refl known.stage.0 known.stage.1 (λ g e. cc))
-    (λ g h. entry_goes_on job _ t kept place (Some g) known within refl known.stage.0 known.stage.1 (λ x e. let same : g ≡ x = cc in rw (← same) h.left))
+    (λ g h. entry_goes_on job _ t kept place (Some g) known within refl known.stage.0 known.stage.1
+    (λ x e. let same : g ≡ x = cc in rw (← same) h.left))
 stage_goes_on job passed reason t (LoadingHome kept name) w within known fits act = stays job _ reason
     (Making (record { name = name; home = w; top = kept }) Header) known
     (record { name = known.stage.1; home = fits; room = known.stage.0 }, tt) (omega arith)
@@ -155,4 +177,5 @@ pub step_goes_on : (job : Job) (progress : Progress) (w : ℕ) → IsKnown job p
     FitsBy job.shape progress.stage w → IsAct (next_by job progress) →
     GoesOn job progress (progress_fed job progress w)
 step_goes_on job progress w known fits act =
-    stage_goes_on job progress.passed progress.note (tablet_at job progress.passed) progress.stage w (tablet_below job progress.passed known.numbers) known fits act
+    stage_goes_on job progress.passed progress.note (tablet_at job progress.passed) progress.stage w
+    (tablet_below job progress.passed known.numbers) known fits act

@@ -1,5 +1,6 @@
 -- The note that a `new` keeps is the first of its trail.
-use Rattle.std.proofs.Common.{◌≡◌, ℕ, ◌+◌, true, false, List, [], ◌∷◌, ◌++◌, Option, Some, None, ap, sym, refl, ◌∙◌, append_assoc}
+use Rattle.std.proofs.Common.{◌≡◌, ℕ, ◌+◌, true, false, List, [], ◌∷◌, ◌++◌, Option, Some, None, ap, sym, refl, ◌∙◌}
+use Rattle.std.proofs.Common.{append_assoc}
 use Rattle.std.specs.List.{All}
 use Rattle.std.proofs.lemmas.List.Elements.{All-push}
 use Rattle.mako_words.specs.Gates.{is_shut}
@@ -27,7 +28,8 @@ stays_first job trail reason o h = record {
   earlier = h.earlier;
   observation = h.observation;
   later = h.later ++ o ∷ [];
-  splits = ap (λ (xs : List Observation). xs ++ o ∷ []) h.splits ∙ append_assoc h.earlier (h.observation ∷ h.later) (o ∷ []);
+  splits = ap (λ (xs : List Observation). xs ++ o ∷ []) h.splits
+      ∙ append_assoc h.earlier (h.observation ∷ h.later) (o ∷ []);
   tells = h.tells;
   first = h.first;
 }
@@ -103,7 +105,8 @@ load_is_none job p w within other (Shut t v) h = let e : Load ≡ Add 1 = ap (λ
 load_is_none job p w within other (Busy t v) h =
     let e : Load ≡ Exchange 0 (job.mutator + 1) = ap (λ (o : Observation). o.act.op) h.1 in cc
 load_is_none job p w within other (Moving t v) h =
-    let place : p ≡ leaving t = one_place job.shape p (leaving t) within h.0 (ap (λ (o : Observation). o.act.word) h.1) in
+    let place : p ≡ leaving t =
+    one_place job.shape p (leaving t) within h.0 (ap (λ (o : Observation). o.act.word) h.1) in
     h.2 (sym (ap (λ (o : Observation). o.found) h.1) ∙ other t place)
 load_is_none job p w within other (Stopped v) h = h
 load_is_none job p w within other (Barrier s v) h = h

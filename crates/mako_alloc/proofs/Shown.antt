@@ -1,5 +1,6 @@
 -- Each step of a `new` keeps what its trail shows.
-use Rattle.std.proofs.Common.{◌≡◌, ℕ, ◌+◌, ◌*◌, ◌<◌, ◌≤◌, List, [], ◌∷◌, ◌++◌, Option, Some, None, ap, sym, subst, refl, ◌∙◌, append_assoc, add-one, inl, inr, arith}
+use Rattle.std.proofs.Common.{◌≡◌, ℕ, ◌+◌, ◌*◌, ◌<◌, ◌≤◌, List, [], ◌∷◌, ◌++◌, Option, Some, None, ap, sym, subst, refl}
+use Rattle.std.proofs.Common.{◌∙◌, append_assoc, add-one, inl, inr, arith}
 use Rattle.std.specs.List.{Contains}
 use Rattle.std.proofs.lemmas.Bool.{cases_lt}
 use Rattle.mako_words.specs.Gates.{is_shut}
@@ -15,11 +16,15 @@ use Rattle.mako_model.specs.declared.attempt.Pause.TheVariants.{Shut, Busy, Movi
 use Rattle.mako_alloc.specs.declared.job.Job.{Job}
 use Rattle.mako_alloc.specs.declared.progress.NewRecord.{NewRecord}
 use Rattle.mako_alloc.specs.declared.progress.NewStage.{NewStage}
-use Rattle.mako_alloc.specs.declared.progress.NewStage.TheVariants.{Arriving, TurnedAway, TakingTurn, LoadingLeaving, LoadingTop, LoadingEntry, LoadingHome, Making, GivingTurn, Leaving, Ended}
+use Rattle.mako_alloc.specs.declared.progress.NewStage.TheVariants.{Arriving, TurnedAway, TakingTurn, LoadingLeaving}
+use Rattle.mako_alloc.specs.declared.progress.NewStage.TheVariants.{LoadingTop, LoadingEntry, LoadingHome, Making}
+use Rattle.mako_alloc.specs.declared.progress.NewStage.TheVariants.{GivingTurn, Leaving, Ended}
 use Rattle.mako_alloc.specs.declared.progress.Part.{Part}
 use Rattle.mako_alloc.specs.declared.progress.Part.TheVariants.{Header, Field, Top, Entry}
 use Rattle.mako_alloc.specs.declared.progress.Progress.{Progress}
-use Rattle.mako_alloc.specs.Allocating.{IsKnown, FitsBy, all_tablets, at, noted, first, outcome, passed_on, seeking, entry_fed, field_or_top, part_next, part_fed, IsPartKnown, free_generation, stage_next, stage_fed, tablet_at, record_word}
+use Rattle.mako_alloc.specs.Allocating.{IsKnown, FitsBy, all_tablets, at, noted, first, outcome, passed_on, seeking}
+use Rattle.mako_alloc.specs.Allocating.{entry_fed, field_or_top, part_next, part_fed, IsPartKnown, free_generation}
+use Rattle.mako_alloc.specs.Allocating.{stage_next, stage_fed, tablet_at, record_word}
 use Rattle.mako_alloc.specs.Causes.{IsMaking, null_stores, record_stores, stores}
 use Rattle.mako_alloc.specs.Notes.{IsNote, IsNoNote}
 use Rattle.mako_alloc.specs.Seen.{IsUsed, IsFullTablet, IsSeenUsed, sees}
@@ -28,14 +33,19 @@ use Rattle.mako_alloc.proofs.Bounds.{entry_below, tablet_below}
 use Rattle.mako_alloc.proofs.Frees.{by_entry}
 use Rattle.mako_step.proofs.Along.{did}
 use Rattle.mako_alloc.proofs.Trails.{Keeps}
-use Rattle.mako_alloc.proofs.NoteLaws.{NoteStands, kept, taken_up, sub_is_none, store_is_none, admitted_is_none, turn_is_none, load_is_none}
-use Rattle.mako_alloc.proofs.Evidence.{Evidence, StageShows, EndShows, AllFull, IsSearched, IsFoundFree, stores_before, still, last, still_admitted, still_entered, still_used, still_full, stored, are_stores}
+use Rattle.mako_alloc.proofs.NoteLaws.{NoteStands, kept, taken_up, sub_is_none, store_is_none, admitted_is_none}
+use Rattle.mako_alloc.proofs.NoteLaws.{turn_is_none, load_is_none}
+use Rattle.mako_alloc.proofs.Evidence.{Evidence, StageShows, EndShows, AllFull, IsSearched, IsFoundFree, stores_before}
+use Rattle.mako_alloc.proofs.Evidence.{still, last, still_admitted, still_entered, still_used, still_full, stored}
+use Rattle.mako_alloc.proofs.Evidence.{are_stores}
 
 -- at the same tablet, with a note that is none only where there was none
-goes_on : (job : Job) (before : Progress) (after : Option Reason) (stage : NewStage) (trail : List Observation) (o : Observation) →
+goes_on : (job : Job) (before : Progress) (after : Option Reason) (stage : NewStage) (trail : List Observation)
+    (o : Observation) →
     NoteStands job after (trail ++ o ∷ []) → (after ≡ None → before.note ≡ None) →
     StageShows job (tablet_at job before.passed) after stage (trail ++ o ∷ []) →
-    Evidence job before trail → Evidence job (record { passed = before.passed; note = after; stage = stage }) (trail ++ o ∷ [])
+    Evidence job before trail
+    → Evidence job (record { passed = before.passed; note = after; stage = stage }) (trail ++ o ∷ [])
 goes_on job before after stage trail o notes none shows h = record {
   notes = notes;
   gone = λ e j below. still_full job trail o (tablet_at job j) (h.gone (none e) j below);
@@ -55,12 +65,15 @@ first_is_some None reason e = cc
 first_is_some (Some earlier) reason e = cc
 
 -- with a note
-with_note : (job : Job) (before : Progress) (reason : Reason) (stage : NewStage) (trail : List Observation) (o : Observation) →
+with_note : (job : Job) (before : Progress) (reason : Reason) (stage : NewStage) (trail : List Observation)
+    (o : Observation) →
     IsNote job o reason →
-    ((first before.note reason ≡ None → ⊥) → StageShows job (tablet_at job before.passed) (first before.note reason) stage (trail ++ o ∷ [])) →
+    ((first before.note reason ≡ None → ⊥)
+    → StageShows job (tablet_at job before.passed) (first before.note reason) stage (trail ++ o ∷ [])) →
     Evidence job before trail → Evidence job (noted before reason stage) (trail ++ o ∷ [])
 with_note job before reason stage trail o is_note shows h =
-    goes_on job before (first before.note reason) stage trail o (taken_up job before.note trail o reason is_note h.notes)
+    goes_on job before (first before.note reason) stage trail o
+    (taken_up job before.note trail o reason is_note h.notes)
     (λ e. absurd (first_is_some before.note reason e)) (shows (first_is_some before.note reason)) h
 
 -- one more full tablet
@@ -69,7 +82,8 @@ one_more : (job : Job) (trail : List Observation) (passed : ℕ) → AllFull job
     (j : ℕ) → j < passed + 1 → IsFullTablet job trail (tablet_at job j)
 one_more job trail passed all here j below = elim (cases_lt j passed) [
   | inl earlier ↦ all j earlier
-  | inr past ↦ let same : j ≡ passed = omega arith in subst (λ (k : ℕ). IsFullTablet job trail (tablet_at job k)) (sym same) here
+  | inr past ↦ let same : j ≡ passed = omega arith in
+      subst (λ (k : ℕ). IsFullTablet job trail (tablet_at job k)) (sym same) here
 ]
 
 -- past the last tablet
@@ -86,7 +100,8 @@ passes : (job : Job) (before : Progress) (trail : List Observation) (o : Observa
 passes job before trail o no_note full h =
     let notes : NoteStands job before.note (trail ++ o ∷ []) = kept job before.note trail o no_note h.notes in
     let gone : before.note ≡ None → AllFull job (trail ++ o ∷ []) (before.passed + 1) =
-    λ e j below. still_full job trail o (tablet_at job j) (one_more job trail before.passed (h.gone e) (full e) j below) in
+    λ e j below. still_full job trail o (tablet_at job j)
+    (one_more job trail before.passed (h.gone e) (full e) j below) in
     when_lt
     (λ p. Evidence job p (trail ++ o ∷ []))
     (record { passed = before.passed + 1; note = before.note; stage = Arriving })
@@ -116,7 +131,8 @@ seeks job t before trail kept_top place h = when_lt
 -- one more used entry
 one_more_used : (job : Job) (trail : List Observation) (t place w : ℕ) →
     let o : Observation = sees job.shape (entry (t * job.shape.entries + place)) Load w in
-    IsUsed job.shape w → ((i : ℕ) → i < place → IsSeenUsed job trail t i) → (i : ℕ) → i < place + 1 → IsSeenUsed job (trail ++ o ∷ []) t i
+    IsUsed job.shape w → ((i : ℕ) → i < place → IsSeenUsed job trail t i) → (i : ℕ) → i < place + 1
+    → IsSeenUsed job (trail ++ o ∷ []) t i
 one_more_used job trail t place w used before i below = elim (cases_lt i place) [
   | inl earlier ↦ still_used job trail _ t i (before i earlier)
   | inr past ↦
@@ -173,14 +189,16 @@ home_shows job t trail kept_top name w below h = record {
   room = h.room;
   entered = h.entered;
   top_seen = h.top_seen;
-  splits = ap (λ (xs : List Observation). xs ++ sees job.shape (home t) Load w ∷ []) h.splits ∙ append_assoc h.earlier _ (sees job.shape (home t) Load w ∷ []);
+  splits = ap (λ (xs : List Observation). xs ++ sees job.shape (home t) Load w ∷ []) h.splits
+      ∙ append_assoc h.earlier _ (sees job.shape (home t) Load w ∷ []);
   acts_are = refl;
 }
 
 -- the next field, or the top
 field_shows : (job : Job) (t : ℕ) (before : Option Reason) (trail : List Observation) (made : NewRecord) (i : ℕ) →
     i ≤ job.fields →
-    IsMaking job trail t made (stores_before job t made (Field i)) → StageShows job t before (Making made (field_or_top job i)) trail
+    IsMaking job trail t made (stores_before job t made (Field i))
+    → StageShows job t before (Making made (field_or_top job i)) trail
 field_shows job t before trail made i below h = when_lt
     (λ part. StageShows job t before (Making made part) trail)
     (Field i)
@@ -201,16 +219,20 @@ null_next n made i = subst
     refl
 
 -- a part of the object is stored
-part_shows : (job : Job) (t : ℕ) (before : Option Reason) (trail : List Observation) (made : NewRecord) (part : Part) (w : ℕ) →
+part_shows : (job : Job) (t : ℕ) (before : Option Reason) (trail : List Observation) (made : NewRecord) (part : Part)
+    (w : ℕ) →
     IsPartKnown job part →
     let o : Observation = record { act = did (part_next job t made part); found = w } in
-    IsMaking job trail t made (stores_before job t made part) → StageShows job t before (part_fed job t made part) (trail ++ o ∷ [])
+    IsMaking job trail t made (stores_before job t made part)
+    → StageShows job t before (part_fed job t made part) (trail ++ o ∷ [])
 unfolding null_stores
 part_shows job t before trail made Header w known h =
     field_shows job t before _ made 0 (omega arith) (stored job trail t made _ _ h)
 part_shows job t before trail made (Field i) w known h =
     field_shows job t before _ made (i + 1) (omega (arith, known))
-    (are_stores job _ t made _ _ (ap (λ (xs : List Act). stores (record_word job.shape made 0) job.fields ∷ xs) (null_next job.shape made i)) (stored job trail t made _ _ h))
+    (are_stores job _ t made _ _
+    (ap (λ (xs : List Act). stores (record_word job.shape made 0) job.fields ∷ xs) (null_next job.shape made i))
+    (stored job trail t made _ _ h))
 part_shows job t before trail made Top w known h = stored job trail t made _ _ h
 part_shows job t before trail made Entry w known h = record {
   made = made;
@@ -242,8 +264,10 @@ stage_shows job passed before Arriving w trail known act fits h =
     let p : Progress = record { passed = passed; note = before; stage = Arriving } in
     let o : Observation = sees job.shape (tablet_gate t) (Add 1) w in
     when_test (λ q. Evidence job q (trail ++ o ∷ [])) (noted p (Shut t w) TurnedAway) (at p TakingTurn) (is_shut w)
-    (λ shut. with_note job p (Shut t w) TurnedAway trail o (tablet_below job passed known.numbers, refl, shut) (λ some e. absurd (some e)) h)
-    (λ admits. unnoted job p TakingTurn trail o (admitted_is_none job (tablet_gate t) w admits) (w, admits, last trail o) h)
+    (λ shut. with_note job p (Shut t w) TurnedAway trail o (tablet_below job passed known.numbers, refl, shut)
+    (λ some e. absurd (some e)) h)
+    (λ admits. unnoted job p TakingTurn trail o (admitted_is_none job (tablet_gate t) w admits)
+    (w, admits, last trail o) h)
 stage_shows job passed before TurnedAway w trail known act fits h =
     passes job _ trail _ (sub_is_none job (tablet_gate (tablet_at job passed)) 1 w) h.stage h
 stage_shows job passed before TakingTurn w trail known act fits h =
@@ -253,27 +277,32 @@ stage_shows job passed before TakingTurn w trail known act fits h =
     when_eq (λ q. Evidence job q (trail ++ o ∷ [])) (at p LoadingLeaving) (noted p (Busy t w) Leaving) w 0
     (λ free. unnoted job p LoadingLeaving trail o (turn_is_none job (turn t) w free) (
       still_admitted job trail o t h.stage,
-      subst (λ (v : ℕ). Contains (trail ++ o ∷ []) (sees job.shape (turn t) (Exchange 0 (job.mutator + 1)) v)) free (last trail o),
+      subst (λ (v : ℕ). Contains (trail ++ o ∷ []) (sees job.shape (turn t) (Exchange 0 (job.mutator + 1)) v)) free
+          (last trail o),
     ) h)
-    (λ held. with_note job p (Busy t w) Leaving trail o (tablet_below job passed known.numbers, refl, held) (λ some e. absurd (some e)) h)
+    (λ held. with_note job p (Busy t w) Leaving trail o (tablet_below job passed known.numbers, refl, held)
+    (λ some e. absurd (some e)) h)
 stage_shows job passed before LoadingLeaving w trail known act fits h =
     let t : ℕ = tablet_at job passed in
     let p : Progress = record { passed = passed; note = before; stage = LoadingLeaving } in
     let o : Observation = sees job.shape (leaving t) Load w in
     when_eq (λ q. Evidence job q (trail ++ o ∷ [])) (at p LoadingTop) (noted p (Moving t w) GivingTurn) w 0
-    (λ none. unnoted job p LoadingTop trail o (load_is_none job (leaving t) w (tablet_below job passed known.numbers) (λ u e. none))
+    (λ none. unnoted job p LoadingTop trail o
+    (load_is_none job (leaving t) w (tablet_below job passed known.numbers) (λ u e. none))
     (record {
       admitted = still_admitted job trail o t h.stage.0;
       turn_taken = still trail o _ h.stage.1;
       stays = subst (λ (v : ℕ). Contains (trail ++ o ∷ []) (sees job.shape (leaving t) Load v)) none (last trail o);
     }) h)
-    (λ some_region. with_note job p (Moving t w) GivingTurn trail o (tablet_below job passed known.numbers, refl, some_region) (λ some e. absurd (some e)) h)
+    (λ some_region. with_note job p (Moving t w) GivingTurn trail o
+    (tablet_below job passed known.numbers, refl, some_region) (λ some e. absurd (some e)) h)
 stage_shows job passed before LoadingTop w trail known act fits h =
     let t : ℕ = tablet_at job passed in
     let p : Progress = record { passed = passed; note = before; stage = LoadingTop } in
     let o : Observation = sees job.shape (top t) Load w in
     unnoted job p _ trail o (load_is_none job (top t) w (tablet_below job passed known.numbers) (λ u e. cc))
-    (when_le (λ s. StageShows job t before s (trail ++ o ∷ [])) (seeking job w 0) GivingTurn (w + job.fields + 1) job.shape.words
+    (when_le (λ s. StageShows job t before s (trail ++ o ∷ [])) (seeking job w 0) GivingTurn
+    (w + job.fields + 1) job.shape.words
     (λ room. seeks job t before (trail ++ o ∷ []) w 0 (record {
       entered = still_entered job trail o t h.stage;
       room = room;
@@ -286,7 +315,8 @@ stage_shows job passed before (LoadingEntry kept_top place) w trail known act fi
     let p : Progress = record { passed = passed; note = before; stage = LoadingEntry kept_top place } in
     let x : ℕ = t * job.shape.entries + place in
     unnoted job p _ trail (sees job.shape (entry x) Load w)
-    (load_is_none job (entry x) w (entry_below job.shape t place (tablet_below job passed known.numbers) known.stage.1) (λ u e. cc))
+    (load_is_none job (entry x) w (entry_below job.shape t place (tablet_below job passed known.numbers) known.stage.1)
+    (λ u e. cc))
     (entry_shows job t before trail kept_top place w known.stage.1 h.stage) h
 stage_shows job passed before (LoadingHome kept_top name) w trail known act fits h =
     let t : ℕ = tablet_at job passed in

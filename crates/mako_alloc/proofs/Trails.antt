@@ -19,7 +19,8 @@ Keeps P =
     P l trail → P (fed l w) (longer l trail w)
 
 -- what holds at the end of a trail
-pub record Along (P : Allocation → List Observation → Type 0) (m : Allocation) (trail : List Observation) (l : Allocation) : Type 0 where
+pub record Along (P : Allocation → List Observation
+    → Type 0) (m : Allocation) (trail : List Observation) (l : Allocation) : Type 0 where
   pub known : IsKnown l.job l.progress
   pub same : l.job ≡ m.job
   pub holds : P l trail
@@ -32,6 +33,11 @@ along P m trail l goes known keeps start =
     record {
       known = (step_goes_on k.job k.progress w rest.known fits acts).0;
       same = rest.same;
-      holds = subst (λ (a : Act). P (fed k w) (before ++ record { act = a; found = w } ∷ [])) (ap did next) (keeps k before w rest.known acts fits rest.holds);
+      holds = subst (λ (a : Act). P (fed k w) (before ++ record { act = a; found = w } ∷ [])) (ap did next)
+          (keeps k before w rest.known acts fits rest.holds);
     }) in
-    machine.along next_of Fits fed (λ k before. Along P m before k) one m l trail (record { known = known; same = refl; holds = start }) goes
+    machine.along next_of Fits fed (λ k before. Along P m before k) one m l trail (record {
+      known = known;
+      same = refl;
+      holds = start;
+    }) goes

@@ -45,8 +45,11 @@ only_tablet t h = omega (arith, h)
 pub stands_with_its_turn : StandsBy job.shape making (with_turn 0)
 unfolding index
 stands_with_its_turn = record {
-  gates = λ t h. subst (λ (u : ℕ). arrivals job.shape u making ≡ leaves job.shape u making + arrived u (with_turn 0)) (only_tablet t h) refl;
-  turns = λ t h. subst (λ (u : ℕ). turns_taken job.shape u making ≡ turns_given job.shape u making + holds_turn u (with_turn 0)) (only_tablet t h) refl;
+  gates = λ t h. subst (λ (u : ℕ). arrivals job.shape u making ≡ leaves job.shape u making + arrived u (with_turn 0))
+      (only_tablet t h) refl;
+  turns = λ t h. subst
+      (λ (u : ℕ). turns_taken job.shape u making ≡ turns_given job.shape u making + holds_turn u (with_turn 0))
+      (only_tablet t h) refl;
 }
 
 pub is_noted : IsFirstNote job shut_out found_shut

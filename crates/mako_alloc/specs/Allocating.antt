@@ -1,5 +1,6 @@
 -- The machine of `new`.
-use Rattle.std.specs.Prelude.{ℕ, ◌+◌, ◌*◌, ◌-◌, ◌%◌, ◌<◌, ◌≤◌, ◌==◌, ◌&&◌, not, true, nat_lt, nat_le, Option, Some, None, if◌then◌else◌}
+use Rattle.std.specs.Prelude.{ℕ, ◌+◌, ◌*◌, ◌-◌, ◌%◌, ◌<◌, ◌≤◌, ◌==◌, ◌&&◌, not, true, nat_lt, nat_le, Option, Some}
+use Rattle.std.specs.Prelude.{None, if◌then◌else◌}
 use Rattle.mako_words.specs.Entries.{entry_word, entry_at}
 use Rattle.mako_words.specs.Gates.{IsPackedGate, is_shut}
 use Rattle.mako_words.specs.declared.name.Name.{Name}
@@ -17,7 +18,9 @@ use Rattle.mako_alloc.specs.declared.found.Found.TheVariants.{Made, Full, Pause}
 use Rattle.mako_alloc.specs.declared.job.Job.{Job}
 use Rattle.mako_alloc.specs.declared.progress.NewRecord.{NewRecord}
 use Rattle.mako_alloc.specs.declared.progress.NewStage.{NewStage}
-use Rattle.mako_alloc.specs.declared.progress.NewStage.TheVariants.{Arriving, TurnedAway, TakingTurn, LoadingLeaving, LoadingTop, LoadingEntry, LoadingHome, Making, GivingTurn, Leaving, Ended}
+use Rattle.mako_alloc.specs.declared.progress.NewStage.TheVariants.{Arriving, TurnedAway, TakingTurn, LoadingLeaving}
+use Rattle.mako_alloc.specs.declared.progress.NewStage.TheVariants.{LoadingTop, LoadingEntry, LoadingHome, Making}
+use Rattle.mako_alloc.specs.declared.progress.NewStage.TheVariants.{GivingTurn, Leaving, Ended}
 use Rattle.mako_alloc.specs.declared.progress.Part.{Part}
 use Rattle.mako_alloc.specs.declared.progress.Part.TheVariants.{Header, Field, Top, Entry}
 use Rattle.mako_alloc.specs.declared.progress.Progress.{Progress}

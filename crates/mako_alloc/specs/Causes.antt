@@ -12,7 +12,8 @@ use Rattle.mako_alloc.specs.declared.found.Found.TheVariants.{Made, Full, Pause}
 use Rattle.mako_alloc.specs.declared.job.Job.{Job}
 use Rattle.mako_alloc.specs.declared.progress.NewRecord.{NewRecord}
 use Rattle.mako_alloc.specs.declared.progress.NewStage.TheVariants.{Ended}
-use Rattle.mako_alloc.specs.Allocating.{Allocation, IsJob, HasRoom, Fits, all_tablets, fed, free_generation, next_of, opening, tablet_at, published, record_word, rank}
+use Rattle.mako_alloc.specs.Allocating.{Allocation, IsJob, HasRoom, Fits, all_tablets, fed, free_generation, next_of}
+use Rattle.mako_alloc.specs.Allocating.{opening, tablet_at, published, record_word, rank}
 use Rattle.mako_alloc.specs.Notes.{IsNoNote, IsFirstNote}
 use Rattle.mako_alloc.specs.Seen.{IsEntered, IsFree, IsUsed, IsFullTablet, sees}
 
@@ -88,7 +89,8 @@ PassedAreFull = (job : Job) (trail : List Observation) (l : Allocation) → IsJo
 -- what the search for a free entry takes a word for is what its entry is
 pub record EntriesTell : Type 0 where
   pub used : (n : Numbers) (w : ℕ) → free_generation n.generations w ≡ None → IsUsed n w
-  pub free : (n : Numbers) (w generation : ℕ) → free_generation n.generations w ≡ Some generation → IsFree n w generation
+  pub free : (n : Numbers) (w generation : ℕ) → free_generation n.generations w ≡ Some generation
+      → IsFree n w generation
 
 -- from the beginning it takes few steps
 abbrev pub RankIsSmall : Type 0

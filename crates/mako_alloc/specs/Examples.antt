@@ -32,7 +32,8 @@ job = record {
 abbrev pub saw : ℕ → Op → ℕ → Observation
 saw word op found = record { act = record { word = word; op = op }; found = found }
 
--- The gate is word 10, the turn 11, the home 12, the top 13, what is left 14 and the entry 16. Region 1 begins at word 33.
+-- The gate is word 10, the turn 11, the home 12, the top 13, what is left 14 and the entry 16. Region 1 begins at word
+-- 33.
 -- The entry is free and had one object; two words of region 1 are used.
 abbrev pub making : List Observation
 making =

@@ -40,7 +40,8 @@ pub record IsEntered (job : Job) (trail : List Observation) (t : ℕ) : Type 0 w
 
 -- no record of so many fields fitted over the tablet's top
 abbrev pub HasNoRoom : Job → List Observation → ℕ → Type 0
-HasNoRoom job trail t = (w : ℕ) × (job.shape.words < w + job.fields + 1) × Contains trail (sees job.shape (top t) Load w)
+HasNoRoom job trail t = (w : ℕ) × (job.shape.words < w + job.fields + 1)
+    × Contains trail (sees job.shape (top t) Load w)
 
 -- the entry at this place of the tablet was used
 abbrev pub IsSeenUsed : Job → List Observation → ℕ → ℕ → Type 0

@@ -11,7 +11,9 @@ use Rattle.mako_alloc.specs.declared.found.Found.{Found}
 use Rattle.mako_alloc.specs.declared.found.Found.TheVariants.{Made}
 use Rattle.mako_alloc.specs.declared.job.Job.{Job}
 use Rattle.mako_alloc.specs.declared.progress.NewStage.{NewStage}
-use Rattle.mako_alloc.specs.declared.progress.NewStage.TheVariants.{Arriving, TurnedAway, TakingTurn, LoadingLeaving, LoadingTop, LoadingEntry, LoadingHome, Making, GivingTurn, Leaving, Ended}
+use Rattle.mako_alloc.specs.declared.progress.NewStage.TheVariants.{Arriving, TurnedAway, TakingTurn, LoadingLeaving}
+use Rattle.mako_alloc.specs.declared.progress.NewStage.TheVariants.{LoadingTop, LoadingEntry, LoadingHome, Making}
+use Rattle.mako_alloc.specs.declared.progress.NewStage.TheVariants.{GivingTurn, Leaving, Ended}
 use Rattle.mako_alloc.specs.Allocating.{Allocation, IsJob, Fits, all_tablets, tablet_at, fed, next_of, opening}
 
 abbrev pub end_standing : Found → Standing

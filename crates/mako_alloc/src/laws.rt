@@ -1,4 +1,5 @@
-//! Laws of the machine of `new`, over whole trails. The functions do nothing; what they ensure is for contracts and proofs.
+//! Laws of the machine of `new`, over whole trails. The functions do nothing; what they ensure is for contracts and
+//! proofs.
 
 ghost use Rattle.mako_alloc.specs.Causes.{EntriesTell, PassedAreFull, RankIsSmall, ResultsAreCaused};
 ghost use Rattle.mako_alloc.specs.Standings.{StandsAsShown, EndsAsShown};

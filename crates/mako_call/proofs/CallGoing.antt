@@ -7,35 +7,50 @@ use Rattle.mako_model.specs.declared.call.Call.{Call}
 use Rattle.mako_model.specs.declared.call.Call.TheVariants.{New, Num, CopyRoot, DropRoot, Get, Put, Show, Collect}
 use Rattle.mako_call.specs.declared.caller.Caller.{Caller}
 use Rattle.mako_call.specs.declared.call_stage.CallStage.{CallStage}
-use Rattle.mako_call.specs.declared.call_stage.CallStage.TheVariants.{Arriving, Rooting, Entering, Moving, Getting, Putting, Allocating, Asking, Leaving, Ended}
+use Rattle.mako_call.specs.declared.call_stage.CallStage.TheVariants.{Arriving, Rooting, Entering, Moving, Getting}
+use Rattle.mako_call.specs.declared.call_stage.CallStage.TheVariants.{Putting, Allocating, Asking, Leaving, Ended}
 use Rattle.mako_call.specs.declared.allocating.AllocStage.{AllocStage}
 use Rattle.mako_call.specs.declared.putting.PutStage.{PutStage}
-use Rattle.mako_call.specs.declared.putting.PutStage.TheVariants.{LoadingHeader, LoadingOld, LookingAtBarrier, StoringBarrier, StoringField}
+use Rattle.mako_call.specs.declared.putting.PutStage.TheVariants.{LoadingHeader, LoadingOld, LookingAtBarrier}
+use Rattle.mako_call.specs.declared.putting.PutStage.TheVariants.{StoringBarrier, StoringField}
 use Rattle.mako_call.specs.Callers.{IsCaller, CallFits}
 use Rattle.mako_call.specs.Agreeing.{Arrives, AllocStageOf, StageOf}
 use Rattle.mako_call.specs.Allocating.{new_fed, new_rank, NewFits, NewIsKnown}
 use Rattle.mako_call.specs.Putting.{next_slot, slot_fed}
-use Rattle.mako_call.specs.Calls.{Calling, stage_next, next_of, admitted, arrived, stage_fed, slot_after, fed, StageFits, Fits, stage_rank, rank, StageIsKnown, IsKnown}
+use Rattle.mako_call.specs.Calls.{Calling, stage_next, next_of, admitted, arrived, stage_fed, slot_after, fed}
+use Rattle.mako_call.specs.Calls.{StageFits, Fits, stage_rank, rank, StageIsKnown, IsKnown}
 use Rattle.mako_call.proofs.Going.{GoesOn, one_more}
-use Rattle.mako_call.proofs.GroupGoing.{root_goes, enter_goes, move_goes, get_goes, put_goes, new_goes, ask_goes, leave_goes}
+use Rattle.mako_call.proofs.GroupGoing.{root_goes, enter_goes, move_goes, get_goes, put_goes, new_goes, ask_goes}
+use Rattle.mako_call.proofs.GroupGoing.{leave_goes}
 
 -- a call that is admitted
-admitted_goes : (k : Caller) (call : Call) → CallFits k.shape call → Arrives call → GoesOn k call (stage_rank k.shape Arriving) (admitted call)
+admitted_goes : (k : Caller) (call : Call) → CallFits k.shape call → Arrives call
+    → GoesOn k call (stage_rank k.shape Arriving) (admitted call)
 admitted_goes k (New root fields) fits arrives = record { known = fits; agrees = (refl, refl); lower = omega arith }
 admitted_goes k (Num root number) fits arrives = record { known = fits; agrees = (refl, refl); lower = omega arith }
 admitted_goes k (CopyRoot to from) fits arrives = record { known = fits; agrees = (refl, refl); lower = omega arith }
 admitted_goes k (DropRoot root) fits arrives = record { known = fits; agrees = refl; lower = omega arith }
-admitted_goes k (Get to from field) fits arrives = record { known = fits; agrees = (refl, refl, refl); lower = omega arith }
-admitted_goes k (Put to field from) fits arrives = record { known = fits; agrees = (refl, refl, refl); lower = omega arith }
+admitted_goes k (Get to from field) fits arrives = record {
+  known = fits;
+  agrees = (refl, refl, refl);
+  lower = omega arith;
+}
+admitted_goes k (Put to field from) fits arrives = record {
+  known = fits;
+  agrees = (refl, refl, refl);
+  lower = omega arith;
+}
 admitted_goes k (Show root) fits arrives = record { known = fits; agrees = refl; lower = omega arith }
 admitted_goes k Collect fits arrives = absurd arrives
 
-arrives_goes : (k : Caller) (call : Call) (w : ℕ) (shut : Bool) → CallFits k.shape call → Arrives call → GoesOn k call (stage_rank k.shape Arriving) (arrived call w shut)
+arrives_goes : (k : Caller) (call : Call) (w : ℕ) (shut : Bool) → CallFits k.shape call → Arrives call
+    → GoesOn k call (stage_rank k.shape Arriving) (arrived call w shut)
 arrives_goes k call w true fits arrives = record { known = tt; agrees = arrives; lower = omega arith }
 arrives_goes k call w false fits arrives = admitted_goes k call fits arrives
 
 -- a new at its stages
-alloc_goes : (k : Caller) (call : Call) (s : AllocStage) (w : ℕ) → IsCaller k → NewIsKnown k s → AllocStageOf call s → NewFits k.shape s w → GoesOn k call (new_rank k.shape s) (new_fed k s w)
+alloc_goes : (k : Caller) (call : Call) (s : AllocStage) (w : ℕ) → IsCaller k → NewIsKnown k s → AllocStageOf call s
+    → NewFits k.shape s w → GoesOn k call (new_rank k.shape s) (new_fed k s w)
 alloc_goes k (New root fields) s w caller known agrees fits = new_goes k root fields s w caller known agrees fits
 alloc_goes k (Num root number) s w caller known agrees fits = absurd agrees
 alloc_goes k (CopyRoot to from) s w caller known agrees fits = absurd agrees
@@ -45,25 +60,36 @@ alloc_goes k (Put to field from) s w caller known agrees fits = absurd agrees
 alloc_goes k (Show root) s w caller known agrees fits = absurd agrees
 alloc_goes k Collect s w caller known agrees fits = absurd agrees
 
-stage_goes : (k : Caller) (call : Call) (last : Bool) (slot : ℕ) (s : CallStage) (w : ℕ) → IsCaller k → CallFits k.shape call → StageIsKnown k s → StageOf k.shape call s → StageFits k.shape s w →
+stage_goes : (k : Caller) (call : Call) (last : Bool) (slot : ℕ) (s : CallStage) (w : ℕ) → IsCaller k
+    → CallFits k.shape call → StageIsKnown k s → StageOf k.shape call s → StageFits k.shape s w →
     IsAct (stage_next k slot s) → GoesOn k call (stage_rank k.shape s) (stage_fed k call last slot s w)
-stage_goes k call last slot Arriving w caller small known agrees fits acts = arrives_goes k call w (is_shut w) small agrees
+stage_goes k call last slot Arriving w caller small known agrees fits acts =
+    arrives_goes k call w (is_shut w) small agrees
 stage_goes k call last slot (Rooting s) w caller small known agrees fits acts = root_goes k call s w known agrees fits
-stage_goes k call last slot (Entering e s) w caller small known agrees fits acts = enter_goes k call e s w known.0 known.1 agrees fits
-stage_goes k call last slot (Moving e s) w caller small known agrees fits acts = move_goes k call e s w caller known.0 known.1 agrees fits
-stage_goes k call last slot (Getting at get s) w caller small known agrees fits acts = get_goes k call at get s w known.0 known.1 agrees fits
-stage_goes k call last slot (Putting at put s) w caller small known agrees fits acts = put_goes k call slot at put s w known.0 known.1 agrees fits
-stage_goes k call last slot (Allocating s) w caller small known agrees fits acts = alloc_goes k call s w caller known agrees fits
+stage_goes k call last slot (Entering e s) w caller small known agrees fits acts =
+    enter_goes k call e s w known.0 known.1 agrees fits
+stage_goes k call last slot (Moving e s) w caller small known agrees fits acts =
+    move_goes k call e s w caller known.0 known.1 agrees fits
+stage_goes k call last slot (Getting at get s) w caller small known agrees fits acts =
+    get_goes k call at get s w known.0 known.1 agrees fits
+stage_goes k call last slot (Putting at put s) w caller small known agrees fits acts =
+    put_goes k call slot at put s w known.0 known.1 agrees fits
+stage_goes k call last slot (Allocating s) w caller small known agrees fits acts =
+    alloc_goes k call s w caller known agrees fits
 stage_goes k call last slot (Asking s) w caller small known agrees fits acts = ask_goes k call s w known agrees fits
 stage_goes k call last slot (Leaving s) w caller small known agrees fits acts = leave_goes k call last s known agrees
 stage_goes k call last slot (Ended outcome) w caller small known agrees fits acts = absurd acts
 
-pub call_goes : (v : Calling) (w : ℕ) → IsKnown v → Fits v w → IsAct (next_of v) → GoesOn v.caller v.call (rank v) (fed v w).stage
-call_goes v w known fits acts = stage_goes v.caller v.call v.last v.slot v.stage w known.caller known.call known.stage known.agrees fits acts
+pub call_goes : (v : Calling) (w : ℕ) → IsKnown v → Fits v w → IsAct (next_of v)
+    → GoesOn v.caller v.call (rank v) (fed v w).stage
+call_goes v w known fits acts =
+    stage_goes v.caller v.call v.last v.slot v.stage w known.caller known.call known.stage known.agrees fits acts
 
 -- a slot stays one of the ring
 next_slot_below : (size slot : ℕ) → slot < size → next_slot size slot < size
-next_slot_below size slot h = by_eq (λ b. (if b then 0 else slot + 1) < size) (slot + 1) size (λ _. omega (arith, h)) (λ d. one_more slot size h d)
+next_slot_below size slot h =
+    by_eq (λ b. (if b then 0 else slot + 1) < size) (slot + 1) size (λ _. omega (arith, h))
+    (λ d. one_more slot size h d)
 
 slot_below : (size slot : ℕ) (s : PutStage) → slot < size → slot_fed size slot s < size
 slot_below size slot LoadingHeader h = h
@@ -95,12 +121,27 @@ call_known v w known fits acts = let on = call_goes v w known fits acts in recor
 }
 
 -- what the code puts together is the attempt after the step
-pub put_together : (o v : Calling) (w slot : ℕ) (stage : CallStage) → o ≡ v → slot ≡ slot_after v.caller.shape v.slot v.stage → stage ≡ stage_fed o.caller o.call o.last o.slot o.stage w →
+pub put_together : (o v : Calling) (w slot : ℕ) (stage : CallStage) → o ≡ v
+    → slot ≡ slot_after v.caller.shape v.slot v.stage → stage ≡ stage_fed o.caller o.call o.last o.slot o.stage w →
     record { caller = o.caller; call = o.call; last = o.last; slot = slot; stage = stage } ≡ fed v w
 put_together o v w slot stage same slot_is stage_at =
     let Stands : Calling → Type 0 = λ q. stage ≡ stage_fed q.caller q.call q.last q.slot q.stage w in
     let stage_is : stage ≡ stage_fed v.caller v.call v.last v.slot v.stage w = subst Stands same stage_at in
-    let of_old : Calling → Calling = λ q. record { caller = q.caller; call = q.call; last = q.last; slot = slot; stage = stage } in
-    let of_slot : ℕ → Calling = λ q. record { caller = v.caller; call = v.call; last = v.last; slot = q; stage = stage } in
-    let of_stage : CallStage → Calling = λ q. record { caller = v.caller; call = v.call; last = v.last; slot = slot_after v.caller.shape v.slot v.stage; stage = q } in
+    let of_old : Calling
+    → Calling = λ q. record { caller = q.caller; call = q.call; last = q.last; slot = slot; stage = stage } in
+    let of_slot : ℕ → Calling = λ q. record {
+      caller = v.caller;
+      call = v.call;
+      last = v.last;
+      slot = q;
+      stage = stage;
+    } in
+    let of_stage : CallStage
+    → Calling = λ q. record {
+      caller = v.caller;
+      call = v.call;
+      last = v.last;
+      slot = slot_after v.caller.shape v.slot v.stage;
+      stage = q;
+    } in
     ap of_old same ∙ (ap of_slot slot_is ∙ ap of_stage stage_is)

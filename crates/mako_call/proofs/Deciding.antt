@@ -7,20 +7,24 @@ use Rattle.mako_model.specs.declared.attempt.Attempt.{Attempt}
 use Rattle.mako_model.specs.declared.attempt.Attempt.TheVariants.{Answer, Full, Pause as Paused}
 use Rattle.mako_call.specs.declared.caller.Caller.{Caller}
 use Rattle.mako_call.specs.declared.call_stage.CallStage.{CallStage}
-use Rattle.mako_call.specs.declared.call_stage.CallStage.TheVariants.{Arriving, Rooting, Entering, Moving, Getting, Putting, Allocating, Asking, Leaving, Ended}
-use Rattle.mako_call.specs.declared.getting.GetStage.TheVariants.{LoadingHeader, LoadingField, StoringRoot as StoringGot}
+use Rattle.mako_call.specs.declared.call_stage.CallStage.TheVariants.{Arriving, Rooting, Entering, Moving, Getting}
+use Rattle.mako_call.specs.declared.call_stage.CallStage.TheVariants.{Putting, Allocating, Asking, Leaving, Ended}
+use Rattle.mako_call.specs.declared.getting.GetStage.TheVariants.{LoadingHeader, LoadingField}
+use Rattle.mako_call.specs.declared.getting.GetStage.TheVariants.{StoringRoot as StoringGot}
 use Rattle.mako_call.specs.declared.allocating.AllocStage.TheVariants.{LoadingPhase, Searching, StoringRoot, GivingTurn}
 use Rattle.mako_call.specs.declared.leaving.LeaveStage.TheVariants.{Refused, TurnedAway, FromTablet, FromOwn}
 use Rattle.mako_call.specs.Leaving.{outcome_of}
 use Rattle.mako_call.specs.Calls.{Calling, stage_fed, fed, reply_of, decided, outcome_in}
 
-outcome_stays : (last : Bool) (outcome : Attempt) (r : Reply) → reply_of outcome ≡ Some r → reply_of (outcome_of last outcome) ≡ Some r
+outcome_stays : (last : Bool) (outcome : Attempt) (r : Reply) → reply_of outcome ≡ Some r
+    → reply_of (outcome_of last outcome) ≡ Some r
 outcome_stays true (Answer reply) r is = is
 outcome_stays false (Answer reply) r is = is
 outcome_stays last Full r is = absurd (none-some r is)
 outcome_stays last (Paused pause) r is = absurd (none-some r is)
 
-stage_stays : (k : Caller) (call : Call) (last : Bool) (slot : ℕ) (s : CallStage) (w : ℕ) (r : Reply) → decided s ≡ Some r → decided (stage_fed k call last slot s w) ≡ Some r
+stage_stays : (k : Caller) (call : Call) (last : Bool) (slot : ℕ) (s : CallStage) (w : ℕ) (r : Reply)
+    → decided s ≡ Some r → decided (stage_fed k call last slot s w) ≡ Some r
 stage_stays k call last slot Arriving w r is = absurd (none-some r is)
 stage_stays k call last slot (Rooting s) w r is = absurd (none-some r is)
 stage_stays k call last slot (Entering e s) w r is = absurd (none-some r is)

@@ -7,11 +7,13 @@ use Rattle.mako_words.specs.declared.phase_word.PhaseWord.{PhaseWord}
 use Rattle.mako_step.specs.Trails.{Observation, Goes}
 use Rattle.mako_model.specs.declared.call.Call.{Call}
 use Rattle.mako_model.specs.declared.reply.Reply.{Reply}
-use Rattle.mako_model.specs.declared.reply.Reply.TheVariants.{Made, Full as NoRoom, Value as Told, Done, NoRef, NoField, Cycle, Spent}
+use Rattle.mako_model.specs.declared.reply.Reply.TheVariants.{Made, Full as NoRoom, Value as Told, Done, NoRef, NoField}
+use Rattle.mako_model.specs.declared.reply.Reply.TheVariants.{Cycle, Spent}
 use Rattle.mako_model.specs.declared.attempt.Attempt.{Attempt}
 use Rattle.mako_model.specs.declared.attempt.Attempt.TheVariants.{Answer, Full, Pause as Paused}
 use Rattle.mako_model.specs.declared.attempt.Pause.{Pause}
-use Rattle.mako_model.specs.declared.attempt.Pause.TheVariants.{Stopped, Shut, Busy, Moving as BeingMoved, Barrier, Cycle as NotYet}
+use Rattle.mako_model.specs.declared.attempt.Pause.TheVariants.{Stopped, Shut, Busy, Moving as BeingMoved, Barrier}
+use Rattle.mako_model.specs.declared.attempt.Pause.TheVariants.{Cycle as NotYet}
 use Rattle.mako_alloc.specs.Allocating as allocating
 use Rattle.mako_alloc.specs.Allocating.{Allocation}
 use Rattle.mako_alloc.specs.declared.job.Job.{Job}
@@ -21,14 +23,18 @@ use Rattle.mako_call.specs.declared.object.Access.{Access}
 use Rattle.mako_call.specs.declared.object.Access.TheVariants.{Get as Gets, Put as Puts}
 use Rattle.mako_call.specs.declared.object.Located.{Located}
 use Rattle.mako_call.specs.declared.call_stage.CallStage.{CallStage}
-use Rattle.mako_call.specs.declared.call_stage.CallStage.TheVariants.{Arriving, Rooting, Entering, Moving, Getting, Putting, Allocating, Asking, Leaving, Ended}
+use Rattle.mako_call.specs.declared.call_stage.CallStage.TheVariants.{Arriving, Rooting, Entering, Moving, Getting}
+use Rattle.mako_call.specs.declared.call_stage.CallStage.TheVariants.{Putting, Allocating, Asking, Leaving, Ended}
 use Rattle.mako_call.specs.declared.putting.PutStage.{PutStage}
-use Rattle.mako_call.specs.declared.putting.PutStage.TheVariants.{LoadingHeader, LoadingOld, LookingAtBarrier, StoringBarrier, StoringField}
+use Rattle.mako_call.specs.declared.putting.PutStage.TheVariants.{LoadingHeader, LoadingOld, LookingAtBarrier}
+use Rattle.mako_call.specs.declared.putting.PutStage.TheVariants.{StoringBarrier, StoringField}
 use Rattle.mako_call.specs.declared.allocating.AllocStage.{AllocStage}
-use Rattle.mako_call.specs.declared.allocating.AllocStage.TheVariants.{LoadingPhase as NewPhase, Searching, StoringRoot, GivingTurn}
+use Rattle.mako_call.specs.declared.allocating.AllocStage.TheVariants.{LoadingPhase as NewPhase, Searching, StoringRoot}
+use Rattle.mako_call.specs.declared.allocating.AllocStage.TheVariants.{GivingTurn}
 use Rattle.mako_call.specs.declared.leaving.LeaveStage.{LeaveStage}
 use Rattle.mako_call.specs.declared.leaving.LeaveStage.TheVariants.{Refused, TurnedAway, FromTablet, FromOwn}
-use Rattle.mako_call.specs.Causes.{IsStopped, Searched, IsTurnedAway, IsTrace, IsPhaseSeen, IsNameSeen, PauseIsCaused, AnswerIsCaused, OutcomeIsCaused}
+use Rattle.mako_call.specs.Causes.{IsStopped, Searched, IsTurnedAway, IsTrace, IsPhaseSeen, IsNameSeen, PauseIsCaused}
+use Rattle.mako_call.specs.Causes.{AnswerIsCaused, OutcomeIsCaused}
 
 abbrev pub AccessShows : Caller → List Observation → Access → Type 0
 AccessShows k trail (Gets get) = Unit {0}
@@ -37,7 +43,8 @@ AccessShows k trail (Puts put) = IsPhaseSeen k trail put.phase
 abbrev pub PutShows : Caller → List Observation → Located → PutArgs → PutStage → Type 0
 PutShows k trail at put LoadingHeader = IsPhaseSeen k trail put.phase
 PutShows k trail at put LoadingOld = IsPhaseSeen k trail put.phase × IsTrace put.phase
-PutShows k trail at put (LookingAtBarrier old) = IsPhaseSeen k trail put.phase × IsTrace put.phase × IsNameSeen trail at.address put.field old
+PutShows k trail at put (LookingAtBarrier old) = IsPhaseSeen k trail put.phase × IsTrace put.phase
+    × IsNameSeen trail at.address put.field old
 PutShows k trail at put (StoringBarrier old) = Unit {0}
 PutShows k trail at put StoringField = Unit {0}
 
@@ -48,7 +55,8 @@ pub record IsSearching (k : Caller) (fields : ℕ) (trail : List Observation) (s
   pub earlier : List Observation
   pub part : List Observation
   pub splits : trail ≡ earlier ++ part
-  pub goes : Goes allocating.next_of allocating.Fits allocating.fed (allocating.opening (record { shape = k.shape; mutator = k.mutator; fields = fields; cycle = cycle })) part search
+  pub goes : Goes allocating.next_of allocating.Fits allocating.fed
+      (allocating.opening (record { shape = k.shape; mutator = k.mutator; fields = fields; cycle = cycle })) part search
 
 abbrev pub AllocShows : Caller → List Observation → AllocStage → Type 0
 AllocShows k trail (NewPhase root fields) = Unit {0}
@@ -82,7 +90,8 @@ module _ (trail : List Observation) (o : Observation) where
   pub newest : Contains (trail ++ o ∷ []) o
   newest = Contains-append_right trail (o ∷ []) o (0, omega arith, refl)
 
-  pub still_searched : (k : Caller) (call : Call) (Shows : Job → List Observation → Type 0) → Searched k call trail Shows → Searched k call (trail ++ o ∷ []) Shows
+  pub still_searched : (k : Caller) (call : Call) (Shows : Job → List Observation → Type 0)
+      → Searched k call trail Shows → Searched k call (trail ++ o ∷ []) Shows
   still_searched k call Shows h = record {
     root = h.root;
     fields = h.fields;
@@ -91,26 +100,38 @@ module _ (trail : List Observation) (o : Observation) where
     earlier = h.earlier;
     search = h.search;
     later = h.later ++ o ∷ [];
-    splits = ap (λ t. t ++ o ∷ []) h.splits ∙ append_assoc h.earlier (h.search ++ h.later) (o ∷ []) ∙ ap (λ t. h.earlier ++ t) (append_assoc h.search h.later (o ∷ []));
+    splits = ap (λ t. t ++ o ∷ []) h.splits ∙ append_assoc h.earlier (h.search ++ h.later) (o ∷ [])
+        ∙ ap (λ t. h.earlier ++ t) (append_assoc h.search h.later (o ∷ []));
     shows = h.shows;
   }
 
   pub still_phase : (k : Caller) (p : PhaseWord) → IsPhaseSeen k trail p → IsPhaseSeen k (trail ++ o ∷ []) p
   still_phase k p h = record { word = h.word; seen = still _ h.seen; is = h.is }
 
-  pub still_name : (address field : ℕ) (name : Name) → IsNameSeen trail address field name → IsNameSeen (trail ++ o ∷ []) address field name
+  pub still_name : (address field : ℕ) (name : Name) → IsNameSeen trail address field name
+      → IsNameSeen (trail ++ o ∷ []) address field name
   still_name address field name h = record { word = h.word; seen = still _ h.seen; is = h.is }
 
   pub still_stopped : (k : Caller) (w : ℕ) → IsStopped k trail w → IsStopped k (trail ++ o ∷ []) w
   still_stopped k w h = record { later = h.later ++ o ∷ []; first = ap (λ t. t ++ o ∷ []) h.first; shut = h.shut }
 
-  pub still_turned_away : (k : Caller) (call : Call) (t w : ℕ) → IsTurnedAway k call trail t w → IsTurnedAway k call (trail ++ o ∷ []) t w
-  still_turned_away k call t w h = record { seen = still _ h.seen; shut = h.shut; first = λ is. still_searched k call _ (h.first is) }
+  pub still_turned_away : (k : Caller) (call : Call) (t w : ℕ) → IsTurnedAway k call trail t w
+      → IsTurnedAway k call (trail ++ o ∷ []) t w
+  still_turned_away k call t w h = record {
+    seen = still _ h.seen;
+    shut = h.shut;
+    first = λ is. still_searched k call _ (h.first is);
+  }
 
-  pub still_paused : (k : Caller) (call : Call) (pause : Pause) → PauseIsCaused k call trail pause → PauseIsCaused k call (trail ++ o ∷ []) pause
+  pub still_paused : (k : Caller) (call : Call) (pause : Pause) → PauseIsCaused k call trail pause
+      → PauseIsCaused k call (trail ++ o ∷ []) pause
   still_paused k call (Stopped w) h = still_stopped k w h
   still_paused k call (Shut t w) h = still_turned_away k call t w h
-  still_paused k call (Busy t w) h = record { seen = still _ h.seen; held = h.held; first = λ is. still_searched k call _ (h.first is) }
+  still_paused k call (Busy t w) h = record {
+    seen = still _ h.seen;
+    held = h.held;
+    first = λ is. still_searched k call _ (h.first is);
+  }
   still_paused k call (BeingMoved t w) h = still_searched k call _ h
   still_paused k call (Barrier slot w) h = record {
     phase_is = h.phase_is;
@@ -126,7 +147,8 @@ module _ (trail : List Observation) (o : Observation) where
   }
   still_paused k call (NotYet wanted w) h = record { collects = h.collects; seen = still _ h.seen; early = h.early }
 
-  still_answered : (k : Caller) (call : Call) (reply : Reply) → AnswerIsCaused k call trail reply → AnswerIsCaused k call (trail ++ o ∷ []) reply
+  still_answered : (k : Caller) (call : Call) (reply : Reply) → AnswerIsCaused k call trail reply
+      → AnswerIsCaused k call (trail ++ o ∷ []) reply
   still_answered k call (Made name) h = tt
   still_answered k call NoRoom h = still_searched k call _ h
   still_answered k call (Told value) h = tt
@@ -136,11 +158,13 @@ module _ (trail : List Observation) (o : Observation) where
   still_answered k call (Cycle cycle) h = tt
   still_answered k call Spent h = tt
 
-  pub still_caused : (k : Caller) (call : Call) (outcome : Attempt) → OutcomeIsCaused k call trail outcome → OutcomeIsCaused k call (trail ++ o ∷ []) outcome
+  pub still_caused : (k : Caller) (call : Call) (outcome : Attempt) → OutcomeIsCaused k call trail outcome
+      → OutcomeIsCaused k call (trail ++ o ∷ []) outcome
   still_caused k call (Answer reply) h = still_answered k call reply h
   still_caused k call Full h = still_searched k call _ h
   still_caused k call (Paused pause) h = still_paused k call pause h
 
-  pub still_access : (k : Caller) (access : Access) → AccessShows k trail access → AccessShows k (trail ++ o ∷ []) access
+  pub still_access : (k : Caller) (access : Access) → AccessShows k trail access
+      → AccessShows k (trail ++ o ∷ []) access
   still_access k (Gets get) h = tt
   still_access k (Puts put) h = still_phase k put.phase h

@@ -20,7 +20,8 @@ use Rattle.mako_call.specs.declared.object.Access.TheVariants.{Get as Gets, Put 
 use Rattle.mako_call.specs.declared.object.Errand.{Errand}
 use Rattle.mako_call.specs.declared.object.Located.{Located}
 use Rattle.mako_call.specs.declared.call_stage.CallStage.{CallStage}
-use Rattle.mako_call.specs.Agreeing.{Arrives, AccessOf, OutcomeOf, IsCollect, outcome_asked, asked_of, AskedFits, StageOf}
+use Rattle.mako_call.specs.Agreeing.{Arrives, AccessOf, OutcomeOf, IsCollect, outcome_asked, asked_of, AskedFits}
+use Rattle.mako_call.specs.Agreeing.{StageOf}
 use Rattle.mako_call.specs.Objects.{tablet_of, at_record, AccessIsKnown, ErrandIsKnown, LocatedIsKnown}
 use Rattle.mako_call.specs.Callers.{IsCaller}
 use Rattle.mako_call.specs.Allocating.{opening_search, search_bound}
@@ -34,15 +35,18 @@ pub record GoesOn (k : Caller) (call : Call) (r : ℕ) (stage : CallStage) : Typ
   pub lower : stage_rank k.shape stage < r
 
 -- it leaves its own gate
-pub leaves : (k : Caller) (call : Call) (r : ℕ) (outcome : Attempt) → OutcomeOf call outcome → 1 < r → GoesOn k call r (leaving outcome)
+pub leaves : (k : Caller) (call : Call) (r : ℕ) (outcome : Attempt) → OutcomeOf call outcome → 1 < r
+    → GoesOn k call r (leaving outcome)
 leaves k call r outcome arrives h = record { known = tt; agrees = arrives; lower = h }
 
 -- the tablet of an object that is known
-pub tablet_known : (k : Caller) (e : Errand) → ErrandIsKnown k.shape e → tablet_of k.shape e.object < k.shape.servers * k.shape.tablets
+pub tablet_known : (k : Caller) (e : Errand) → ErrandIsKnown k.shape e
+    → tablet_of k.shape e.object < k.shape.servers * k.shape.tablets
 tablet_known k e known = belongings_in_range.entry k.shape e.object.entry known.0.1
 
 -- it leaves the tablet
-pub leaves_tablet : (k : Caller) (call : Call) (r t : ℕ) (outcome : Attempt) → OutcomeOf call outcome → t < k.shape.servers * k.shape.tablets → 2 < r → GoesOn k call r (leaving_tablet t outcome)
+pub leaves_tablet : (k : Caller) (call : Call) (r t : ℕ) (outcome : Attempt) → OutcomeOf call outcome
+    → t < k.shape.servers * k.shape.tablets → 2 < r → GoesOn k call r (leaving_tablet t outcome)
 leaves_tablet k call r t outcome arrives tablet h = record { known = tablet; agrees = arrives; lower = h }
 
 -- a call that goes to an object arrives at its own gate
@@ -52,13 +56,19 @@ access_arrives (Put to field from) (Puts put) h = tt
 access_arrives _ _ h = absurd h
 
 -- it is at its object's record
-pub at_goes : (k : Caller) (call : Call) (r : ℕ) (at : Located) (access : Access) → LocatedIsKnown k.shape at → AccessIsKnown k.shape access → AccessOf call access → 7 < r →
+pub at_goes : (k : Caller) (call : Call) (r : ℕ) (at : Located) (access : Access) → LocatedIsKnown k.shape at
+    → AccessIsKnown k.shape access → AccessOf call access → 7 < r →
     GoesOn k call r (at_record at access)
-at_goes k call r at (Gets get) located known agrees h = record { known = (located, known); agrees = agrees; lower = omega (arith, h) }
+at_goes k call r at (Gets get) located known agrees h = record {
+  known = (located, known);
+  agrees = agrees;
+  lower = omega (arith, h);
+}
 at_goes k call r at (Puts put) located known agrees h = record { known = (located, known); agrees = agrees; lower = h }
 
 -- the tablet of the object at which it is
-pub located_tablet : (k : Caller) (at : Located) → LocatedIsKnown k.shape at → tablet_of k.shape at.object < k.shape.servers * k.shape.tablets
+pub located_tablet : (k : Caller) (at : Located) → LocatedIsKnown k.shape at
+    → tablet_of k.shape at.object < k.shape.servers * k.shape.tablets
 located_tablet k at known = belongings_in_range.entry k.shape at.object.entry known.0.1
 
 -- each word is that of an entry whose numbers fit their bits
@@ -73,7 +83,8 @@ named_fits job name numbers named =
     (omega (arith, named.0, most), omega (arith, named.1, ranges))
 
 -- a search begins with its numbers in range
-pub opening_known : (k : Caller) (fields cycle : ℕ) → IsCaller k → fields ≤ 14 → cycle ≤ k.shape.cycles → allocating.IsKnown (opening_search k fields cycle).job (opening_search k fields cycle).progress
+pub opening_known : (k : Caller) (fields cycle : ℕ) → IsCaller k → fields ≤ 14 → cycle ≤ k.shape.cycles
+    → allocating.IsKnown (opening_search k fields cycle).job (opening_search k fields cycle).progress
 opening_known k fields cycle caller few in_range = record {
   numbers = record { shape = caller.shape; mutator = caller.mutator; fields = few; cycle = in_range };
   passed = some_tablet k.shape caller.shape;
@@ -81,7 +92,8 @@ opening_known k fields cycle caller few in_range = record {
 }
 
 -- and with a rank within its bound
-pub opening_rank : (k : Caller) (fields cycle : ℕ) → IsCaller k → fields ≤ 14 → allocating.rank (opening_search k fields cycle) ≤ search_bound k.shape
+pub opening_rank : (k : Caller) (fields cycle : ℕ) → IsCaller k → fields ≤ 14
+    → allocating.rank (opening_search k fields cycle) ≤ search_bound k.shape
 opening_rank k fields cycle caller few =
     let n = k.shape in
     let some = some_tablet n caller.shape in
@@ -111,6 +123,7 @@ outcome_arrives _ Full of = absurd of
 outcome_arrives call (Paused pause) of = of
 
 -- what a collect comes to, that has asked for a cycle of the geometry if it has to wait
-pub collect_asked : (n : Numbers) (call : Call) (outcome : Attempt) → IsCollect call → AskedFits n (outcome_asked outcome) → AskedFits n (asked_of call outcome)
+pub collect_asked : (n : Numbers) (call : Call) (outcome : Attempt) → IsCollect call
+    → AskedFits n (outcome_asked outcome) → AskedFits n (asked_of call outcome)
 collect_asked n Collect outcome h fits = fits
 collect_asked n _ outcome h fits = absurd h

@@ -10,12 +10,14 @@ same_tells_nothing None = refl
 same_tells_nothing (Some reply) = refl
 
 -- a step that does not decide the call tells nothing
-pub tells_nothing : (m : ℕ) (call : Call) (before after : Option Reply) → newly before after ≡ false → event_by m call before after ≡ Nothing
+pub tells_nothing : (m : ℕ) (call : Call) (before after : Option Reply) → newly before after ≡ false
+    → event_by m call before after ≡ Nothing
 tells_nothing m call None None is = refl
 tells_nothing m call None (Some reply) is = absurd (let no : true ≡ false = is in cc)
 tells_nothing m call (Some earlier) after is = refl
 
 -- the call is not decided before the step that decides it
-pub tells_first : (m : ℕ) (call : Call) (before after : Option Reply) → newly before after ≡ true → event_by m call before after ≡ event_by m call None after
+pub tells_first : (m : ℕ) (call : Call) (before after : Option Reply) → newly before after ≡ true
+    → event_by m call before after ≡ event_by m call None after
 tells_first m call None after is = refl
 tells_first m call (Some earlier) after is = absurd (let no : false ≡ true = is in cc)

@@ -14,7 +14,9 @@ use Rattle.mako_alloc.specs.Allocating.{Allocation}
 use Rattle.mako_alloc.specs.declared.found.Found.{Found}
 use Rattle.mako_alloc.specs.declared.found.Found.TheVariants.{Made, Full, Pause}
 use Rattle.mako_alloc.specs.declared.progress.NewStage.{NewStage}
-use Rattle.mako_alloc.specs.declared.progress.NewStage.TheVariants.{Arriving, TurnedAway, TakingTurn, LoadingLeaving, LoadingTop, LoadingEntry, LoadingHome, Making, GivingTurn as PassingTurn, Leaving, Ended}
+use Rattle.mako_alloc.specs.declared.progress.NewStage.TheVariants.{Arriving, TurnedAway, TakingTurn, LoadingLeaving}
+use Rattle.mako_alloc.specs.declared.progress.NewStage.TheVariants.{LoadingTop, LoadingEntry, LoadingHome, Making}
+use Rattle.mako_alloc.specs.declared.progress.NewStage.TheVariants.{GivingTurn as PassingTurn, Leaving, Ended}
 use Rattle.mako_model.specs.declared.reply.Reply.TheVariants.{Made as MadeReply}
 use Rattle.mako_model.specs.declared.attempt.Attempt.TheVariants.{Full as NoRoom, Pause as Paused}
 use Rattle.mako_call.specs.declared.caller.Caller.{Caller}
@@ -34,7 +36,8 @@ new_next k (GivingTurn name tablet) = does (index k.shape (turn tablet)) (Store 
 
 -- the search for a tablet, at its start
 abbrev pub opening_search : Caller → ℕ → ℕ → Allocation
-opening_search k fields cycle = allocating.opening (record { shape = k.shape; mutator = k.mutator; fields = fields; cycle = cycle })
+opening_search k fields cycle =
+    allocating.opening (record { shape = k.shape; mutator = k.mutator; fields = fields; cycle = cycle })
 
 -- the object is made, or the attempt comes to an end without it
 abbrev pub found_fed : ℕ → Found → CallStage
@@ -96,7 +99,9 @@ SearchGoesOn (Ended found) = ⊥
 
 abbrev pub NewIsKnown : Caller → AllocStage → Type 0
 NewIsKnown k (LoadingPhase root fields) = (root < k.shape.roots) × (fields ≤ 14)
-NewIsKnown k (Searching root search) = (root < k.shape.roots) × allocating.IsKnown search.job search.progress × SearchGoesOn search.progress.stage
+NewIsKnown k (Searching root search) = (root < k.shape.roots) × allocating.IsKnown search.job search.progress
+    × SearchGoesOn search.progress.stage
     × (search.job.shape ≡ k.shape) × (search.job.mutator ≡ k.mutator)
-NewIsKnown k (StoringRoot root name tablet) = (root < k.shape.roots) × FitsName name × (tablet < k.shape.servers * k.shape.tablets)
+NewIsKnown k (StoringRoot root name tablet) = (root < k.shape.roots) × FitsName name
+    × (tablet < k.shape.servers * k.shape.tablets)
 NewIsKnown k (GivingTurn name tablet) = tablet < k.shape.servers * k.shape.tablets

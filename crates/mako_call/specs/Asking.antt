@@ -30,9 +30,12 @@ finished_cycles (Evac cycle) = cycle - 1
 finished_cycles (Stop cycle) = cycle
 
 abbrev pub ask_fed : Numbers → AskStage → ℕ → CallStage
-ask_fed n LoadingPhase w = let cycle = cycle_of (phase_at w) in if cycle == n.cycles then Ended (Answer Spent) else Asking (RaisingDemand (cycle + 1))
+ask_fed n LoadingPhase w = let cycle = cycle_of (phase_at w) in
+    if cycle == n.cycles then Ended (Answer Spent) else Asking (RaisingDemand (cycle + 1))
 ask_fed n (RaisingDemand cycle) w = Asking (Awaiting cycle)
-ask_fed n (Awaiting cycle) w = if nat_le cycle (finished_cycles (phase_at w)) then Ended (Answer (Cycle cycle)) else Ended (Paused (NotYet cycle w))
+ask_fed n (Awaiting cycle) w =
+    if nat_le cycle (finished_cycles (phase_at w)) then Ended (Answer (Cycle cycle)) else Ended
+    (Paused (NotYet cycle w))
 
 -- a phase of a cycle that runs has a number from 1 on
 abbrev pub CountsFrom : PhaseWord → Type 0

@@ -19,12 +19,16 @@ use Rattle.mako_model.specs.declared.attempt.Attempt.TheVariants.{Answer, Full, 
 use Rattle.mako_call.specs.declared.caller.Caller.{Caller}
 use Rattle.mako_call.specs.declared.call_machine.Keep.{Keep}
 use Rattle.mako_call.specs.declared.call_stage.CallStage.{CallStage}
-use Rattle.mako_call.specs.declared.call_stage.CallStage.TheVariants.{Arriving, Rooting, Entering, Moving, Getting, Putting, Allocating, Asking, Leaving, Ended}
-use Rattle.mako_call.specs.declared.rooting.RootStage.TheVariants.{StoringNumber, StoringNull, LoadingCopied, LoadingShown, LoadingSource, LoadingTarget}
+use Rattle.mako_call.specs.declared.call_stage.CallStage.TheVariants.{Arriving, Rooting, Entering, Moving, Getting}
+use Rattle.mako_call.specs.declared.call_stage.CallStage.TheVariants.{Putting, Allocating, Asking, Leaving, Ended}
+use Rattle.mako_call.specs.declared.rooting.RootStage.TheVariants.{StoringNumber, StoringNull, LoadingCopied}
+use Rattle.mako_call.specs.declared.rooting.RootStage.TheVariants.{LoadingShown, LoadingSource, LoadingTarget}
 use Rattle.mako_call.specs.declared.getting.GetStage.{GetStage}
-use Rattle.mako_call.specs.declared.getting.GetStage.TheVariants.{LoadingHeader, LoadingField, StoringRoot as StoringGot}
+use Rattle.mako_call.specs.declared.getting.GetStage.TheVariants.{LoadingHeader, LoadingField}
+use Rattle.mako_call.specs.declared.getting.GetStage.TheVariants.{StoringRoot as StoringGot}
 use Rattle.mako_call.specs.declared.allocating.AllocStage.{AllocStage}
-use Rattle.mako_call.specs.declared.allocating.AllocStage.TheVariants.{LoadingPhase as NewPhase, Searching, StoringRoot, GivingTurn}
+use Rattle.mako_call.specs.declared.allocating.AllocStage.TheVariants.{LoadingPhase as NewPhase, Searching, StoringRoot}
+use Rattle.mako_call.specs.declared.allocating.AllocStage.TheVariants.{GivingTurn}
 use Rattle.mako_call.specs.declared.asking.AskStage.TheVariants.{LoadingPhase as AskPhase, Awaiting}
 use Rattle.mako_call.specs.declared.leaving.LeaveStage.{LeaveStage}
 use Rattle.mako_call.specs.declared.leaving.LeaveStage.TheVariants.{Refused, TurnedAway, FromTablet, FromOwn}
@@ -61,7 +65,13 @@ first_stage Collect None = Asking AskPhase
 first_stage Collect (Some cycle) = Asking (Awaiting cycle)
 
 abbrev pub opening : Caller → Call → Bool → Option ℕ → ℕ → Calling
-opening k call last asked slot = record { caller = k; call = call; last = last; slot = slot; stage = first_stage call asked }
+opening k call last asked slot = record {
+  caller = k;
+  call = call;
+  last = last;
+  slot = slot;
+  stage = first_stage call asked;
+}
 
 abbrev pub stage_next : Caller → ℕ → CallStage → Step
 stage_next k slot Arriving = does (index k.shape (mutator_gate k.mutator)) (Add 1)
@@ -120,7 +130,10 @@ slot_after n slot (Leaving s) = slot
 slot_after n slot (Ended outcome) = slot
 
 abbrev pub fed : Calling → ℕ → Calling
-fed v w = record v { slot = slot_after v.caller.shape v.slot v.stage; stage = stage_fed v.caller v.call v.last v.slot v.stage w }
+fed v w = record v {
+  slot = slot_after v.caller.shape v.slot v.stage;
+  stage = stage_fed v.caller v.call v.last v.slot v.stage w;
+}
 
 -- the reply of an outcome that is an answer
 abbrev pub reply_of : Attempt → Option Reply

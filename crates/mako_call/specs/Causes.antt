@@ -14,7 +14,8 @@ use Rattle.mako_step.specs.declared.act.Op.TheVariants.{Load, Add, Exchange}
 use Rattle.mako_model.specs.declared.call.Call.{Call}
 use Rattle.mako_model.specs.declared.call.Call.TheVariants.{New, Put}
 use Rattle.mako_model.specs.declared.reply.Reply.{Reply}
-use Rattle.mako_model.specs.declared.reply.Reply.TheVariants.{Made, Full as NoRoom, Value as Told, Done, NoRef, NoField, Cycle, Spent}
+use Rattle.mako_model.specs.declared.reply.Reply.TheVariants.{Made, Full as NoRoom, Value as Told, Done, NoRef, NoField}
+use Rattle.mako_model.specs.declared.reply.Reply.TheVariants.{Cycle, Spent}
 use Rattle.mako_model.specs.declared.attempt.Attempt.{Attempt}
 use Rattle.mako_model.specs.declared.attempt.Attempt.TheVariants.{Answer, Full, Pause as Paused}
 use Rattle.mako_model.specs.declared.attempt.Pause.{Pause}
@@ -41,7 +42,8 @@ pub record IsStopped (k : Caller) (trail : List Observation) (w : ℕ) : Type 0 
   pub shut : is_shut w ≡ true
 
 -- a new went over the tablets in a part of the trail, of which this holds
-pub record Searched (k : Caller) (call : Call) (trail : List Observation) (Shows : Job → List Observation → Type 0) : Type 0 where
+pub record Searched (k : Caller) (call : Call) (trail : List Observation) (Shows : Job → List Observation
+    → Type 0) : Type 0 where
   pub root : ℕ
   pub fields : ℕ
   pub cycle : ℕ
@@ -139,10 +141,14 @@ OutcomeIsCaused k call trail (Paused pause) = PauseIsCaused k call trail pause
 
 -- each outcome of an attempt has its cause in the attempt's trail
 abbrev pub OutcomesAreCaused : Type 0
-OutcomesAreCaused = (k : Caller) (call : Call) (last : Bool) (asked : Option ℕ) (slot : ℕ) (trail : List Observation) (l : Calling) (outcome : Attempt) →
-    IsKnown (opening k call last asked slot) → Goes next_of Fits fed (opening k call last asked slot) trail l → l.stage ≡ Ended outcome → OutcomeIsCaused k call trail outcome
+OutcomesAreCaused = (k : Caller) (call : Call) (last : Bool) (asked : Option ℕ) (slot : ℕ) (trail : List Observation)
+    (l : Calling) (outcome : Attempt) →
+    IsKnown (opening k call last asked slot) → Goes next_of Fits fed (opening k call last asked slot) trail l
+    → l.stage ≡ Ended outcome → OutcomeIsCaused k call trail outcome
 
 -- an attempt whose arrival at its own gate found the shut bit comes to nothing else than the pause that says so
 abbrev pub ShutGatesStop : Type 0
-ShutGatesStop = (k : Caller) (call : Call) (last : Bool) (asked : Option ℕ) (slot : ℕ) (trail : List Observation) (l : Calling) (outcome : Attempt) (w : ℕ) →
-    Goes next_of Fits fed (opening k call last asked slot) trail l → IsStopped k trail w → l.stage ≡ Ended outcome → outcome ≡ Paused (Stopped w)
+ShutGatesStop = (k : Caller) (call : Call) (last : Bool) (asked : Option ℕ) (slot : ℕ) (trail : List Observation)
+    (l : Calling) (outcome : Attempt) (w : ℕ) →
+    Goes next_of Fits fed (opening k call last asked slot) trail l → IsStopped k trail w → l.stage ≡ Ended outcome
+    → outcome ≡ Paused (Stopped w)

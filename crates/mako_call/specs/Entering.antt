@@ -29,7 +29,8 @@ enter_next k e (LoadingHome found) = does (index k.shape (home (tablet_of k.shap
 abbrev pub enter_fed : Numbers → Errand → EnterStage → ℕ → CallStage
 enter_fed n e Arriving w = if is_shut w then Leaving (TurnedAway (tablet_of n e.object) w) else Entering e LoadingEntry
 enter_fed n e LoadingEntry w = Entering e (LoadingHome (entry_at w))
-enter_fed n e (LoadingHome found) w = if is_in_region n w found.address then at_object e found.address else Moving e (TakingTurn w)
+enter_fed n e (LoadingHome found) w =
+    if is_in_region n w found.address then at_object e found.address else Moving e (TakingTurn w)
 
 -- the gate's word is that of a gate, the record lies in the regions, and the home is a region
 abbrev pub EnterFits : Numbers → EnterStage → ℕ → Type 0

@@ -26,7 +26,8 @@ get_next k at get (StoringRoot value) = does (own_root k get.to) (Store (value_w
 
 -- a field that the header does not count is none
 abbrev pub get_fed : Numbers → Located → Get → GetStage → ℕ → CallStage
-get_fed n at get LoadingHeader w = if nat_lt get.field w then Getting at get LoadingField else answered_at (tablet_of n at.object) NoField
+get_fed n at get LoadingHeader w =
+    if nat_lt get.field w then Getting at get LoadingField else answered_at (tablet_of n at.object) NoField
 get_fed n at get LoadingField w = Getting at get (StoringRoot (value_at w))
 get_fed n at get (StoringRoot value) w = answered_at (tablet_of n at.object) (Told value)
 

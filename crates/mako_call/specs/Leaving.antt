@@ -16,7 +16,8 @@ use Rattle.mako_call.specs.declared.call_stage.CallStage.TheVariants.{Leaving, E
 use Rattle.mako_call.specs.declared.leaving.LeaveStage.{LeaveStage}
 use Rattle.mako_call.specs.declared.leaving.LeaveStage.TheVariants.{Refused, TurnedAway, FromTablet, FromOwn}
 
--- sub 1 from the tablet's gate, and then from the own gate; an arrival that found a shut gate is taken back in the same way
+-- sub 1 from the tablet's gate, and then from the own gate; an arrival that found a shut gate is taken back in the same
+-- way
 abbrev pub leave_next : Caller → LeaveStage → Step
 leave_next k (Refused word) = does (index k.shape (mutator_gate k.mutator)) (Sub 1)
 leave_next k (TurnedAway tablet word) = does (index k.shape (tablet_gate tablet)) (Sub 1)

@@ -12,7 +12,9 @@ use Rattle.mako_record.specs.Regions.{is_in_region}
 use Rattle.mako_record.specs.Copying as copying
 use Rattle.mako_record.specs.Copying.{Copying, opening_copy}
 use Rattle.mako_record.specs.declared.copier.CopyStage.{CopyStage}
-use Rattle.mako_record.specs.declared.copier.CopyStage.TheVariants.{LoadingTop, LoadingHeader, StoringHeader, LoadingField, StoringField, StoringEntry, RaisingTop, Ended}
+use Rattle.mako_record.specs.declared.copier.CopyStage.TheVariants.{LoadingTop, LoadingHeader, StoringHeader}
+use Rattle.mako_record.specs.declared.copier.CopyStage.TheVariants.{LoadingField, StoringField, StoringEntry}
+use Rattle.mako_record.specs.declared.copier.CopyStage.TheVariants.{RaisingTop, Ended}
 use Rattle.mako_model.specs.declared.attempt.Attempt.TheVariants.{Pause as Paused}
 use Rattle.mako_model.specs.declared.attempt.Pause.TheVariants.{Busy}
 use Rattle.mako_call.specs.declared.caller.Caller.{Caller}
@@ -20,7 +22,8 @@ use Rattle.mako_call.specs.declared.object.Errand.{Errand}
 use Rattle.mako_call.specs.declared.call_stage.CallStage.{CallStage}
 use Rattle.mako_call.specs.declared.call_stage.CallStage.TheVariants.{Moving}
 use Rattle.mako_call.specs.declared.moving.MoveStage.{MoveStage}
-use Rattle.mako_call.specs.declared.moving.MoveStage.TheVariants.{TakingTurn, LoadingEntry as LoadingAgain, Copying as Copies, GivingTurn}
+use Rattle.mako_call.specs.declared.moving.MoveStage.TheVariants.{TakingTurn, LoadingEntry as LoadingAgain}
+use Rattle.mako_call.specs.declared.moving.MoveStage.TheVariants.{Copying as Copies, GivingTurn}
 use Rattle.mako_call.specs.Objects.{tablet_of, at_object}
 use Rattle.mako_call.specs.Leaving.{leaving_tablet}
 
@@ -51,7 +54,9 @@ copy_fed e copier (RaisingTop offset fields) = Moving e (Copies copier)
 copy_fed e copier (Ended address) = giving_turn e address
 
 abbrev pub move_fed : Numbers → Errand → MoveStage → ℕ → CallStage
-move_fed n e (TakingTurn home) w = if w == 0 then Moving e (LoadingAgain home) else leaving_tablet (tablet_of n e.object) (Paused (Busy (tablet_of n e.object) w))
+move_fed n e (TakingTurn home) w =
+    if w == 0 then Moving e (LoadingAgain home) else leaving_tablet (tablet_of n e.object)
+    (Paused (Busy (tablet_of n e.object) w))
 move_fed n e (LoadingAgain home) w = again_fed n e home (entry_at w)
 move_fed n e (Copies copier) w = let after = copying.fed copier w in copy_fed e after after.stage
 move_fed n e (GivingTurn address) w = at_object e address

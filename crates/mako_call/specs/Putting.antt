@@ -20,16 +20,19 @@ use Rattle.mako_call.specs.declared.object.Located.{Located}
 use Rattle.mako_call.specs.declared.call_stage.CallStage.{CallStage}
 use Rattle.mako_call.specs.declared.call_stage.CallStage.TheVariants.{Putting}
 use Rattle.mako_call.specs.declared.putting.PutStage.{PutStage}
-use Rattle.mako_call.specs.declared.putting.PutStage.TheVariants.{LoadingHeader, LoadingOld, LookingAtBarrier, StoringBarrier, StoringField}
+use Rattle.mako_call.specs.declared.putting.PutStage.TheVariants.{LoadingHeader, LoadingOld, LookingAtBarrier}
+use Rattle.mako_call.specs.declared.putting.PutStage.TheVariants.{StoringBarrier, StoringField}
 use Rattle.mako_call.specs.Objects.{tablet_of}
 use Rattle.mako_call.specs.Leaving.{leaving_tablet, answered_at}
 
--- load header; in Trace alone load field, and if it is a name look at the own barrier slot, and store the name there; store field
+-- load header; in Trace alone load field, and if it is a name look at the own barrier slot, and store the name there;
+-- store field
 abbrev pub put_next : Caller → ℕ → Located → Put → PutStage → Step
 put_next k slot at put LoadingHeader = does at.address Load
 put_next k slot at put LoadingOld = does (at.address + 1 + put.field) Load
 put_next k slot at put (LookingAtBarrier old) = does (index k.shape (barrier k.mutator slot)) Load
-put_next k slot at put (StoringBarrier old) = does (index k.shape (barrier k.mutator slot)) (Store (value_word (Ref old)))
+put_next k slot at put (StoringBarrier old) =
+    does (index k.shape (barrier k.mutator slot)) (Store (value_word (Ref old)))
 put_next k slot at put StoringField = does (at.address + 1 + put.field) (Store (value_word put.value))
 
 -- while the servers trace, the field is loaded first
@@ -46,7 +49,8 @@ old_fed (Num x) = StoringField
 old_fed (Ref old) = LookingAtBarrier old
 
 abbrev pub put_fed : Numbers → ℕ → Located → Put → PutStage → ℕ → CallStage
-put_fed n slot at put LoadingHeader w = if nat_lt put.field w then Putting at put (before_store put.phase) else answered_at (tablet_of n at.object) NoField
+put_fed n slot at put LoadingHeader w =
+    if nat_lt put.field w then Putting at put (before_store put.phase) else answered_at (tablet_of n at.object) NoField
 put_fed n slot at put LoadingOld w = Putting at put (old_fed (value_at w))
 put_fed n slot at put (LookingAtBarrier old) w = if w == 0 then Putting at put (StoringBarrier old)
     else leaving_tablet (tablet_of n at.object) (Paused (Barrier slot w))

@@ -15,7 +15,9 @@ use Rattle.mako_call.specs.declared.object.Access.TheVariants.{Get as Gets, Put 
 use Rattle.mako_call.specs.declared.call_stage.CallStage.{CallStage}
 use Rattle.mako_call.specs.declared.call_stage.CallStage.TheVariants.{Rooting}
 use Rattle.mako_call.specs.declared.rooting.RootStage.{RootStage}
-use Rattle.mako_call.specs.declared.rooting.RootStage.TheVariants.{StoringNumber, StoringNull, LoadingCopied, StoringCopied, LoadingShown, LoadingSource, LoadingTarget, LoadingValue, LoadingPhase}
+use Rattle.mako_call.specs.declared.rooting.RootStage.TheVariants.{StoringNumber, StoringNull, LoadingCopied}
+use Rattle.mako_call.specs.declared.rooting.RootStage.TheVariants.{StoringCopied, LoadingShown, LoadingSource}
+use Rattle.mako_call.specs.declared.rooting.RootStage.TheVariants.{LoadingTarget, LoadingValue, LoadingPhase}
 use Rattle.mako_call.specs.Objects.{begun_at, ObjectIsKnown, ValueIsKnown}
 use Rattle.mako_call.specs.Leaving.{answered}
 
@@ -57,7 +59,8 @@ root_fed (LoadingShown from) w = answered (Told (value_at w))
 root_fed (LoadingSource to from field) w = source_fed to field (value_at w)
 root_fed (LoadingTarget to field from) w = target_fed field from (value_at w)
 root_fed (LoadingValue object field from) w = Rooting (LoadingPhase object field (value_at w))
-root_fed (LoadingPhase object field value) w = begun_at object (Puts (record { field = field; value = value; phase = phase_at w }))
+root_fed (LoadingPhase object field value) w =
+    begun_at object (Puts (record { field = field; value = value; phase = phase_at w }))
 
 -- what is loaded is a value or a phase, and a name that is gone to is one of an entry that there is
 abbrev pub RootFits : Numbers → RootStage → ℕ → Type 0

@@ -45,7 +45,13 @@ impl Model for CallMachine {
 
     ghost view = { λ m. record { caller = m.caller; call = m.call; last = m.last; slot = m.slot; stage = m.stage } };
 
-    ghost invariant = { λ m. IsKnown (record { caller = m.caller; call = m.call; last = m.last; slot = m.slot; stage = m.stage }) };
+    ghost invariant = { λ m. IsKnown (record {
+      caller = m.caller;
+      call = m.call;
+      last = m.last;
+      slot = m.slot;
+      stage = m.stage;
+    }) };
 
     ghost inverse = { λ v. record { caller = v.caller; call = v.call; last = v.last; slot = v.slot; stage = v.stage } };
 }
@@ -59,7 +65,10 @@ impl CallMachine {
         requires call { CallFits shape call }
         requires asked { AskedFits shape keep.asked }
         requires barrier { keep.barrier_at < shape.ring }
-        ensures { result ≡ calls.opening (record { shape = shape; mutator = mutator }) call last keep.asked keep.barrier_at }
+        ensures { result ≡ calls.opening (record {
+          shape = shape;
+          mutator = mutator;
+        }) call last keep.asked keep.barrier_at }
     {
         let _numbers = shape.numbers();
         CallMachine {
@@ -126,7 +135,8 @@ impl CallMachine {
     /// What it came to and keeps, where it has ended.
     pub fn outcome(&self) -> Option<(Attempt, Keep)>
         ensures none { result ≡ None → calls.outcome_in self.now.stage ≡ None }
-        ensures some { IfSome result (λ r. (calls.outcome_in self.now.stage ≡ Some r.0) × (r.1 ≡ calls.kept self.now r.0) × KeepFits self.now.caller.shape r.1) }
+        ensures some { IfSome result (λ r. (calls.outcome_in self.now.stage ≡ Some r.0)
+            × (r.1 ≡ calls.kept self.now r.0) × KeepFits self.now.caller.shape r.1) }
     {
         match self.stage {
             CallStage::Ended(outcome) => Some((outcome, self.keep(outcome))),

@@ -4,7 +4,8 @@ ghost use Rattle.std.specs.Prelude.{[], ◌∷◌};
 ghost use Rattle.mako_choice.specs.Choices.{ChoicesAreOne, IsChoice};
 ghost use Rattle.mako_choice.specs.Examples.{four_tablets};
 
-/// There is one choice: whatever is a choice of the same tablets is the same list, the one that the definition computes.
+/// There is one choice: whatever is a choice of the same tablets is the same list, the one that the definition
+/// computes.
 pub fn choices_are_one()
     ensures { ChoicesAreOne }
 {}

@@ -124,7 +124,7 @@ fn tell_run<K: Sink>(sink: &mut K, script: &Script, replayed: Replayed) -> Ended
     ensures front { result.front ≡ replayed.outcome.front }
     ensures told { IsWritten (output_text (length script.now.programs) replayed.outcome.front replayed.finished)
         (replay_status replayed.finished) (K.taken sink.old) (K.taken sink.new)
-            (Rose (K.faults sink.old) (K.faults sink.new)) result.status }
+        (Rose (K.faults sink.old) (K.faults sink.new)) result.status }
     ensures counted { K.faults sink.old ≤ K.faults sink.new }
 {
     let Replayed {
@@ -161,10 +161,10 @@ pub fn replay_top<S: Source, K: Sink>(
     // Each status has its cause.
     ensures done { result.status ≡ 0 →
         HasOutput true order steps (S.left source.old) (S.left source.new) (K.taken sink.old)
-            (K.taken sink.new) result.front }
+        (K.taken sink.new) result.front }
     ensures unfinished { result.status ≡ 6 →
         HasOutput false order steps (S.left source.old) (S.left source.new) (K.taken sink.old)
-            (K.taken sink.new) result.front }
+        (K.taken sink.new) result.front }
     ensures refused { result.status ≡ 2
         → IsToldUnread (S.left source.old) (S.left source.new) (K.taken sink.old) (K.taken sink.new) }
     ensures read { result.status ≡ 3 → Rose (S.faults source.old) (S.faults source.new) }
@@ -173,7 +173,7 @@ pub fn replay_top<S: Source, K: Sink>(
     // And at the status of a write fault too the front is the one that another status would have.
     ensures settled { (settled : Settled)
         × Settles order steps (S.left source.old) (S.left source.new)
-            (Rose (S.faults source.old) (S.faults source.new)) settled
+        (Rose (S.faults source.old) (S.faults source.new)) settled
         × IsTold settled (K.taken sink.old) (K.taken sink.new) (Rose (K.faults sink.old) (K.faults sink.new)) result }
 
     // Where no stream fails, the status is 0, 6, 2 or 5, and its text was written.
@@ -255,7 +255,7 @@ pub fn top<R: Threads + Wait + Sync, S: Source, K: Sink>(
     ensures complete { ¬ Rose (S.faults source.old) (S.faults source.new)
         → ¬ Rose (K.faults sink.old) (K.faults sink.new) →
         EndsWell (map string_bytes words.now) (S.left source.old) (S.left source.new) (K.taken sink.old)
-            (K.taken sink.new) result }
+        (K.taken sink.new) result }
 {
     let Ok(line) = command_line(alloc, words) else {
         return tell(alloc, sink, Settled::Memory);

@@ -111,7 +111,7 @@ ring_put n words m at place word size inside low few free some ring =
     let us : List ℕ = set words (index n (barrier m place)) word in
     let here : place % n.ring ≡ place = no_turn_at n.ring place few in
     let t = put_appends n.ring (λ slot. word_at n words (barrier m slot))
-        (λ slot. word_at n us (barrier m slot)) at place
+    (λ slot. word_at n us (barrier m slot)) at place
     word low ring.others ring.next (ap (λ (x : ℕ). word_at n words (barrier m x)) here ∙ free) some (
       ap (λ (x : ℕ). word_at n us (barrier m x)) here ∙ word_same n words (barrier m place) word size (inside, few),
       λ slot l other. word_other n words (barrier m place) (barrier m slot) word (inside, few) (inside, l)

@@ -73,8 +73,13 @@ without_one r (x ∷ xs) some q = by_head (λ rest. without_one r xs rest q) (x 
 pub given_one : (t r u : ℕ) (given : List Gift)
     → gift_in (record { tablet = t; region = r } ∷ given) u ≡ gift_in given u + counted (t == u) (r + 1)
 given_one t r u given =
-    omega (arith, sum_by-cons (λ (g : Gift). counted (g.tablet == u) (g.region + 1)) (record { tablet = t;
-        region = r }) given)
+    omega (
+      arith,
+      sum_by-cons (λ (g : Gift). counted (g.tablet == u) (g.region + 1)) (record {
+        tablet = t;
+        region = r;
+      }) given,
+    )
 
 below_next : (chosen : List ℕ) (i : ℕ) → chosen_below chosen (i + 1) ≡ slice_index chosen i ∷ chosen_below chosen i
 unfolding chosen_below
@@ -226,7 +231,7 @@ module _ (w : Facts) (k : Holdings) (s : JointScene) (j : Joint k.shape w s) whe
         (store_leaving (λ q. word_at n (set s.words (index n (leaving t)) (gift.former + 1)) q) t gift.region given
         (record { tablet = t; region = gift.former } ∷ given) spare (without gift.region spare)
         (parts_pause n w s j
-            (by_part n w s j phases.IsInPause (collector_seat n) (part_of n old) (names_of old) at.phase
+        (by_part n w s j phases.IsInPause (collector_seat n) (part_of n old) (names_of old) at.phase
         tt)) begun inside may.region may.server (ap (λ x. gift_in (given_of x) t) begun ∙ may.first)
         (subst (λ (x : ℕ). 1 ≤ x) (sym (ap (λ x. times_in (spare_of x) gift.region) begun)) may.spares)
         (subst (λ (x : ℕ). Sets n (λ q. word_at n s.words q)
@@ -247,7 +252,7 @@ module _ (w : Facts) (k : Holdings) (s : JointScene) (j : Joint k.shape w s) whe
         (order_as n w s (here (StoringHome i gift)) c at (set s.words (index n (home t)) gift.region) choice refl refl
         (order_else n w s j (home t) gift.region inside (λ x. x)))
         (store_home (λ q. word_at n (set s.words (index n (home t)) gift.region) q) t gift.region given spare inside
-            owes
+        owes
         (sets n s.words (home t) gift.region j.names.hold.size inside)) tt
 
   -- the top of its new home

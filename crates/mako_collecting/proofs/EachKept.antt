@@ -131,7 +131,7 @@ module _ (w : Facts) (s : JointScene) (places : ℕ → ℕ) (k : Holdings) wher
       (cond (m + 1 == n.mutators) (paused k pause) (at k (Pausing (Draining pause (m + 1)))))
       (λ e. plain n us places (at k (Pausing (Draining pause m))) x.keeps.keeps refl rings)
       (λ e. either_way (Own n us places) (m + 1 == n.mutators) (paused k pause)
-          (at k (Pausing (Draining pause (m + 1))))
+      (at k (Pausing (Draining pause (m + 1))))
       (λ a. paused_own n us places k x.keeps.keeps.1 rings pause x.keeps.keeps.0)
       (λ a. plain n us places (at k (Pausing (Draining pause (m + 1)))) x.keeps.keeps refl rings))
   pause_own (LoadingRoot m q) x =
@@ -226,8 +226,12 @@ module _ (w : Facts) (s : JointScene) (places : ℕ → ℕ) (k : Holdings) wher
       (rings_after (Choosing (LoadingLive r place)) x (by_load n s.words (index n (live (r * n.tablets + place)))))
   choice_own (LoadingTop r place words) x =
       tablets_own n (words_next (at k (Choosing (LoadingTop r place words))) s.words) places
-      (record k { used = k.used ++ record { top = word_at n s.words (top (r * n.tablets + place));
-          live = words } ∷ [] })
+      (record k {
+        used = k.used ++ record {
+          top = word_at n s.words (top (r * n.tablets + place));
+          live = words;
+        } ∷ [];
+      })
       r place
       (rings_after (Choosing (LoadingTop r place words)) x (by_load n s.words (index n (top (r * n.tablets + place)))))
   choice_own (LoadingHome i) x =

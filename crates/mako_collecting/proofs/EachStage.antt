@@ -112,7 +112,7 @@ poll_step w s places k x ties =
     λ shut m slot within. x.keeps.empty shut m slot within.0 within.0 within.1 in
     let each = x.joint.script.shape.in_range.each in
     subst (λ (h : Holdings). IsCollector k.shape s (at h Polling)
-        → Joint k.shape w (polled k.shape s (at h Polling))) same
+    → Joint k.shape w (polled k.shape s (at h Polling))) same
     (polls_on w k s x.joint (omega (arith, each)) ties empty k.poll.stage x.known.poll x.keeps.keeps.1) x.seat
 
 pub poll_steps_keep : PollStepsKeep
@@ -141,7 +141,7 @@ choice_step w s places k (StoringTop i) x given spare is may =
 choice_step w s places k StoringEvac x given spare is may = evacuates w k s x.joint x.seat may given spare is
 choice_step w s places k (Reopening m) x given spare is may =
     subst (λ choice. Joint k.shape w
-        (with_collector k.shape s (words_next (at k (Choosing (Reopening m))) s.words) choice
+    (with_collector k.shape s (words_next (at k (Choosing (Reopening m))) s.words) choice
     (collector_next (at k (Choosing (Reopening m))) s.words))) is (reopens w k s x.joint m x.keeps.stage.1 x.seat)
 
 pub choice_steps_keep : ChoiceStepsKeep

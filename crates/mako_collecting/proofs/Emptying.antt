@@ -127,12 +127,15 @@ module _ (w : Facts) (k : Holdings) (s : JointScene) (j : Joint k.shape w s) (no
 
   passes : (m : ℕ) → IsCollector n s (here (Loading m)) → length k.windows ≡ n.servers
       → All (IsWindow n.ring) k.windows
-          → Joint n w (with_collector n s s.words s.facets.choice (barriers_from k (m + 1)))
+      → Joint n w (with_collector n s s.words s.facets.choice (barriers_from k (m + 1)))
   passes m at count windows =
       either_way (λ c. Joint n w (with_collector n s s.words s.facets.choice c)) (m + 1 == n.mutators) (empty k)
       (here (Loading (m + 1)))
-      (λ e. empties_rings n w s j (here (Loading m)) at k (record { names = refl; part = refl;
-          watch = refl }) none count
+      (λ e. empties_rings n w s j (here (Loading m)) at k (record {
+        names = refl;
+        part = refl;
+        watch = refl;
+      }) none count
       windows (rings_here (Loading m) at))
       (λ e. stays n w s j (here (Loading m)) at (here (Loading (m + 1))) refl refl refl refl)
 
@@ -208,7 +211,7 @@ module _ (w : Facts) (k : Holdings) (s : JointScene) (j : Joint k.shape w s) (no
   emptied =
       loads numbers w s (index numbers tail) s.facets.choice (collector_next old s.words)
       (either_way (λ c. Joint numbers w (with_collector numbers s s.words s.facets.choice c))
-          (word_at numbers s.words tail == 0)
+      (word_at numbers s.words tail == 0)
       (empty kept) old
       (λ e. empties_rings numbers w s j old at kept (record { names = refl; part = refl; watch = refl }) none
       (length-set k.windows r (tail_up numbers.ring (window_of k r)) ∙ count) windows_next

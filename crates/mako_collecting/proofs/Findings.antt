@@ -130,7 +130,7 @@ choice_found words k (Reopening m) found =
 
 findings_at : (words : List ℕ) (k : Holdings) (stage : CollectStage) → FindsTablets stage
     → StageFound k.shape words k stage
-        → Found k.shape (words_next (at k stage) words) (collector_next (at k stage) words)
+    → Found k.shape (words_next (at k stage) words) (collector_next (at k stage) words)
 findings_at words k Polling is found =
     let kept : Holdings = record k { poll = poll.fed k.poll (finds (next_of (at k Polling)) words) } in
     polled_found (words_next (at k Polling) words) k.shape kept kept.poll.stage
@@ -284,4 +284,4 @@ choosing_ends_counts n w s places k stage stands is lives before ties counted =
     (chooses_restful n k stage is)) in
     counts_end n w s.words lives before (running k) counted
     (λ seat server begun counts owed here. owes_none s.facets.phases lives rest.1 ties seat server begun counts owed
-        here)
+    here)

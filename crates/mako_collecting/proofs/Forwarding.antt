@@ -220,7 +220,7 @@ module _ (w : Facts) (k : Holdings) (s : JointScene) (j : Joint k.shape w s)
         (ring_facet n (forward kept))
     rings =
         subst (λ q. CollectorStep n (λ p. word_at n s.words p) (λ p. word_at n vs p)
-            (ring_facet n (here (Storing x))) q)
+        (ring_facet n (here (Storing x))) q)
         (sym is.rings)
         (RingForwards r (name_word x) wrote (λ e. no_zero_name x known.1 (sym e)) refl
         (sets_window n k r (head_up (window_of k r)) inside) refl)

@@ -226,7 +226,7 @@ module _ (w : Facts) (k : Holdings) (s : JointScene) (j : Joint k.shape w s) whe
     open_next : Joint n w (with_collector n s vs s.facets.choice (here (Opening (m + 1))))
     open_next =
         gate_step n w s j (here (Opening m)) at m low (And (all_but SHUT))
-            (here (Opening (m + 1))) refl refl refl opened
+        (here (Opening (m + 1))) refl refl refl opened
 
     all_opened : m + 1 ≡ n.mutators
         → Evacuation n (layout_in n w (with_collector n s vs s.facets.choice (forward k)))

@@ -136,7 +136,7 @@ module _ (k : Holdings) (y : IsKeptKnown k) where
   gates_known : (shut : Bool) → IsKeptKnown (record k { gates_shut = shut })
   gates_known shut =
       with_parts k.pending k.windows k.barrier_at k.poll k.used k.chosen k.roles shut y.pending y.windows_count
-          y.windows
+      y.windows
       y.barriers_count y.barriers y.poll_shape y.poll y.chosen y.roles
 
   -- ---- where it goes on to

@@ -96,8 +96,10 @@ pub gate_moves : (n : Numbers) (w : Facts) (s : JointScene) → Joint n w s → 
     → Evacuation n (at_gate st V (collector_seat n) g)
 gate_moves n w s j st e x g at work V action leaves none owes =
     each_step_keeps n j.script.shape st (collector_seat n) (at_gate st V (collector_seat n) g) e
-    (acts V (collector_seat n) (shutter_at (collector_seat n) x) g (record { gate = at;
-        work = work }) action leaves none
+    (acts V (collector_seat n) (shutter_at (collector_seat n) x) g (record {
+      gate = at;
+      work = work;
+    }) action leaves none
     (inr owes))
 
 pub same_words : (n : Numbers) (V : Place → ℕ) → LeavesLayout n V V
@@ -163,7 +165,7 @@ module _ (n : Numbers) (w : Facts) (s : JointScene) (j : Joint n w s) (old : Col
 abbrev pub over : (n : Numbers) → Facts → JointScene → List ℕ → Choice → Watch → State
 over n w s us choice x =
     at_gate (layout_in n w (record s { words = us; facets = record s.facets { choice = choice } }))
-        (λ q. word_at n us q)
+    (λ q. word_at n us q)
     (collector_seat n) (shutter_at (collector_seat n) x)
 
 -- once all gates are reopened the pause is over

@@ -30,7 +30,7 @@ module _ (n : Numbers) (k : Holdings) (known : IsKeptKnown k) (shape : k.shape �
       → ((m : ℕ) (x : Name) → m < n.mutators → word_at n words (barrier m (slice_index k.barrier_at m)) ≡ name_word x
       → word_at n words (barrier m (slice_index k.barrier_at m)) ≢ 0
       → word_at n us (barrier m (slice_index k.barrier_at m)) ≡ word_at n words
-          (barrier m (slice_index k.barrier_at m)))
+      (barrier m (slice_index k.barrier_at m)))
       → StageKeeps n words k stage → StageKeeps n us k stage
   keeps_same words us (Barriers (Clearing m x)) is same keeps =
       let low : m < n.mutators = subst (λ (y : Numbers). m < y.mutators) shape is.1.0 in

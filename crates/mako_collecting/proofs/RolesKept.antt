@@ -130,7 +130,7 @@ module _ (roles : List Role) (cycle region former : ℕ) (spare : List ℕ) (low
               (let same : counted (is_spare cycle (get_or roles_next r Home)) 1
               ≡ counted (is_spare cycle (get_or roles r Home)) 1 =
               ap (λ (x : Role). counted (is_spare cycle x) 1) (other
-                  ∙ get_or-set_other roles region r Home Home apart) in
+              ∙ get_or-set_other roles region r Home Home apart) in
               let none : counted (region == r) 1 ≡ 0 =
               ap (λ (b : Bool). counted b 1) (ne_eqb region r (λ z. apart (sym z))) in
               let b = before r few in omega arith)
@@ -253,8 +253,12 @@ module _ (w : Facts) (s : JointScene) (places : ℕ → ℕ) (k : Holdings) (giv
           ap (λ (b : Bool). counted b (gift.former + 1)) (ne_eqb tablet t d) in
           let one = given_one tablet gift.former t given in
           let was = o.done t (λ z. some (omega arith)) in
-          record { number = was.number; before = (let b = was.before in omega arith); inside = was.inside;
-              is = was.is })
+          record {
+            number = was.number;
+            before = (let b = was.before in omega arith);
+            inside = was.inside;
+            is = was.is;
+          })
     ]
 
     leaving_kept : After (StoringLeaving i gift) (at k (Choosing (StoringHome i gift)))
@@ -299,8 +303,12 @@ module _ (w : Facts) (s : JointScene) (places : ℕ → ℕ) (k : Holdings) (giv
   choice_kept (LoadingLive r place) x f h o = record { begun = refl; spares = o.spares; done = o.done; gift = tt }
   choice_kept (LoadingTop r place number) x f h o =
       tablets_kept r place number o
-      (record k { used = k.used ++ record { top = word_at n s.words (top (r * n.tablets + place));
-          live = number } ∷ [] })
+      (record k {
+        used = k.used ++ record {
+          top = word_at n s.words (top (r * n.tablets + place));
+          live = number;
+        } ∷ [];
+      })
       refl refl
   choice_kept (LoadingHome i) x f h o = home_kept i h.0 h.1 o (x.known.chosen i 0 x.keeps.stage.1)
   choice_kept (StoringLeaving i gift) x f h o = leaving_kept i gift o f x.keeps.stage.1.0 x.keeps.stage.1.2

@@ -67,8 +67,10 @@ pub past_root : (k kept : Holdings) (m q : ℕ) → k.shape ≡ kept.shape → m
     → IsPast k.shape kept (m * k.shape.roots + q + 1) (record { kept = kept; stage = Pausing (after_root k m q) })
 past_root k kept m q same inside low =
     let n : Numbers = k.shape in
-    by_test (λ (stage : PauseStage). IsPast n kept (m * n.roots + q + 1) (record { kept = kept;
-        stage = Pausing stage }))
+    by_test (λ (stage : PauseStage). IsPast n kept (m * n.roots + q + 1) (record {
+      kept = kept;
+      stage = Pausing stage;
+    }))
     (nat_lt (q + 1) n.roots) (LoadingRoot m (q + 1)) _ (λ e. at_root n kept m q m (q + 1) (omega arith))
     (λ e. by_test
     (λ (stage : PauseStage). IsPast n kept (m * n.roots + q + 1) (record { kept = kept; stage = Pausing stage }))

@@ -33,9 +33,9 @@ taken_matches words app m is_table all has passes =
     let rows = (has (ap is_simple is_table ∙ is_simple-table)).1 in
     let none : fault_of table words ≡ [] =
     subst (λ (a : App). fault_of a words ≡ []) is_table (passes (ap is_simple_and_free is_table
-        ∙ is_simple_and_free-table)) in
+    ∙ is_simple_and_free-table)) in
     subst (λ (t : Option (Text × List Row)). IsTaken words t) (sym (rows
-        ∙ ap (λ (a : App). subcommand_of a words) is_table))
+    ∙ ap (λ (a : App). subcommand_of a words) is_table))
     (taken words (plain_words words all) none)
 
 none_among : (k : ErrorKind) (kinds : Kinds) → kinds ≡ [] → IsAmong k kinds → ⊥
@@ -47,9 +47,12 @@ pub refused_matches : (words : List Text) (app : App) (e : Error) → app ≡ ta
 refused_matches words app e is_table fails found_memory =
     let has : HasKind (fault_of table words) e =
     subst (λ (a : App). HasKind (fault_of a words) e) is_table (fails (ap is_simple_and_free is_table
-        ∙ is_simple_and_free-table)) in
-    faulty_words words (λ none. elim has [ inl memory ↦ found_memory memory | inr among ↦ none_among (kind_of e)
-        (fault_of table words) none among ])
+    ∙ is_simple_and_free-table)) in
+    faulty_words words (λ none. elim has [
+      | inl memory ↦ found_memory memory
+      | inr among ↦ none_among (kind_of e)
+          (fault_of table words) none among
+    ])
 
 -- ---- the name and the matches of the subcommand
 
@@ -101,7 +104,7 @@ pub record HasSingle (name one : Text) (words : List Text) (f : Found) : Type 0 
 pair : (name one two : Text) (words : List Text) (n : Text) (f : Found)
     → ((a b : Text) → first_of one (given one a ∷ given two b ∷ []) ≡ Some a) →
     ((a b : Text) → first_of two (given one a ∷ given two b ∷ []) ≡ Some b)
-        → IsPair name one two words (Some (n, rows_of f)) → HasPair name one two words f
+    → IsPair name one two words (Some (n, rows_of f)) → HasPair name one two words f
 pair name one two words n f at_one at_two p = record {
   first = p.first;
   second = p.second;
@@ -192,7 +195,7 @@ load_given words n f no_replay no_gen no_count t = elim t [
 pub replay_says : (words : List Text) (f : Found) (first second : Text) (r : Option CommandLine)
     → HasPair (codes "replay") (codes "order") (codes "steps") words f →
     Some first ≡ first_value f (codes "order") → Some second ≡ first_value f (codes "steps")
-        → Finds (IsReplay first second) r → Finds (Says words) r
+    → Finds (IsReplay first second) r → Finds (Says words) r
 replay_says words f first second r has at_one at_two found =
     let one : first ≡ has.first = ap text_in (at_one ∙ has.first_is) in
     let two : second ≡ has.second = ap text_in (at_two ∙ has.second_is) in
@@ -208,7 +211,7 @@ replay_says words f first second r has at_one at_two found =
 pub gen_says : (words : List Text) (f : Found) (first second : Text) (r : Option CommandLine)
     → HasPair (codes "gen") (codes "seed") (codes "size") words f →
     Some first ≡ first_value f (codes "seed") → Some second ≡ first_value f (codes "size")
-        → Finds (IsGen first second) r → Finds (Says words) r
+    → Finds (IsGen first second) r → Finds (Says words) r
 gen_says words f first second r has at_one at_two found =
     let one : first ≡ has.first = ap text_in (at_one ∙ has.first_is) in
     let two : second ≡ has.second = ap text_in (at_two ∙ has.second_is) in

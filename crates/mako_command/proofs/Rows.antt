@@ -35,8 +35,13 @@ pub record IsPlain (word : Text) : Type 0 where
 
 -- a walk that stopped at a command, and the words behind its name
 abbrev stopped_at : Text → List Text → Walk
-stopped_at name words = record { held = nothing_held; waiting = idle; position = 1; is_trailing = false;
-    stopped = Some (name, words) }
+stopped_at name words = record {
+  held = nothing_held;
+  waiting = idle;
+  position = 1;
+  is_trailing = false;
+  stopped = Some (name, words);
+}
 
 stopped_walk : (c : List Rule) (names : Names) (name : Text) (words rest : List Text) →
     fold (walked c names) (stopped_at name words) rest ≡ stopped_at name (words ++ rest)
@@ -60,7 +65,7 @@ replay_taken first second p q = rw (p.no_dashes, p.no_long, p.no_short, q.no_das
 
 replay_rows : (first second : Text) → IsPlain first → IsPlain second →
     subcommand_of table (codes "replay" ∷ first ∷ second ∷ []) ≡ Some
-        (codes "replay", given (codes "order") first ∷ given (codes "steps") second ∷ [])
+    (codes "replay", given (codes "order") first ∷ given (codes "steps") second ∷ [])
 unfolding clap_on_literals
 replay_rows first second p q = rw (p.no_dashes, p.no_long, p.no_short, q.no_dashes, q.no_long, q.no_short) refl
 
@@ -71,7 +76,7 @@ gen_taken first second p q = rw (p.no_dashes, p.no_long, p.no_short, q.no_dashes
 
 gen_rows : (first second : Text) → IsPlain first → IsPlain second →
     subcommand_of table (codes "gen" ∷ first ∷ second ∷ []) ≡ Some
-        (codes "gen", given (codes "seed") first ∷ given (codes "size") second ∷ [])
+    (codes "gen", given (codes "seed") first ∷ given (codes "size") second ∷ [])
 unfolding clap_on_literals
 gen_rows first second p q = rw (p.no_dashes, p.no_long, p.no_short, q.no_dashes, q.no_long, q.no_short) refl
 
@@ -203,7 +208,7 @@ fails {k} {ks} e none =
 
 after_replay : (words : List Text) → All IsPlain words → fault_of table (codes "replay" ∷ words) ≡ [] →
     IsPair (codes "replay") (codes "order") (codes "steps") (codes "replay" ∷ words)
-        (subcommand_of table (codes "replay" ∷ words))
+    (subcommand_of table (codes "replay" ∷ words))
 after_replay [] plain none = absurd (fails replay_alone none)
 after_replay (first ∷ []) plain none = absurd (fails (replay_short first (plain 0 first (omega arith))) none)
 after_replay (first ∷ second ∷ []) plain none = record {
@@ -214,7 +219,7 @@ after_replay (first ∷ second ∷ []) plain none = record {
 }
 after_replay (first ∷ second ∷ third ∷ rest) plain none =
     absurd (fails (replay_long first second third rest (plain 0 first (omega arith)) (plain 1 first (omega arith))
-        (plain 2 first (omega arith))) none)
+    (plain 2 first (omega arith))) none)
 
 after_gen : (words : List Text) → All IsPlain words → fault_of table (codes "gen" ∷ words) ≡ [] →
     IsPair (codes "gen") (codes "seed") (codes "size") (codes "gen" ∷ words) (subcommand_of table (codes "gen" ∷ words))
@@ -228,47 +233,53 @@ after_gen (first ∷ second ∷ []) plain none = record {
 }
 after_gen (first ∷ second ∷ third ∷ rest) plain none =
     absurd (fails (gen_long first second third rest (plain 0 first (omega arith)) (plain 1 first (omega arith))
-        (plain 2 first (omega arith))) none)
+    (plain 2 first (omega arith))) none)
 
 after_count : (words : List Text) → All IsPlain words → fault_of table (codes "count" ∷ words) ≡ [] →
     IsSingle (codes "count") (codes "workers") (codes "count" ∷ words) (subcommand_of table (codes "count" ∷ words))
 after_count [] plain none = absurd (fails count_alone none)
-after_count (first ∷ []) plain none = record { first = first; words_are = refl;
-    taken_as = count_rows first (plain 0 first (omega arith)) }
+after_count (first ∷ []) plain none = record {
+  first = first;
+  words_are = refl;
+  taken_as = count_rows first (plain 0 first (omega arith));
+}
 after_count (first ∷ second ∷ rest) plain none =
     absurd (fails (count_long first second rest (plain 0 first (omega arith)) (plain 1 first (omega arith))) none)
 
 after_load : (words : List Text) → All IsPlain words → fault_of table (codes "load" ∷ words) ≡ [] →
     IsSingle (codes "load") (codes "number") (codes "load" ∷ words) (subcommand_of table (codes "load" ∷ words))
 after_load [] plain none = absurd (fails load_alone none)
-after_load (first ∷ []) plain none = record { first = first; words_are = refl;
-    taken_as = load_rows first (plain 0 first (omega arith)) }
+after_load (first ∷ []) plain none = record {
+  first = first;
+  words_are = refl;
+  taken_as = load_rows first (plain 0 first (omega arith));
+}
 after_load (first ∷ second ∷ rest) plain none =
     absurd (fails (load_long first second rest (plain 0 first (omega arith)) (plain 1 first (omega arith))) none)
 
 -- the name decides
 named : (name : Text) (rest : List Text) → IsPlain name → All IsPlain rest → fault_of table (name ∷ rest) ≡ [] →
     (r g c l : Bool) → bytes_eq (codes "replay") name ≡ r → bytes_eq (codes "gen") name ≡ g
-        → bytes_eq (codes "count") name ≡ c → bytes_eq (codes "load") name ≡ l →
+    → bytes_eq (codes "count") name ≡ c → bytes_eq (codes "load") name ≡ l →
     IsTaken (name ∷ rest) (subcommand_of table (name ∷ rest))
 named name rest p plain none true g c l is_replay is_gen is_count is_load =
     let same : codes "replay" ≡ name = (bytes_eq-Decides (codes "replay") name).0 is_replay in
     subst (λ (n : Text). fault_of table (n ∷ rest) ≡ []
-        → IsTaken (n ∷ rest) (subcommand_of table (n ∷ rest))) same (λ e. inl (after_replay rest plain e)) none
+    → IsTaken (n ∷ rest) (subcommand_of table (n ∷ rest))) same (λ e. inl (after_replay rest plain e)) none
 named name rest p plain none false true c l is_replay is_gen is_count is_load =
     let same : codes "gen" ≡ name = (bytes_eq-Decides (codes "gen") name).0 is_gen in
     subst (λ (n : Text). fault_of table (n ∷ rest) ≡ []
-        → IsTaken (n ∷ rest) (subcommand_of table (n ∷ rest))) same (λ e. inr (inl (after_gen rest plain e))) none
+    → IsTaken (n ∷ rest) (subcommand_of table (n ∷ rest))) same (λ e. inr (inl (after_gen rest plain e))) none
 named name rest p plain none false false true l is_replay is_gen is_count is_load =
     let same : codes "count" ≡ name = (bytes_eq-Decides (codes "count") name).0 is_count in
     subst (λ (n : Text). fault_of table (n ∷ rest) ≡ []
-        → IsTaken (n ∷ rest) (subcommand_of table (n ∷ rest))) same
-        (λ e. inr (inr (inl (after_count rest plain e)))) none
+    → IsTaken (n ∷ rest) (subcommand_of table (n ∷ rest))) same
+    (λ e. inr (inr (inl (after_count rest plain e)))) none
 named name rest p plain none false false false true is_replay is_gen is_count is_load =
     let same : codes "load" ≡ name = (bytes_eq-Decides (codes "load") name).0 is_load in
     subst (λ (n : Text). fault_of table (n ∷ rest) ≡ []
-        → IsTaken (n ∷ rest) (subcommand_of table (n ∷ rest))) same
-        (λ e. inr (inr (inr (after_load rest plain e)))) none
+    → IsTaken (n ∷ rest) (subcommand_of table (n ∷ rest))) same
+    (λ e. inr (inr (inr (after_load rest plain e)))) none
 named name rest p plain none false false false false is_replay is_gen is_count is_load =
     absurd (fails (other_refused name rest p is_replay is_gen is_count is_load) none)
 
@@ -278,4 +289,4 @@ pub taken : (words : List Text) → All IsPlain words → fault_of table words �
 taken [] plain none = absurd (fails no_words none)
 taken (name ∷ rest) plain none =
     named name rest (plain 0 name (omega arith))
-        (λ k d l. plain (suc k) d (omega arith)) none _ _ _ _ refl refl refl refl
+    (λ k d l. plain (suc k) d (omega arith)) none _ _ _ _ refl refl refl refl

@@ -64,14 +64,14 @@ digits_pass [] p = refl
 digits_pass (c ∷ cs) p =
     let both = parts (is_ascii_digit c) (all_ascii_digits cs) p in
     and_from (is_plain c) (list_all is_plain cs) (or_right (is_ascii_lowercase c) (is_ascii_digit c) both.0)
-        (digits_pass cs both.1)
+    (digits_pass cs both.1)
 
 decimal_word : (n : ℕ) → n < 2 ^ 64 → is_word (decimal n) ≡ true
 decimal_word n small =
     let few : n < 10 ^ 20 = omega (arith, small) in
     and_from _ _ (le-leb 1 _ (decimal_nonempty n small))
     (and_from _ _ (le-leb _ 20 (length-decimal-le 20 n (omega arith) few small))
-        (digits_pass (decimal n) (digits_decimal own n small)))
+    (digits_pass (decimal n) (digits_decimal own n small)))
 
 number_word : (low high : ℕ) (word : Text) (n : ℕ) → high ≤ max_seed → IsNumber low high word n → is_word word ≡ true
 number_word low high word n fits h =
@@ -121,16 +121,18 @@ said_words (name ∷ []) line h = absurd h
 said_words (name ∷ first ∷ []) line h = elim h [
   | inl c ↦ let p = count_words first line c.1 in
       subst (λ (n : Text). IsTakenWhole (n ∷ first ∷ [])) (sym c.0)
-          (and_from _ _ p refl, count_taken first (plain_word first p))
+      (and_from _ _ p refl, count_taken first (plain_word first p))
   | inr l ↦ let p = load_words first line l.1 in
       subst (λ (n : Text). IsTakenWhole (n ∷ first ∷ [])) (sym l.0)
-          (and_from _ _ p refl, load_taken first (plain_word first p))
+      (and_from _ _ p refl, load_taken first (plain_word first p))
 ]
 said_words (name ∷ first ∷ second ∷ []) line h = elim h [
   | inl r ↦ let p = replay_words first second line r.1 in
-      subst (λ (n : Text). IsTakenWhole (n ∷ first ∷ second ∷ [])) (sym r.0)
-      (and_from _ _ p.0 (and_from _ _ p.1 refl), replay_taken first second (plain_word first p.0)
-          (plain_word second p.1))
+      subst (λ (n : Text). IsTakenWhole (n ∷ first ∷ second ∷ [])) (sym r.0) (
+        and_from _ _ p.0 (and_from _ _ p.1 refl),
+        replay_taken first second (plain_word first p.0)
+            (plain_word second p.1),
+      )
   | inr g ↦ let p = gen_words first second line g.1 in
       subst (λ (n : Text). IsTakenWhole (n ∷ first ∷ second ∷ [])) (sym g.0)
       (and_from _ _ p.0 (and_from _ _ p.1 refl), gen_taken first second (plain_word first p.0) (plain_word second p.1))

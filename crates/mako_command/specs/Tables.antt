@@ -44,8 +44,13 @@ table = record {
 
 -- an argument that was given as this text
 abbrev pub given : Text → Text → Row
-given id text = record { id = id; values = text ∷ []; count = None; source = Some source.CommandLine;
-    reading = AsWritten }
+given id text = record {
+  id = id;
+  values = text ∷ [];
+  count = None;
+  source = Some source.CommandLine;
+  reading = AsWritten;
+}
 
 -- the words are a name and two texts, which were taken as the command with its arguments
 pub record IsPair (name one two : Text) (words : List Text) (taken : Option (Text × List Row)) : Type 0 where

@@ -52,10 +52,10 @@ listed f zero k xs few first rest = record {
 listed f (suc c) k [] few first rest = absurd (omega arith)
 listed f (suc c) k (x ∷ xs) few first rest =
     let head : replies_in (x ∷ xs) ≡ f (k + 0) ∷ replies_in xs =
-        ap (λ (l : List (List Reply)). l ++ replies_in xs) (first 0 x refl (omega arith)) in
+    ap (λ (l : List (List Reply)). l ++ replies_in xs) (first 0 x refl (omega arith)) in
     let tail : Listed f (k + 1) c (replies_in xs) = listed f c (k + 1) xs (omega arith)
     (λ i v here low. first (suc i) v here (omega arith)
-        ∙ ap (λ j. f j ∷ []) (let e : k + suc i ≡ k + 1 + i = omega arith in e))
+    ∙ ap (λ j. f j ∷ []) (let e : k + suc i ≡ k + 1 + i = omega arith in e))
     (λ i v here high. rest (suc i) v here (omega arith)) in
     let few_more = tail.count in
     record {
@@ -94,7 +94,7 @@ module _ (n : Numbers) (w : Facts) (st : CoreState) (stands : SeatsStand n w st)
   ends_as =
       let last = some_at st.seats (length st.seats - 1) (omega (arith, count)) in
       collector_at (length st.seats - 1) last.0 last.1 (omega (arith, count))
-          (stands.all.each (length st.seats - 1) last.0 last.1)
+      (stands.all.each (length st.seats - 1) last.0 last.1)
 
   pub last_collector : EndsWithCollector st.seats
   last_collector = record { collector = ends_as.collector; last = ends_as.last }

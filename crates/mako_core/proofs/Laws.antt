@@ -95,8 +95,10 @@ module _ (s : ScriptView) (st : CoreState) (stands : SeatsStand s.numbers (facts
   put_together t = record {
     words = words_stepped t st.words;
     seats = set st.seats i (machine t);
-    front = record { history = points_by (came_to t) st.front.history;
-        finished = cycles_in (set st.seats i (machine t)) };
+    front = record {
+      history = points_by (came_to t) st.front.history;
+      finished = cycles_in (set st.seats i (machine t));
+    };
   }
 
   -- the collector has the finished cycles of the state after it
@@ -136,7 +138,7 @@ module _ (s : ScriptView) (st : CoreState) (stands : SeatsStand s.numbers (facts
 module _ {A : Type 0} (shape : Numbers) (s : ScriptView) (ws : List ℕ) (seats : List Seat) (points : List Point)
     (room : ℕ) (lists : List A) (lists_room : ℕ)
     (holds : CoreHolds shape (core_view s ws seats points) room lists lists_room) (i : ℕ) (v : Seat)
-        (here : slice_get seats i ≡ Some v) where
+    (here : slice_get seats i ≡ Some v) where
   abbrev st : CoreState
   st = (core_view s ws seats points).state
 
@@ -151,8 +153,10 @@ module _ {A : Type 0} (shape : Numbers) (s : ScriptView) (ws : List ℕ) (seats 
     put = λ k. record {
       words = words_are k;
       seats = set seats i (seat_is k);
-      front = record { history = (points_are ∙ ap (λ q. points_by q points) result_is) k;
-          finished = cycles_in (set seats i (seat_is k)) };
+      front = record {
+        history = (points_are ∙ ap (λ q. points_by q points) result_is) k;
+        finished = cycles_in (set seats i (seat_is k));
+      };
     }
 
     pub state_is : (core_view s us (set seats i x) after).state ≡ step_of st i

@@ -156,7 +156,7 @@ history_fits s front answers =
     let all = each_is_one points in
     let from : FollowsFrom 0 w.programs points = λ i m program e is.
     subst (λ z. IsPrefix (calls_by z points) program) (let d : i ≡ m = omega arith in
-        d) (answers.programs i program is) in
+    d) (answers.programs i program is) in
     let few = all_mutators 0 (length w.programs) w.programs points from (omega arith) in
     let none = none_from (length w.programs) (opening_of w) points answers.lawful.legal
     (length-replicate (length w.programs) (opening_roots w.roots)) in

@@ -36,34 +36,34 @@ one_less k = omega arith
 -- the last of the roots is written first
 pub root_written : (n : Numbers) (ws : List ℕ) (m : ℕ) → 0 < m →
     written n (set ws (index n (root (m - 1) 0)) (name_word board_name)) (board_roots (m - 1)) ≡ written n ws
-        (board_roots m)
+    (board_roots m)
 root_written n ws zero low = absurd (omega arith)
 root_written n ws (suc k) low = rw (one_less k) refl
 
 pub home_written : (n : Numbers) (ws : List ℕ) (t : ℕ) → 0 < t →
     written n (set ws (index n (home (t - 1))) (opening_home n (t - 1))) (first_homes n (t - 1)) ≡ written n ws
-        (first_homes n t)
+    (first_homes n t)
 home_written n ws zero low = absurd (omega arith)
 home_written n ws (suc k) low = rw (one_less k) refl
 
 pub all_written : (n : Numbers) (board : ℕ) (zs ws us vs : List ℕ) → zs ≡ replicate (total n) 0
     → ws ≡ written n zs (board_roots n.mutators) →
     us ≡ written n ws (first_homes n (n.servers * n.tablets)) → vs ≡ written n us (board_places n board)
-        → vs ≡ words_at_start n board
+    → vs ≡ words_at_start n board
 unfolding words_at_start
 all_written n board zs ws us vs zeros roots homes places =
     let tablets = n.servers * n.tablets in
     let last : vs ≡ written n
-        (written n (written n (replicate (total n) 0) (board_roots n.mutators)) (first_homes n tablets))
-        (board_places n board) =
+    (written n (written n (replicate (total n) 0) (board_roots n.mutators)) (first_homes n tablets))
+    (board_places n board) =
     places ∙ ap (λ (xs : List ℕ). written n xs (board_places n board)) (homes
-        ∙ ap (λ (xs : List ℕ). written n xs (first_homes n tablets)) (roots
-        ∙ ap (λ (xs : List ℕ). written n xs (board_roots n.mutators)) zeros)) in
+    ∙ ap (λ (xs : List ℕ). written n xs (first_homes n tablets)) (roots
+    ∙ ap (λ (xs : List ℕ). written n xs (board_roots n.mutators)) zeros)) in
     last
     ∙ sym (written_append n (written n (replicate (total n) 0) (board_roots n.mutators)) (first_homes n tablets)
-        (board_places n board))
+    (board_places n board))
     ∙ sym (written_append n (replicate (total n) 0) (board_roots n.mutators)
-        (first_homes n tablets ++ board_places n board))
+    (first_homes n tablets ++ board_places n board))
 
 -- ---- seats
 
@@ -78,7 +78,7 @@ driver_more n k (suc m) (x ∷ ps) p here =
     let at : k + 1 + m ≡ k + suc m = omega arith in
     ap (λ (vs : List Seat). Mutator (opening_driver n k x) ∷ vs)
     (driver_more n (k + 1) m ps p here
-        ∙ ap (λ j. mutators_from n (k + 1) (take m ps) ++ Mutator (opening_driver n j p) ∷ []) at)
+    ∙ ap (λ j. mutators_from n (k + 1) (take m ps) ++ Mutator (opening_driver n j p) ∷ []) at)
 
 pub mutators_more : (n : Numbers) (m : ℕ) (ps : List ProgramView) (p : ProgramView) → slice_get ps m ≡ Some p →
     mutators_from n 0 (take (m + 1) ps) ≡ mutators_from n 0 (take m ps) ++ Mutator (opening_driver n m p) ∷ []
@@ -104,7 +104,7 @@ servers_more n s =
     let at : 0 + s ≡ s = omega arith in
     let more : s + 1 ≡ suc s = omega arith in
     ap (λ j. servers_from n 0 j) more ∙ server_more n 0 s
-        ∙ ap (λ j. servers_from n 0 s ++ Server (serving.opening n j) ∷ []) at
+    ∙ ap (λ j. servers_from n 0 s ++ Server (serving.opening n j) ∷ []) at
 
 -- each index of a list has an element
 pub some_at : {A : Type 0} (xs : List A) (i : ℕ) → i < length xs → (x : A) × (slice_get xs i ≡ Some x)
@@ -131,8 +131,8 @@ seats_are s = append_assoc (mutators_from s.numbers 0 s.programs) (servers_from 
 no_cycles : (s : ScriptView) → cycles_in (opening_seats s) ≡ []
 no_cycles s =
     ap cycles_in (sym (seats_are s))
-        ∙ last_cycles (mutators_from s.numbers 0 s.programs ++ servers_from s.numbers 0 s.numbers.servers)
-        (Collector (collecting.opening s))
+    ∙ last_cycles (mutators_from s.numbers 0 s.programs ++ servers_from s.numbers 0 s.numbers.servers)
+    (Collector (collecting.opening s))
 
 -- ---- the whole
 

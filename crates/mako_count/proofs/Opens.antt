@@ -1,5 +1,6 @@
 -- The words at the start meet the rule.
-use Rattle.std.proofs.Common.{◌≡◌, ℕ, zero, suc, ◌+◌, ◌^◌, ◌<◌, ◌≤◌, List, [], ◌∷◌, ◌++◌, length, get_or, replicate, sum, sum_by, sym, refl, ap, ◌∙◌, subst, arith}
+use Rattle.std.proofs.Common.{◌≡◌, ℕ, zero, suc, ◌+◌, ◌^◌, ◌<◌, ◌≤◌, List, [], ◌∷◌, ◌++◌, length, get_or, replicate}
+use Rattle.std.proofs.Common.{sum, sum_by, sym, refl, ap, ◌∙◌, subst, arith}
 use mathlib.Core.Option.{some, some-injective, some-ne-none}
 use lib.ListN.{get_elem?, length-replicate}
 use Rattle.std.proofs.lemmas.List.Sums.{sum_by-cons}
@@ -9,7 +10,8 @@ use Rattle.mako_count.specs.declared.views.WorkerView.{WorkerView}
 use Rattle.mako_count.specs.declared.views.View.{View}
 use Rattle.mako_count.specs.declared.setup.Setup.{Setup}
 use Rattle.mako_count.specs.Views.{openings, opening_worker, opening_poll, nothing_read}
-use Rattle.mako_count.specs.Counting.{Counters, pieces_at, pieces, FitsWorker, FitsPoll, FitsView, below, CountingHolds, opening_view}
+use Rattle.mako_count.specs.Counting.{Counters, pieces_at, pieces, FitsWorker, FitsPoll, FitsView, below, CountingHolds}
+use Rattle.mako_count.specs.Counting.{opening_view}
 use Rattle.mako_count.proofs.Numbers.{sum-cons}
 use Rattle.mako_count.proofs.PollReads.{all_quiet}
 
@@ -22,10 +24,12 @@ zeros_sum : (n : ℕ) → sum (replicate n zero) ≡ zero
 zeros_sum zero = refl
 zeros_sum (suc n) = let h = zeros_sum n in let e = sum-cons 0 (replicate n 0) in omega (arith, h, e)
 
-pub openings_at : (i : ℕ) (l : List ℕ) (k : ℕ) (d : WorkerView) → k < length l → get_or (openings i l) k d ≡ opening_worker (i + k) (get_or l k 0)
+pub openings_at : (i : ℕ) (l : List ℕ) (k : ℕ) (d : WorkerView) → k < length l
+    → get_or (openings i l) k d ≡ opening_worker (i + k) (get_or l k 0)
 openings_at i [] k d lt = absurd (omega arith)
 openings_at i (x ∷ xs) zero d lt = let e : i ≡ i + 0 = omega arith in ap (λ j. opening_worker j x) e
-openings_at i (x ∷ xs) (suc k) d lt = let e : suc i + k ≡ i + suc k = omega arith in openings_at (suc i) xs k d (omega arith) ∙ ap (λ j. opening_worker j (get_or xs k 0)) e
+openings_at i (x ∷ xs) (suc k) d lt = let e : suc i + k ≡ i + suc k = omega arith in
+    openings_at (suc i) xs k d (omega arith) ∙ ap (λ j. opening_worker j (get_or xs k 0)) e
 
 pub openings_length : (i : ℕ) (l : List ℕ) → length (openings i l) ≡ length l
 openings_length i [] = refl
@@ -33,14 +37,19 @@ openings_length i (x ∷ xs) = let h = openings_length (suc i) xs in omega arith
 
 nothing_held : (i : ℕ) (l : List ℕ) → sum_by (λ w. pieces_at w.hand) (openings i l) ≡ 0
 nothing_held i [] = refl
-nothing_held i (x ∷ xs) = let h = nothing_held (suc i) xs in let e = sum_by-cons (λ (w : WorkerView). pieces_at w.hand) (opening_worker i x) (openings (suc i) xs) in omega (arith, h, e)
+nothing_held i (x ∷ xs) = let h = nothing_held (suc i) xs in
+    let e = sum_by-cons (λ (w : WorkerView). pieces_at w.hand) (opening_worker i x) (openings (suc i) xs) in
+    omega (arith, h, e)
 
-each_once : (f : ℕ → ℕ) (i : ℕ) (l : List ℕ) → sum_by (λ w. f w.number) (openings i l) ≡ below (λ j. f (i + j)) (length l)
+each_once : (f : ℕ → ℕ) (i : ℕ) (l : List ℕ)
+    → sum_by (λ w. f w.number) (openings i l) ≡ below (λ j. f (i + j)) (length l)
 each_once f i [] = refl
 each_once f i (x ∷ xs) =
-    let h = each_once f (suc i) xs in let e = sum_by-cons (λ (w : WorkerView). f w.number) (opening_worker i x) (openings (suc i) xs) in
+    let h = each_once f (suc i) xs in
+    let e = sum_by-cons (λ (w : WorkerView). f w.number) (opening_worker i x) (openings (suc i) xs) in
     let shift : (j : ℕ) → suc i + j ≡ i + suc j = λ j. omega arith in let start : i ≡ i + 0 = omega arith in
-    let tail : below (λ j. f (suc i + j)) (length xs) ≡ below (λ j. f (i + suc j)) (length xs) = λ t. below (λ j. f (shift j t)) (length xs) in let head : f i ≡ f (i + 0) = ap f start in
+    let tail : below (λ j. f (suc i + j)) (length xs) ≡ below (λ j. f (i + suc j)) (length xs) =
+    λ t. below (λ j. f (shift j t)) (length xs) in let head : f i ≡ f (i + 0) = ap f start in
     omega (arith, h, e, tail, head)
 
 abbrev start : List ℕ → Counters
@@ -68,10 +77,13 @@ polls seeds = record {
   told = λ n e. cc;
 }
 
-pub opens : (k : Setup) (words : List ℕ) → words ≡ k.seeds.items ++ (replicate (length k.seeds.items) 0 ++ k.seeds.items) → ((i : ℕ) → get_or k.seeds.items i 0 < 2 ^ 32) → length k.seeds.items ≤ 64
+pub opens : (k : Setup) (words : List ℕ)
+    → words ≡ k.seeds.items ++ (replicate (length k.seeds.items) 0 ++ k.seeds.items)
+    → ((i : ℕ) → get_or k.seeds.items i 0 < 2 ^ 32) → length k.seeds.items ≤ 64
     → CountingHolds k (opening words [] (opening_view k))
 opens k words e small few =
-    let seeds : List ℕ = k.seeds.items in let n : ℕ = length seeds in let v : View = opening_view k in let held : pieces (v ∷ []) ≡ 0 = let h = nothing_held 0 seeds in omega arith in (
+    let seeds : List ℕ = k.seeds.items in let n : ℕ = length seeds in let v : View = opening_view k in
+    let held : pieces (v ∷ []) ≡ 0 = let h = nothing_held 0 seeds in omega arith in (
       start seeds,
       e,
       record {
@@ -81,10 +93,14 @@ opens k words e small few =
         waiting_length = refl;
         small = λ i. let s = small i in omega arith;
         balance = let z = zeros_sum n in omega arith;
-        once = λ f. let h = each_once f 0 seeds in let shift : (j : ℕ) → 0 + j ≡ j = λ j. omega arith in let same : below (λ j. f (0 + j)) n ≡ below f n = λ t. below (λ j. f (shift j t)) n in omega (arith, h, same);
+        once = λ f. let h = each_once f 0 seeds in let shift : (j : ℕ) → 0 + j ≡ j = λ j. omega arith in
+            let same : below (λ j. f (0 + j)) n ≡ below f n = λ t. below (λ j. f (shift j t)) n in
+            omega (arith, h, same);
         fits = λ id u at. subst (λ y. FitsView (start seeds) (pieces (v ∷ [])) y) (only id u at) (
-          (λ j d lt. let shift : 0 + j ≡ j = omega arith in let inside : j < n = omega (arith, openings_length 0 seeds) in
-              subst (λ w. FitsWorker (start seeds) w) (sym (openings_at 0 seeds j d inside ∙ ap (λ q. opening_worker q (get_or seeds j 0)) shift)) (starts seeds j inside)),
+          (λ j d lt. let shift : 0 + j ≡ j = omega arith in
+              let inside : j < n = omega (arith, openings_length 0 seeds) in
+              subst (λ w. FitsWorker (start seeds) w) (sym (openings_at 0 seeds j d inside
+              ∙ ap (λ q. opening_worker q (get_or seeds j 0)) shift)) (starts seeds j inside)),
           subst (λ q. FitsPoll (start seeds) q (opening_poll n)) (sym held) (polls seeds),
         );
       },

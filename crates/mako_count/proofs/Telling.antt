@@ -16,17 +16,20 @@ pub record Telling (p : PollView) : Type 0 where
   pub later_handled : sum p.later.handled ≡ sum p.first.sent
 
 whole_parts : (n : ℕ) (r : Reading) → is_whole n r ≡ true → IsWholeReading n r
-whole_parts n r e = let t = and_parts (length r.sent == n) (length r.handled == n) e in (eqb-true (length r.sent) n t.0, eqb-true (length r.handled) n t.1)
+whole_parts n r e = let t = and_parts (length r.sent == n) (length r.handled == n) e in
+    (eqb-true (length r.sent) n t.0, eqb-true (length r.handled) n t.1)
 
 whole_from : (n : ℕ) (r : Reading) → IsWholeReading n r → is_whole n r ≡ true
-whole_from n r w = and_from (length r.sent == n) (length r.handled == n) (eq-eqb (length r.sent) n w.0) (eq-eqb (length r.handled) n w.1)
+whole_from n r w = and_from (length r.sent == n) (length r.handled == n) (eq-eqb (length r.sent) n w.0)
+    (eq-eqb (length r.handled) n w.1)
 
 pub telling : (p : PollView) → tells p ≡ true → Telling p
 telling p e =
     let t = and_parts p.again ((is_whole p.count p.first && is_whole p.count p.later) && agree p.first p.later) e in
     let u = and_parts (is_whole p.count p.first && is_whole p.count p.later) (agree p.first p.later) t.1 in
     let w = and_parts (is_whole p.count p.first) (is_whole p.count p.later) u.0 in
-    let a = and_parts (sum p.first.handled == sum p.first.sent) ((sum p.later.sent == sum p.first.sent) && (sum p.later.handled == sum p.first.sent)) u.1 in
+    let a = and_parts (sum p.first.handled == sum p.first.sent)
+    ((sum p.later.sent == sum p.first.sent) && (sum p.later.handled == sum p.first.sent)) u.1 in
     let b = and_parts (sum p.later.sent == sum p.first.sent) (sum p.later.handled == sum p.first.sent) a.1 in record {
       again = t.0;
       first = whole_parts p.count p.first w.0;
@@ -40,8 +43,11 @@ pub tells_so : (p : PollView) → Telling p → tells p ≡ true
 tells_so p t =
     and_from p.again ((is_whole p.count p.first && is_whole p.count p.later) && agree p.first p.later) t.again
     (and_from (is_whole p.count p.first && is_whole p.count p.later) (agree p.first p.later)
-    (and_from (is_whole p.count p.first) (is_whole p.count p.later) (whole_from p.count p.first t.first) (whole_from p.count p.later t.later))
-    (and_from (sum p.first.handled == sum p.first.sent) ((sum p.later.sent == sum p.first.sent) && (sum p.later.handled == sum p.first.sent))
+    (and_from (is_whole p.count p.first) (is_whole p.count p.later) (whole_from p.count p.first t.first)
+    (whole_from p.count p.later t.later))
+    (and_from (sum p.first.handled == sum p.first.sent)
+    ((sum p.later.sent == sum p.first.sent) && (sum p.later.handled == sum p.first.sent))
     (eq-eqb (sum p.first.handled) (sum p.first.sent) t.handled)
     (and_from (sum p.later.sent == sum p.first.sent) (sum p.later.handled == sum p.first.sent)
-    (eq-eqb (sum p.later.sent) (sum p.first.sent) t.later_sent) (eq-eqb (sum p.later.handled) (sum p.first.sent) t.later_handled))))
+    (eq-eqb (sum p.later.sent) (sum p.first.sent) t.later_sent)
+    (eq-eqb (sum p.later.handled) (sum p.first.sent) t.later_handled))))

@@ -37,7 +37,12 @@ judged p = if tells p then record p { told = Some (sum p.first.sent) } else p
 
 -- a pass begins with the first worker's sent word
 abbrev pub begun : ℕ → PollView → PollView
-begun n p = record p { first = p.later; later = record { sent = n ∷ []; handled = [] }; passes = p.passes + 1; again = not p.again }
+begun n p = record p {
+  first = p.later;
+  later = record { sent = n ∷ []; handled = [] };
+  passes = p.passes + 1;
+  again = not p.again;
+}
 
 abbrev pub sent_read : ℕ → PollView → PollView
 sent_read n p = record p { later = record p.later { sent = p.later.sent ++ n ∷ [] } }

@@ -1,6 +1,8 @@
--- The counting rule: pieces are counted when they are sent and when they are handled, and whoever counts twice and finds
+-- The counting rule: pieces are counted when they are sent and when they are handled, and whoever counts twice and
+-- finds
 -- all four sums equal knows that none is left.
-use Rattle.std.specs.Prelude.{◌≡◌, ℕ, zero, suc, ◌+◌, ◌^◌, ◌<◌, ◌≤◌, List, ◌++◌, length, drop, sum, sum_by, slice_index, All, MatchOption, Some}
+use Rattle.std.specs.Prelude.{◌≡◌, ℕ, zero, suc, ◌+◌, ◌^◌, ◌<◌, ◌≤◌, List, ◌++◌, length, drop, sum, sum_by, slice_index}
+use Rattle.std.specs.Prelude.{All, MatchOption, Some}
 use mathlib.Core.Option.{some}
 use lib.ListN.{get_elem?}
 use Rattle.atomic_table.specs.Table.{State}
@@ -99,7 +101,8 @@ below weight (suc n) = weight 0 + below (λ i. weight (suc i)) n
 abbrev pub weights : (ℕ → ℕ) → List View → ℕ
 weights weight views = sum_by (λ v. sum_by (λ w. weight w.number) v.workers) views
 
--- The rule, for n workers. However numbers are weighed, the workers of all views weigh what the numbers below n weigh: each
+-- The rule, for n workers. However numbers are weighed, the workers of all views weigh what the numbers below n weigh:
+-- each
 -- worker stands in one view, once
 pub record Counts (n : ℕ) (c : Counters) (views : List View) : Type 0 where
   pub few : n ≤ 64

@@ -22,10 +22,12 @@ pub record IsOver (crew : ℕ) (c : Counters) (views : List View) (n : ℕ) : Ty
 
 -- the rule leaves nothing to do wherever some seat was told
 abbrev pub ToldIsOver : Type 0
-ToldIsOver = (k : Setup) (s : State (Unit {0}) View) (id : ℕ) (v : View) (p : PollView) (n : ℕ) → CountingHolds k s → get_elem? s.views id ≡ some v → v.poll ≡ Some p → p.told ≡ Some n
+ToldIsOver = (k : Setup) (s : State (Unit {0}) View) (id : ℕ) (v : View) (p : PollView) (n : ℕ) → CountingHolds k s
+    → get_elem? s.views id ≡ some v → v.poll ≡ Some p → p.told ≡ Some n
     → (c : Counters) × (s.words ≡ words_of c) × IsOver (length k.seeds.items) c s.views n
 
--- Of two workers the first started with a piece, took it and has counted a second one as sent, which is in no box yet. A
+-- Of two workers the first started with a piece, took it and has counted a second one as sent, which is in no box yet.
+-- A
 -- poll read 1 and 0 before that, and the first sent word again after it
 abbrev pub example : Option ℕ → State (Unit {0}) View
 example told = record {
@@ -45,4 +47,5 @@ example told = record {
 
 -- the rule holds there, and not where the poller was told anything
 abbrev pub WorkedExample : Type 0
-WorkedExample = (k : Setup) → k.seeds.items ≡ 1 ∷ 0 ∷ [] → CountingHolds k (example None) × ((n : ℕ) → ¬ (CountingHolds k (example (Some n))))
+WorkedExample = (k : Setup) → k.seeds.items ≡ 1 ∷ 0 ∷ [] → CountingHolds k (example None)
+    × ((n : ℕ) → ¬ (CountingHolds k (example (Some n))))

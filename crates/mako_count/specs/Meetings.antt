@@ -4,7 +4,8 @@ use Rattle.mako_count.specs.declared.views.WorkerView.{WorkerView}
 use Rattle.mako_count.specs.declared.views.PollView.{PollView}
 use Rattle.mako_count.specs.Views.{Seated, poll_of}
 
--- What a told poller knows of the workers that it has met, of so many in all: each handled its seeds at least. If it has
+-- What a told poller knows of the workers that it has met, of so many in all: each handled its seeds at least. If it
+-- has
 -- met them all, as many pieces were told as they had seeds and sends
 abbrev pub MeetingTells : ℕ → List WorkerView → PollView → Type 0
 MeetingTells crew met p = (n : ℕ) → p.told ≡ Some n

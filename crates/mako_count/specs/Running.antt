@@ -18,4 +18,5 @@ IsSameWorker old new = (new.table ≡ old.table) × (new.most ≡ old.most) × (
 
 -- all workers of a table stand between pieces, each with so many seeds and so many sends to make
 abbrev pub AreBetweenPieces : TableId → ℕ → ℕ → List WorkerState → Type 0
-AreBetweenPieces table seeds most ws = All (λ w. (w.table ≡ table) × (w.most ≡ most) × (w.known.seeds ≡ seeds) × IsBetweenPieces w) ws
+AreBetweenPieces table seeds most ws = All (λ w. (w.table ≡ table) × (w.most ≡ most) × (w.known.seeds ≡ seeds)
+    × IsBetweenPieces w) ws

@@ -45,7 +45,8 @@ pub record IsPollerHeld (seat : Desk) : Type 0 where
 
 -- the workers as a count starts: each has its seeds and has done nothing
 abbrev pub AreStarting : TableId → List ℕ → ℕ → List WorkerState → Type 0
-AreStarting table seeds most ws = (map (λ w. w.known) ws ≡ openings 0 seeds) × All (λ w. (w.table ≡ table) × (w.most ≡ most)) ws
+AreStarting table seeds most ws = (map (λ w. w.known) ws ≡ openings 0 seeds)
+    × All (λ w. (w.table ≡ table) × (w.most ≡ most)) ws
 
 -- the poller as a count starts: it has met no worker and read nothing
 abbrev pub IsStartingPoller : TableId → ℕ → PollerState → Type 0

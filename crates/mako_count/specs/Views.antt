@@ -10,7 +10,15 @@ use Rattle.mako_count.specs.declared.views.View.{View}
 
 -- a worker at its start
 abbrev pub opening_worker : ℕ → ℕ → WorkerView
-opening_worker number seeds = record { number = number; seeds = seeds; sends = 0; handled = 0; looked = 0; filled = 0; hand = Free }
+opening_worker number seeds = record {
+  number = number;
+  seeds = seeds;
+  sends = 0;
+  handled = 0;
+  looked = 0;
+  filled = 0;
+  hand = Free;
+}
 
 -- the workers at their start, numbered on from the first
 abbrev pub openings : ℕ → List ℕ → List WorkerView

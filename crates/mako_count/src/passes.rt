@@ -51,7 +51,8 @@ impl Count {
         requires count { (poll_of seat.old.me.0).count ≡ crew_of self.now }
         ensures table { seat.new.table_id ≡ seat.old.table_id }
         ensures poller { IsPollers seat.new.me × (seat.new.me.0.workers ≡ seat.old.me.0.workers) }
-        ensures pass { IsPassTo (crew_of self.now) (poll_of seat.old.me.0) (poll_of seat.new.me.0) result.sent result.handled }
+        ensures pass { IsPassTo (crew_of self.now) (poll_of seat.old.me.0)
+            (poll_of seat.new.me.0) result.sent result.handled }
     {
         let mut sums = self.read_first(seat);
         for number in 1..self.workers {

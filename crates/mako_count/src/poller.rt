@@ -74,7 +74,8 @@ impl CountPoller {
         ensures same { (self.new.table ≡ self.old.table) × (self.new.met ≡ self.old.met) }
         // Two passes were made, in each of which each word was read, and the sums are those of the words found.
         ensures passes { self.new.poll.passes ≡ self.old.poll.passes + 2 }
-        ensures whole { IsWholeReading (crew_of count.now) self.new.poll.first × IsWholeReading (crew_of count.now) self.new.poll.later }
+        ensures whole { IsWholeReading (crew_of count.now) self.new.poll.first
+            × IsWholeReading (crew_of count.now) self.new.poll.later }
         ensures answer { IsAnswer self.old.poll self.new.poll result }
     {
         let first = count.pass(&mut self.seat);

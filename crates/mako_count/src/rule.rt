@@ -1,7 +1,8 @@
 //! The counting rule, and what each kind of step tells.
 
 ghost use Rattle.std.specs.Prelude.{◌^◌, ◌<◌};
-ghost use Rattle.mako_count.specs.Views.{worker_of, poll_of, first_of, rest_of, met_with, spent, IsSeatOf, IsPollersSeat};
+ghost use Rattle.mako_count.specs.Views.{worker_of, poll_of, first_of, rest_of, met_with, spent, IsSeatOf};
+ghost use Rattle.mako_count.specs.Views.{IsPollersSeat};
 ghost use Rattle.mako_count.specs.Changes.{begun, filling, grasped, handled_read, looking, raised, rested, sent_read};
 ghost use Rattle.mako_count.specs.Counting.{CountingHolds, opening_view};
 ghost use Rattle.mako_count.specs.Meetings.{MeetsAt};

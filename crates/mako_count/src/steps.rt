@@ -1,7 +1,8 @@
 //! The kinds of step, each one operation on one word.
 
 ghost use Rattle.std.specs.Prelude.{◌≡◌, ◌+◌, ◌*◌, ◌^◌, ◌<◌, length, []};
-ghost use Rattle.mako_count.specs.Views.{worker_of, poll_of, first_of, rest_of, met_with, IsSeatOf, IsWorkers, IsPollers, IsPollersSeat};
+ghost use Rattle.mako_count.specs.Views.{worker_of, poll_of, first_of, rest_of, met_with, IsSeatOf, IsWorkers};
+ghost use Rattle.mako_count.specs.Views.{IsPollers, IsPollersSeat};
 ghost use Rattle.mako_count.specs.Changes.{begun, filling, grasped, handled_read, looking, raised, rested, sent_read};
 ghost use Rattle.mako_count.specs.Meetings.{MeetingTells};
 ghost use Rattle.mako_count.specs.Tables.{table_of, crew_of};
@@ -74,7 +75,8 @@ impl Count {
         requires table { seat.old.table_id ≡ table_of self.now }
         requires poller { IsPollers seat.old.me }
         ensures table { seat.new.table_id ≡ seat.old.table_id }
-        ensures read { IsPollersSeat seat.old.me.0.workers (begun result (poll_of seat.old.me.0)) seat.new.me × (result < 2 ^ 40) }
+        ensures read { IsPollersSeat seat.old.me.0.workers (begun result (poll_of seat.old.me.0)) seat.new.me
+            × (result < 2 ^ 40) }
     {
         self.table.shared.load::<BeginsPass>(seat, 0)
     }
@@ -85,7 +87,8 @@ impl Count {
         requires poller { IsPollers seat.old.me }
         requires next { length (poll_of seat.old.me.0).later.sent ≡ number }
         ensures table { seat.new.table_id ≡ seat.old.table_id }
-        ensures read { IsPollersSeat seat.old.me.0.workers (sent_read result (poll_of seat.old.me.0)) seat.new.me × (result < 2 ^ 40) }
+        ensures read { IsPollersSeat seat.old.me.0.workers (sent_read result (poll_of seat.old.me.0)) seat.new.me
+            × (result < 2 ^ 40) }
     {
         self.table.shared.load::<ReadsSent>(seat, number)
     }
@@ -96,7 +99,8 @@ impl Count {
         requires poller { IsPollers seat.old.me }
         requires next { length (poll_of seat.old.me.0).later.handled ≡ number }
         ensures table { seat.new.table_id ≡ seat.old.table_id }
-        ensures read { IsPollersSeat seat.old.me.0.workers (handled_read result (poll_of seat.old.me.0)) seat.new.me × (result < 2 ^ 40) }
+        ensures read { IsPollersSeat seat.old.me.0.workers (handled_read result (poll_of seat.old.me.0)) seat.new.me
+            × (result < 2 ^ 40) }
     {
         let word = self.workers + number;
         self.table.shared.load::<ReadsHandled>(seat, word)

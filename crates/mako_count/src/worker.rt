@@ -83,7 +83,10 @@ impl Worker {
         ensures same { (self.new.table ≡ self.old.table) × (self.new.most ≡ self.old.most) }
         ensures spent { result ≡ Sent.Spent → (self.old.known.sends ≡ self.old.most) × (self.new ≡ self.old) }
         ensures sent { result ≡ Sent.Sent → (self.old.known.sends < self.old.most)
-            × (self.new.known ≡ record self.old.known { sends = self.old.known.sends + 1; filled = 2 * crew_of count.now + to }) }
+            × (self.new.known ≡ record self.old.known {
+              sends = self.old.known.sends + 1;
+              filled = 2 * crew_of count.now + to;
+            }) }
     {
         if self.sends == self.most {
             return Sent::Spent;

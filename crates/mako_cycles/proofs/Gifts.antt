@@ -138,7 +138,7 @@ module _ (n : Numbers) (homes : ℕ → ℕ) (given : List ℕ) where
   barriers_give : (k : Holdings) (m : ℕ) → Base n k homes given → given ≡ [] → Giving n (barriers_from k m) homes given
   barriers_give k m h none =
       when_eq (λ c. Giving n c homes given) _ _ m k.shape.mutators
-          (λ e. empty_gives k (position is_open k.windows) h none) (λ e. record { base = h; stage = none })
+      (λ e. empty_gives k (position is_open k.windows) h none) (λ e. record { base = h; stage = none })
 
   told_gives : (k : Holdings) → Base n k homes given → given ≡ [] → Giving n (told k) homes given
   told_gives k h none =
@@ -185,37 +185,41 @@ module _ (n : Numbers) (homes : ℕ → ℕ) (given : List ℕ) where
       → Giving n (pause_fed k s w) homes given
   pause_gives k (Shutting pause m) w h none =
       when_eq (λ c. Giving n c homes given) _ _ (m + 1) k.shape.mutators (λ e. record { base = h; stage = none })
-          (λ e. record { base = h; stage = none })
+      (λ e. record { base = h; stage = none })
   pause_gives k (Draining pause m) w h none =
       when_lt (λ c. Giving n c homes given) _ _ 0 (count_of w) (λ e. record { base = h; stage = none })
       (λ e. when_eq (λ c. Giving n c homes given) _ _ (m + 1) k.shape.mutators (λ f. paused_gives k pause h none)
-          (λ f. record { base = h; stage = none }))
+      (λ f. record { base = h; stage = none }))
   pause_gives k (LoadingRoot m q) w h none = record { base = h; stage = none }
   pause_gives k StoringTrace w h none = record { base = h; stage = none }
   pause_gives k (Opening m) w h none =
       when_eq (λ c. Giving n c homes given) _ _ (m + 1) k.shape.mutators (λ e. forward_gives k k.pending h none)
-          (λ e. record { base = h; stage = none })
+      (λ e. record { base = h; stage = none })
 
   round_gives : (k : Holdings) (s : ForwardStage) (w : ℕ) → Base n k homes given → given ≡ []
       → Giving n (forward_fed k s w) homes given
   round_gives k (Looking x) w h none =
-      when_eq (λ c. Giving n c homes given) _ _ w 0 (λ e. record { base = h; stage = none }) (λ e. record { base = h;
-      stage = none })
+      when_eq (λ c. Giving n c homes given) _ _ w 0 (λ e. record { base = h; stage = none }) (λ e. record {
+        base = h;
+        stage = none;
+      })
   round_gives k (Storing x) w h none =
       forward_gives (set_window k (owner k.shape x) (head_up (window_of k (owner k.shape x)))) k.pending h none
 
   barrier_gives : (k : Holdings) (s : BarrierStage) (w : ℕ) → Base n k homes given → given ≡ []
       → Giving n (barrier_fed k s w) homes given
   barrier_gives k (Loading m) w h none =
-      when_eq (λ c. Giving n c homes given) _ _ w 0 (λ e. barriers_give k (m + 1) h none) (λ e. record { base = h;
-      stage = none })
+      when_eq (λ c. Giving n c homes given) _ _ w 0 (λ e. barriers_give k (m + 1) h none) (λ e. record {
+        base = h;
+        stage = none;
+      })
   barrier_gives k (Clearing m x) w h none = record { base = h; stage = none }
 
   emptied_gives : (k : Holdings) (s w : ℕ) → Base n k homes given → given ≡ [] → Giving n (empty_fed k s w) homes given
   emptied_gives k s w h none =
       when_eq (λ c. Giving n c homes given) _ _ w 0
       (λ e. (let up = set_window k s (tail_up k.shape.ring (window_of k s)) in
-          empty_gives up (position is_open up.windows) h none)) (λ e. record { base = h; stage = none })
+      empty_gives up (position is_open up.windows) h none)) (λ e. record { base = h; stage = none })
 
 -- ---- the tablets that are chosen
 server_here : (n : Numbers) (s other place : ℕ) → place < n.tablets → s ≡ other
@@ -262,7 +266,7 @@ module _ (k : Holdings) (s : ℕ) (below : s < k.shape.servers) (full : length k
     below = All-append (λ t. t < k.shape.servers * k.shape.tablets) k.chosen
         (map (λ place. s * k.shape.tablets + place) (choice k.used k.shape.spare)) chosen.below
         (All-map (λ t. t < k.shape.servers * k.shape.tablets) (λ (place : ℕ). s * k.shape.tablets + place)
-            (choice k.used k.shape.spare)
+        (choice k.used k.shape.spare)
         (tablets_below s k.shape.servers k.shape.tablets (choice k.used k.shape.spare) below places));
     few = λ other. (let both =
         sum_by-append (of_server k.shape other) k.chosen
@@ -281,7 +285,7 @@ module _ (k : Holdings) (s : ℕ) (below : s < k.shape.servers) (full : length k
   later_more : (other : ℕ) → s + 1 ≤ other → sum_by (of_server k.shape other) (server_chosen k s).chosen ≡ 0
   later_more other l =
       let both = sum_by-append (of_server k.shape other) k.chosen
-          (map (λ place. s * k.shape.tablets + place) (choice k.used k.shape.spare)) in
+      (map (λ place. s * k.shape.tablets + place) (choice k.used k.shape.spare)) in
       let none = sum_other k.shape s other (choice k.used k.shape.spare) places (λ e. omega (arith, e, l)) in
       let before = later other (omega (arith, l)) in
       omega (arith, both, none, before)
@@ -292,34 +296,52 @@ gifts_give : (n : Numbers) (k : Holdings) (i : ℕ) (homes : ℕ → ℕ) (given
     Giving n (gifts_from k i) homes given
 gifts_give n k i homes given h chosen are =
     when_lt (λ c. Giving n c homes given) _ _ i (length k.chosen) (λ l. record { base = h; stage = (are, l, chosen) })
-        (λ l. record { base = h; stage = are ∙ take_all i k.chosen l })
+    (λ l. record { base = h; stage = are ∙ take_all i k.chosen l })
 
 loaded_gives : (n : Numbers) (k : Holdings) (s p : ℕ) (homes : ℕ → ℕ) (given : List ℕ) → Base n k homes given
     → given ≡ [] → s < k.shape.servers → p < k.shape.tablets → length k.used ≡ p + 1 →
     AreChosen k.shape k.chosen → ((other : ℕ) → s ≤ other → sum_by (of_server k.shape other) k.chosen ≡ 0)
-        → Giving n (after_tablet k s p) homes given
+    → Giving n (after_tablet k s p) homes given
 loaded_gives n k s p homes given h none server place used chosen later =
     let each = h.is_shape.in_range.each in
     when_eq (λ c. Giving n c homes given) _ _ (p + 1) k.shape.tablets
     (λ e. (let full : length k.used ≡ k.shape.tablets = used ∙ e in
     let more = chosen_more k s server full chosen later in
     when_eq (λ c. Giving n c homes given) _ _ (s + 1) k.shape.servers
-        (λ f. gifts_give n (server_chosen k s) 0 homes given h more none)
+    (λ f. gifts_give n (server_chosen k s) 0 homes given h more none)
     (λ f. record {
       base = h;
-      stage = (none, record { server = omega (arith, server, f); place = omega (arith, each); used = refl;
-          chosen = more; later = later_more k s server full chosen later });
+      stage = (
+        none,
+        record {
+          server = omega (arith, server, f);
+          place = omega (arith, each);
+          used = refl;
+          chosen = more;
+          later = later_more k s server full chosen later;
+        },
+      );
     })))
-    (λ e. record { base = h;
-        stage = (none, record { server = server; place = omega (arith, place, e); used = used; chosen = chosen;
-        later = later }) })
+    (λ e. record {
+      base = h;
+      stage = (
+        none,
+        record {
+          server = server;
+          place = omega (arith, place, e);
+          used = used;
+          chosen = chosen;
+          later = later;
+        },
+      );
+    })
 
 -- ---- the gifts
 -- a chosen tablet's server has a region to give
 spare_here : (n : Numbers) (k : Holdings) (i : ℕ) (homes : ℕ → ℕ) (given : List ℕ) → Base n k homes given
     → given ≡ take i k.chosen → i < length k.chosen → AreChosen k.shape k.chosen →
     SpareFound k.roles (k.cycle + 1) (server_of_tablet k.shape (chosen_tablet k i) * (k.shape.tablets + k.shape.spare))
-        (k.shape.tablets + k.shape.spare)
+    (k.shape.tablets + k.shape.spare)
 spare_here n k i homes given h are l chosen =
     let t = chosen_tablet k i in
     let s = server_of_tablet k.shape t in
@@ -329,9 +351,9 @@ spare_here n k i homes given h are l chosen =
     let most = sum_by-take-le (of_server k.shape s) k.chosen (i + 1) in
     let few = chosen.few s in
     let so_far : sum_by (of_server k.shape s) given ≡ sum_by (of_server k.shape s) (take i k.chosen) =
-        ap (sum_by (of_server k.shape s)) are in
+    ap (sum_by (of_server k.shape s)) are in
     spare_left k.shape (k.cycle + 1) k.roles given s (belongings_in_range.tablet k.shape t below) h.roles_stand
-        (omega (arith, mine, more, most, few, so_far))
+    (omega (arith, mine, more, most, few, so_far))
 
 choice_gives : (n : Numbers) (k : Holdings) (s : ChoiceStage) (w : ℕ) (homes : ℕ → ℕ) (given : List ℕ)
     → Base n k homes given → ChoiceStands k s homes given → ChoiceFinds k s homes w →
@@ -342,14 +364,17 @@ choice_gives n k (LoadingTop s place words) w homes given h stands finds =
     let used = loading.used in
     let more = length_push k.used (record { top = w; live = words }) in
     loaded_gives n (record k { used = k.used ++ record { top = w; live = words } ∷ [] }) s place homes given h stands.0
-        loading.server loading.place (omega (arith, used, more)) loading.chosen loading.later
+    loading.server loading.place (omega (arith, used, more)) loading.chosen loading.later
 choice_gives n k (LoadingHome i) w homes given h stands finds =
     let found = spare_here n k i homes given h stands.0 stands.1 stands.2 in
     let t = chosen_tablet k i in
     let free = found_free k.shape (k.cycle + 1) k.roles homes t (server_of_tablet k.shape t) found refl h.homes_stand in
     subst (λ (o : Option ℕ). Giving n (gift_of k i w o) homes given) (sym found.is)
-    (record { base = h; stage =
-        (stands.0, stands.1, stands.2, record { former = finds; server = free.server; spare = found.spare }) })
+    (record {
+      base = h;
+      stage =
+          (stands.0, stands.1, stands.2, record { former = finds; server = free.server; spare = found.spare });
+    })
 choice_gives n k (StoringLeaving i gift) w homes given h stands finds = record { base = h; stage = stands }
 choice_gives n k (StoringHome i gift) w homes given h stands finds =
     let t = chosen_tablet k i in
@@ -357,7 +382,7 @@ choice_gives n k (StoringHome i gift) w homes given h stands finds =
     let chosen = stands.2 in
     let below : t < k.shape.servers * k.shape.tablets = chosen.below i 0 stands.1 in
     let former_is : server_of_region k.shape gift.former ≡ server_of_tablet k.shape t =
-        ap (server_of_region k.shape) gives.former ∙ h.homes_stand.are.server t below in
+    ap (server_of_region k.shape) gives.former ∙ h.homes_stand.are.server t below in
     let home : role_at k.roles gift.former ≡ Home = ap (role_at k.roles) gives.former ∙ h.homes_stand.role t below in
     let server = belongings_in_range.tablet k.shape t below in
     record {
@@ -378,7 +403,7 @@ choice_gives n k (StoringTop i) w homes given h stands finds = gifts_give n k (i
 choice_gives n k StoringEvac w homes given h stands finds = record { base = h; stage = tt }
 choice_gives n k (Reopening m) w homes given h stands finds =
     when_eq (λ c. Giving n c homes given) _ _ (m + 1) k.shape.mutators (λ e. record { base = h; stage = tt })
-        (λ e. record { base = h; stage = tt })
+    (λ e. record { base = h; stage = tt })
 
 noticed_gives : (n : Numbers) (k : Holdings) (s : ℕ) (tells : NoticeWord) (homes : ℕ → ℕ) (given : List ℕ)
     → Base n k homes given → Giving n (noticed k s tells) homes given
@@ -390,14 +415,22 @@ noticed_gives n k s Done homes given h =
 notice_gives : (n : Numbers) (k : Holdings) (s : NoticeStage) (w : ℕ) (homes : ℕ → ℕ) (given : List ℕ)
     → Base n k homes given → Giving n (notice_fed k s w) homes (notice_given s given)
 notice_gives n k (NoticeLook s) w homes given h =
-    when_eq (λ c. Giving n c homes given) _ _ w 0 (λ e. record { base = h; stage = tt }) (λ e. record { base = h;
-    stage = tt })
+    when_eq (λ c. Giving n c homes given) _ _ w 0 (λ e. record { base = h; stage = tt }) (λ e. record {
+      base = h;
+      stage = tt;
+    })
 notice_gives n k (NoticeClear s tells) w homes given h =
-    noticed_gives n (record k { notice_at =
-        set k.notice_at s (after_place k.shape.ring (get_or k.notice_at s 0)) }) s tells homes given h
+    noticed_gives n (record k {
+      notice_at =
+          set k.notice_at s (after_place k.shape.ring (get_or k.notice_at s 0));
+    }) s tells homes given h
 notice_gives n k StoringIdle w homes given h = record {
-  base = record { same = h.same; is_shape = h.is_shape; homes_stand = h.homes_stand;
-      roles_stand = roles_next k.shape (k.cycle + 1) k.roles given h.roles_stand };
+  base = record {
+    same = h.same;
+    is_shape = h.is_shape;
+    homes_stand = h.homes_stand;
+    roles_stand = roles_next k.shape (k.cycle + 1) k.roles given h.roles_stand;
+  };
   stage = refl;
 }
 
@@ -431,10 +464,17 @@ choice_told n k (LoadingLive s place) homes given h stands = tt
 choice_told n k (LoadingTop s place words) homes given h stands = tt
 choice_told n k (LoadingHome i) homes given h stands =
     let found = spare_here n k i homes given h stands.0 stands.1 stands.2 in
-    let t = chosen_tablet k i in
-    (stands.0, (found.region,
-        (found.is, found_free k.shape (k.cycle + 1) k.roles homes t
-        (server_of_tablet k.shape t) found refl h.homes_stand)))
+    let t = chosen_tablet k i in (
+      stands.0,
+      (
+        found.region,
+        (
+          found.is,
+          found_free k.shape (k.cycle + 1) k.roles homes t
+              (server_of_tablet k.shape t) found refl h.homes_stand,
+        ),
+      ),
+    )
 choice_told n k (StoringLeaving i gift) homes given h stands = let gives = stands.3 in
     (stands.0, gives.former, gift_free n k (chosen_tablet k i) gift homes given h gives)
 choice_told n k (StoringHome i gift) homes given h stands = let gives = stands.3 in
@@ -454,10 +494,18 @@ collectors_give s trail v shape goes =
     let end : P v trail =
     along housed_next HousedFits housed_fed P
     (λ q before act w next fits h. stage_gives s.numbers q.collector.kept q.collector.stage w q.homes q.given h.base
-        h.stage fits.1)
+    h.stage fits.1)
     (housed_opening s) v trail
-    (record { base = record { same = refl; is_shape = shape; homes_stand = homes_open s.numbers shape;
-        roles_stand = roles_open s.numbers }; stage = refl }) goes in
-    let k = v.collector.kept in
-    (subst (λ (q : Numbers). AreHomes q v.homes) end.base.same end.base.homes_stand.are,
-        stage_told s.numbers k v.collector.stage v.homes v.given end.base end.stage)
+    (record {
+      base = record {
+        same = refl;
+        is_shape = shape;
+        homes_stand = homes_open s.numbers shape;
+        roles_stand = roles_open s.numbers;
+      };
+      stage = refl;
+    }) goes in
+    let k = v.collector.kept in (
+      subst (λ (q : Numbers). AreHomes q v.homes) end.base.same end.base.homes_stand.are,
+      stage_told s.numbers k v.collector.stage v.homes v.given end.base end.stage,
+    )

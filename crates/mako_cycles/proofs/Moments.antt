@@ -130,8 +130,16 @@ empty_shown n k None trail h = record {
   phase = h.traces;
   shown = (
     h.none_freed,
-    record { shape = refl; here = h.round; front = trail; poll = []; before = h.round; traces = h.traces; goes = none _;
-        made = sym (append-nil trail) },
+    record {
+      shape = refl;
+      here = h.round;
+      front = trail;
+      poll = [];
+      before = h.round;
+      traces = h.traces;
+      goes = none _;
+      made = sym (append-nil trail);
+    },
   );
 }
 
@@ -163,7 +171,7 @@ barrier_goes : (n : Numbers) (k : Holdings) (s : BarrierStage) (w : ℕ) (trail 
 barrier_goes n k (Loading m) w trail h =
     let on = round_on n k trail _ w (plain_load k.shape (barrier m (get_or k.barrier_at m 0)) (omega arith)) h in
     when_eq (λ c. Moment n c (longer trail (barrier_next k (Loading m)) w)) _ _ w 0
-        (λ e. barriers_shown n k (m + 1) _ on)
+    (λ e. barriers_shown n k (m + 1) _ on)
     (λ e. record { shape = on.same; phase = on.traces; shown = (on.none_freed, on.round) })
 barrier_goes n k (Clearing m x) w trail h =
     let on = round_on n k trail _ w (plain_store k.shape (barrier m (get_or k.barrier_at m 0)) 0 (omega arith)) h in
@@ -173,28 +181,36 @@ empty_goes : (n : Numbers) (k : Holdings) (s w : ℕ) (trail : List Observation)
     → Moment n (empty_fed k s w) (longer trail (stage_next k (Emptying s)) w)
 empty_goes n k s w trail h =
     let on = round_on n k trail _ w
-        (plain_load k.shape (work s ((window_of k s).tail % k.shape.ring)) (omega arith)) h in
+    (plain_load k.shape (work s ((window_of k s).tail % k.shape.ring)) (omega arith)) h in
     when_eq (λ c. Moment n c (longer trail (stage_next k (Emptying s)) w)) _ _ w 0
     (λ e. (let up = set_window k s (tail_up k.shape.ring (window_of k s)) in
-        empty_shown n up (position is_open up.windows) _ on))
+    empty_shown n up (position is_open up.windows) _ on))
     (λ e. record { shape = on.same; phase = on.traces; shown = (on.none_freed, on.round) })
 
 -- completion is told at the end of a poll
 told_shown : (n : Numbers) (k : Holdings) (shut : Bool) (trail front poll : List Observation) → k.gates_shut ≡ shut
     → k.shape ≡ n → phase_left k.shape trail ≡ phase_word (Trace (k.cycle + 1)) →
     k.freed ≡ [] → Round k.shape (k.cycle + 1) shut trail → Round k.shape (k.cycle + 1) shut front
-        → phase_left k.shape front ≡ phase_word (Trace (k.cycle + 1)) →
+    → phase_left k.shape front ≡ phase_word (Trace (k.cycle + 1)) →
     FoundZero k.shape k.shape.servers poll → trail ≡ front ++ poll →
     Moment n (if shut then at (record k { used = []; chosen = [] }) (Choosing (LoadingLive 0 0)) else at k
-        (Pausing (Shutting Choice 0))) trail
+    (Pausing (Shutting Choice 0))) trail
 told_shown n k false trail front poll e same stands none_freed round before traces zero made = record {
   shape = same;
   phase = stands;
   shown = (
     (e, none_freed),
     (
-      record { front = front; poll = poll; since = []; before = tt; traces = traces; gates = before; polled = zero;
-          made = made ∙ ap (λ (q : List Observation). front ++ q) (sym (append-nil poll)) },
+      record {
+        front = front;
+        poll = poll;
+        since = [];
+        before = tt;
+        traces = traces;
+        gates = before;
+        polled = zero;
+        made = made ∙ ap (λ (q : List Observation). front ++ q) (sym (append-nil poll));
+      },
       λ j l. absurd (omega arith),
     ),
   );
@@ -205,8 +221,16 @@ told_shown n k true trail front poll e same stands none_freed round before trace
   shown = (
     none_freed,
     (
-      record { front = front; poll = poll; since = []; before = before.0; traces = traces; gates = before.1;
-          polled = zero; made = made ∙ ap (λ (q : List Observation). front ++ q) (sym (append-nil poll)) },
+      record {
+        front = front;
+        poll = poll;
+        since = [];
+        before = before.0;
+        traces = traces;
+        gates = before.1;
+        polled = zero;
+        made = made ∙ ap (λ (q : List Observation). front ++ q) (sym (append-nil poll));
+      },
       round.1,
     ),
   );
@@ -215,7 +239,7 @@ told_shown n k true trail front poll e same stands none_freed round before trace
 poll_goes : (n : Numbers) (k : Holdings) (w : ℕ) (trail : List Observation) → 0 < k.shape.servers → k.shape ≡ n
     → phase_left k.shape trail ≡ phase_word (Trace (k.cycle + 1)) → IsAct (polls.next_of k.poll) →
     polls.Fits k.poll w → (k.freed ≡ []) × PollShown k trail
-        → Moment n (poll_fed k w) (longer trail (polls.next_of k.poll) w)
+    → Moment n (poll_fed k w) (longer trail (polls.next_of k.poll) w)
 poll_goes n k w trail some same stands acts fits shown = go (polls.fed k.poll w).stage refl
   where
     p : PollShown k trail
@@ -242,9 +266,19 @@ poll_goes n k w trail some same stands acts fits shown = go (polls.fed k.poll w)
     polling = record {
       shape = same;
       phase = on.traces;
-      shown = (shown.0, record { shape = p.shape; here = on.round; front = p.front;
-          poll = p.poll ++ sees (did (polls.next_of k.poll)) w ∷ []; before = p.before; traces = p.traces; goes = goes;
-          made = made });
+      shown = (
+        shown.0,
+        record {
+          shape = p.shape;
+          here = on.round;
+          front = p.front;
+          poll = p.poll ++ sees (did (polls.next_of k.poll)) w ∷ [];
+          before = p.before;
+          traces = p.traces;
+          goes = goes;
+          made = made;
+        },
+      );
     }
 
     go : (s : PollStage) → (polls.fed k.poll w).stage ≡ s
@@ -254,9 +288,9 @@ poll_goes n k w trail some same stands acts fits shown = go (polls.fed k.poll w)
     go (Polled (NotYet s v)) e = record { shape = same; phase = on.traces; shown = (shown.0, on.round) }
     go (Polled CompletionTold) e =
         told_shown n (record k { poll = polls.fed k.poll w }) k.gates_shut _ p.front
-            (p.poll ++ sees (did (polls.next_of k.poll)) w ∷ []) refl same on.traces shown.0 on.round p.before p.traces
+        (p.poll ++ sees (did (polls.next_of k.poll)) w ∷ []) refl same on.traces shown.0 on.round p.before p.traces
         ((polls_answer.told (record { shape = k.shape; stage = Asking 0 }) (polls.fed k.poll w)
-            (p.poll ++ sees (did (polls.next_of k.poll)) w ∷ []) some refl goes).0 e) made
+        (p.poll ++ sees (did (polls.next_of k.poll)) w ∷ []) some refl goes).0 e) made
 
 -- ---- idling and pauses
 idle_goes : (n : Numbers) (k : Holdings) (s : IdleStage) (w : ℕ) (trail : List Observation)
@@ -295,9 +329,19 @@ pause_goes n k (Shutting pause m) w trail h =
     let began = began_on k pause trail o h.shown.1.0 in
     let shut = shut_more k.shape m w trail h.shown.1.1 in
     when_eq (λ c. Moment n c (trail ++ o ∷ [])) _ _ (m + 1) k.shape.mutators
-    (λ e. record { shape = h.shape; phase = on;
-        shown = (h.shown.0, (began, omega (arith, e), (λ j l. shut j (omega (arith, l, e))),
-        (λ j l. absurd (omega arith)))) })
+    (λ e. record {
+      shape = h.shape;
+      phase = on;
+      shown = (
+        h.shown.0,
+        (
+          began,
+          omega (arith, e),
+          (λ j l. shut j (omega (arith, l, e))),
+          (λ j l. absurd (omega arith)),
+        ),
+      );
+    })
     (λ e. record { shape = h.shape; phase = on; shown = (h.shown.0, (began, shut)) })
 pause_goes n k (Draining pause m) w trail h =
     let o = sees (at_gate k.shape m Load) w in
@@ -307,36 +351,45 @@ pause_goes n k (Draining pause m) w trail h =
     let below : m < k.shape.mutators = h.shown.1.1 in
     let shut = shut_on k.shape k.shape.mutators trail o plain.opens h.shown.1.2 in
     when_lt (λ c. Moment n c (trail ++ o ∷ [])) _ _ 0 (count_of w)
-    (λ l. record { shape = h.shape; phase = on;
-        shown = (h.shown.0, (began, below, shut, drained_on k.shape m trail o plain.opens h.shown.1.3)) })
+    (λ l. record {
+      shape = h.shape;
+      phase = on;
+      shown = (h.shown.0, (began, below, shut, drained_on k.shape m trail o plain.opens h.shown.1.3));
+    })
     (λ l. (let drained = drained_more k.shape m w trail (h.shown.1.2 m below) (omega (arith, l)) h.shown.1.3 in
     when_eq (λ c. Moment n c (trail ++ o ∷ [])) _ _ (m + 1) k.shape.mutators
     (λ e. paused_shown n k pause _ h.shape on h.shown.0 began (λ j q. drained j (omega (arith, q, e))))
-    (λ e. record { shape = h.shape; phase = on;
-        shown = (h.shown.0, (began, omega (arith, below, e), shut, drained)) })))
+    (λ e. record {
+      shape = h.shape;
+      phase = on;
+      shown = (h.shown.0, (began, omega (arith, below, e), shut, drained));
+    })))
 pause_goes n k (LoadingRoot m q) w trail h =
     let plain = plain_load k.shape (root m q) (omega arith) in
     let on = phase_on k.shape trail _ w _ plain h.phase in
     let drained = drained_on k.shape k.shape.mutators trail
-        (sees (did (pause_next k (LoadingRoot m q))) w) plain.opens h.shown.1 in
+    (sees (did (pause_next k (LoadingRoot m q))) w) plain.opens h.shown.1 in
     let P : PauseStage → Type 0 =
-        λ s. Moment n (at (record k { pending = k.pending ++ names_of (value_at w) }) (Pausing s))
-        (longer trail (pause_next k (LoadingRoot m q)) w) in
+    λ s. Moment n (at (record k { pending = k.pending ++ names_of (value_at w) }) (Pausing s))
+    (longer trail (pause_next k (LoadingRoot m q)) w) in
     when_lt P _ _ (q + 1) k.shape.roots
     (λ l. record { shape = h.shape; phase = on; shown = (h.shown.0, drained) })
     (λ l. when_lt P _ _ (m + 1) k.shape.mutators
     (λ b. record { shape = h.shape; phase = on; shown = (h.shown.0, drained) })
     (λ b. record { shape = h.shape; phase = on; shown = (h.shown.0, drained) }))
 pause_goes n k StoringTrace w trail h =
-    record { shape = h.shape; phase = phase_stored k.shape trail w (phase_word (Trace (running k)));
-    shown = (h.shown.0, λ j l. absurd (omega arith)) }
+    record {
+      shape = h.shape;
+      phase = phase_stored k.shape trail w (phase_word (Trace (running k)));
+      shown = (h.shown.0, λ j l. absurd (omega arith));
+    }
 pause_goes n k (Opening m) w trail h =
     let o = sees (opens k.shape m) w in
     let on = gate_elsewhere k.shape trail m w _ (opens k.shape m) refl h.phase in
     let opened = open_more k.shape m w trail h.shown.1 in
     when_eq (λ c. Moment n c (trail ++ o ∷ [])) _ _ (m + 1) k.shape.mutators
     (λ e. (let all : EachBelow IsOpen k.shape k.shape.mutators (trail ++ o ∷ []) =
-        λ j l. opened j (omega (arith, l, e)) in
+    λ j l. opened j (omega (arith, l, e)) in
     forward_shown n k k.pending _ (record {
       same = h.shape;
       traces = on;
@@ -375,10 +428,16 @@ gifts_shown n k i trail h =
 
 gift_shown : (n : Numbers) (k : Holdings) (i former : ℕ) (o : Option ℕ) (trail : List Observation) → InChoice n k trail
     → Moment n (gift_of k i former o) trail
-gift_shown n k i former (Some region) trail h = record { shape = h.same; phase = h.traces;
-    shown = (h.none_freed, (h.told, h.drained)) }
-gift_shown n k i former None trail h = record { shape = h.same; phase = h.traces;
-    shown = (h.none_freed, (h.told, h.drained)) }
+gift_shown n k i former (Some region) trail h = record {
+  shape = h.same;
+  phase = h.traces;
+  shown = (h.none_freed, (h.told, h.drained));
+}
+gift_shown n k i former None trail h = record {
+  shape = h.same;
+  phase = h.traces;
+  shown = (h.none_freed, (h.told, h.drained));
+}
 
 tablet_shown : (n : Numbers) (k : Holdings) (s place : ℕ) (trail : List Observation) → InChoice n k trail
     → Moment n (after_tablet k s place) trail
@@ -391,42 +450,54 @@ tablet_shown n k s place trail h =
 in_choice : (n : Numbers) (k : Holdings) (trail : List Observation) → k.shape ≡ n
     → phase_left k.shape trail ≡ phase_word (Trace (k.cycle + 1)) →
     (k.freed ≡ []) × (ToldTwice k.shape (k.cycle + 1) trail × EachBelow IsDrained k.shape k.shape.mutators trail)
-        → InChoice n k trail
-in_choice n k trail same traces shown = record { same = same; traces = traces; none_freed = shown.0; told = shown.1.0;
-    drained = shown.1.1 }
+    → InChoice n k trail
+in_choice n k trail same traces shown = record {
+  same = same;
+  traces = traces;
+  none_freed = shown.0;
+  told = shown.1.0;
+  drained = shown.1.1;
+}
 
 choice_goes : (n : Numbers) (k : Holdings) (s : ChoiceStage) (w : ℕ) (trail : List Observation) → 0 < k.shape.servers
     → Moment n (at k (Choosing s)) trail →
     Moment n (choice_fed k s w) (longer trail (choice_next k s) w)
 choice_goes n k (LoadingLive s place) w trail some h =
     let on = choice_on n k trail _ w (plain_load k.shape (live (s * k.shape.tablets + place)) (omega arith))
-        (in_choice n k trail h.shape h.phase h.shown) in
+    (in_choice n k trail h.shape h.phase h.shown) in
     record { shape = on.same; phase = on.traces; shown = (on.none_freed, (on.told, on.drained)) }
 choice_goes n k (LoadingTop s place words) w trail some h =
     tablet_shown n (record k { used = k.used ++ record { top = w; live = words } ∷ [] }) s place _
     (choice_on n k trail _ w (plain_load k.shape (top (s * k.shape.tablets + place)) (omega arith))
-        (in_choice n k trail h.shape h.phase h.shown))
+    (in_choice n k trail h.shape h.phase h.shown))
 choice_goes n k (LoadingHome i) w trail some h =
     gift_shown n k i w (spare_for k (chosen_tablet k i)) _
     (choice_on n k trail _ w (plain_load k.shape (home (chosen_tablet k i)) (omega arith))
-        (in_choice n k trail h.shape h.phase h.shown))
+    (in_choice n k trail h.shape h.phase h.shown))
 choice_goes n k (StoringLeaving i gift) w trail some h =
     let on = choice_on n k trail _ w (plain_store k.shape (leaving (chosen_tablet k i)) (gift.former + 1) (omega arith))
-        (in_choice n k trail h.shape h.phase h.shown) in
+    (in_choice n k trail h.shape h.phase h.shown) in
     record { shape = on.same; phase = on.traces; shown = (on.none_freed, (on.told, on.drained)) }
 choice_goes n k (StoringHome i gift) w trail some h =
     let on = choice_on n k trail _ w (plain_store k.shape (home (chosen_tablet k i)) gift.region (omega arith))
-        (in_choice n k trail h.shape h.phase h.shown) in
+    (in_choice n k trail h.shape h.phase h.shown) in
     record { shape = on.same; phase = on.traces; shown = (on.none_freed, (on.told, on.drained)) }
 choice_goes n k (StoringTop i) w trail some h =
     gifts_shown n k (i + 1) _
-        (choice_on n k trail _ w (plain_store k.shape (top (chosen_tablet k i)) 0 (omega arith))
-        (in_choice n k trail h.shape h.phase h.shown))
+    (choice_on n k trail _ w (plain_store k.shape (top (chosen_tablet k i)) 0 (omega arith))
+    (in_choice n k trail h.shape h.phase h.shown))
 choice_goes n k StoringEvac w trail some h = record {
   shape = h.shape;
   phase = phase_stored k.shape trail w (phase_word (Evac (running k)));
-  shown = (h.shown.0, (refl, told_on (sees (did (choice_next k StoringEvac)) w) h.shown.1.0, λ j l. absurd
-      (omega arith)));
+  shown = (
+    h.shown.0,
+    (
+      refl,
+      told_on (sees (did (choice_next k StoringEvac)) w) h.shown.1.0,
+      λ j l. absurd
+          (omega arith),
+    ),
+  );
 }
 choice_goes n k (Reopening m) w trail some h =
     let o = sees (opens k.shape m) w in
@@ -441,8 +512,19 @@ choice_goes n k (Reopening m) w trail some h =
         h.shown.1.0,
         told,
         (λ j l. opened j (omega (arith, l, e))),
-        (some, record { front = trail ++ o ∷ []; taken = []; lists = []; names = []; hears = begins; count = refl;
-            freed = h.shown.0; made = sym (append-nil (trail ++ o ∷ [])) }),
+        (
+          some,
+          record {
+            front = trail ++ o ∷ [];
+            taken = [];
+            lists = [];
+            names = [];
+            hears = begins;
+            count = refl;
+            freed = h.shown.0;
+            made = sym (append-nil (trail ++ o ∷ []));
+          },
+        ),
       );
     })
     (λ e. record { shape = h.shape; phase = on; shown = (h.shown.0, (h.shown.1.0, told, opened)) })
@@ -457,19 +539,19 @@ taken_more : (trail before front taken : List Observation) (o p : Observation) �
     → before ≡ front ++ taken → trail ++ p ∷ [] ≡ front ++ ((taken ++ o ∷ []) ++ p ∷ [])
 taken_more trail before front taken o p e f =
     ap (λ (q : List Observation). q ++ p ∷ []) (e
-        ∙ (ap (λ (q : List Observation). q ++ o ∷ []) f ∙ append_assoc front taken (o ∷ [])))
-        ∙ append_assoc front (taken ++ o ∷ []) (p ∷ [])
+    ∙ (ap (λ (q : List Observation). q ++ o ∷ []) f ∙ append_assoc front taken (o ∷ [])))
+    ∙ append_assoc front (taken ++ o ∷ []) (p ∷ [])
 
 -- what a notice tells is heard
 noticed_shown : (n : Numbers) (k : Holdings) (s word w : ℕ) (tells : NoticeWord) (at_next : List ℕ)
     (trail : List Observation) → k.shape ≡ n →
     phase_left k.shape (trail ++ at_notice k.shape s (get_or k.notice_at s 0) (Store 0) w ∷ []) ≡ phase_word
-        (Evac (running k)) → k.gates_shut ≡ false →
+    (Evac (running k)) → k.gates_shut ≡ false →
     ToldTwice k.shape (running k) (trail ++ at_notice k.shape s (get_or k.notice_at s 0) (Store 0) w ∷ []) →
     EachBelow IsOpen k.shape k.shape.mutators (trail ++ at_notice k.shape s (get_or k.notice_at s 0) (Store 0) w ∷ []) →
     s < k.shape.servers → notice_at word ≡ tells → Found k s word trail →
     Moment n (noticed (record k { notice_at = at_next }) s tells)
-        (trail ++ at_notice k.shape s (get_or k.notice_at s 0) (Store 0) w ∷ [])
+    (trail ++ at_notice k.shape s (get_or k.notice_at s 0) (Store 0) w ∷ [])
 noticed_shown n k s word w (Freed x) at_next trail same stands shut twice opened below reads found =
     let slot = get_or k.notice_at s 0 in
     let heard = found.heard in
@@ -492,8 +574,8 @@ noticed_shown n k s word w (Freed x) at_next trail same stands shut twice opened
             names = heard.names ++ x ∷ [];
             hears = subst
                 (λ (q : ℕ). Hears k.shape heard.lists (heard.names ++ x ∷ [])
-                    ((heard.taken ++ at_notice k.shape q slot Load word ∷ []) ++ at_notice k.shape q slot
-                    (Store 0) w ∷ []))
+                ((heard.taken ++ at_notice k.shape q slot Load word ∷ []) ++ at_notice k.shape q slot
+                (Store 0) w ∷ []))
                 count one;
             count = count;
             freed = ap (λ (q : List Name). q ++ x ∷ []) heard.freed
@@ -511,19 +593,31 @@ noticed_shown n k s word w Done at_next trail same stands shut twice opened belo
     let taken = (heard.taken ++ at_notice k.shape s slot Load word ∷ []) ++ at_notice k.shape s slot (Store 0) w ∷ [] in
     let hears : Hears k.shape (heard.lists ++ heard.names ∷ []) [] taken = subst
     (λ (q : ℕ). Hears k.shape (heard.lists ++ heard.names ∷ []) []
-        ((heard.taken ++ at_notice k.shape q slot Load word ∷ []) ++ at_notice k.shape q slot (Store 0) w ∷ []))
+    ((heard.taken ++ at_notice k.shape q slot Load word ∷ []) ++ at_notice k.shape q slot (Store 0) w ∷ []))
     count one in
     let more : length (heard.lists ++ heard.names ∷ []) ≡ s + 1 =
-        omega (arith, length_push heard.lists heard.names, count) in
+    omega (arith, length_push heard.lists heard.names, count) in
     let made = taken_more trail found.before heard.front heard.taken _ _ found.made heard.made in
     let freed : k.freed ≡ joined (heard.lists ++ heard.names ∷ []) = heard.freed
-        ∙ joined_more heard.lists heard.names in
+    ∙ joined_more heard.lists heard.names in
     when_eq (λ c. Moment n c (trail ++ at_notice k.shape s slot (Store 0) w ∷ [])) _ _ (s + 1) k.shape.servers
     (λ e. record {
       shape = same;
       phase = stands;
-      shown = (shut, twice, opened, record { front = heard.front; taken = taken;
-          lists = heard.lists ++ heard.names ∷ []; hears = hears; count = more ∙ e; freed = freed; made = made });
+      shown = (
+        shut,
+        twice,
+        opened,
+        record {
+          front = heard.front;
+          taken = taken;
+          lists = heard.lists ++ heard.names ∷ [];
+          hears = hears;
+          count = more ∙ e;
+          freed = freed;
+          made = made;
+        },
+      );
     })
     (λ e. record {
       shape = same;
@@ -584,19 +678,29 @@ notice_goes n k (NoticeLook s) w trail h =
         ),
       );
     })
-    (λ e. record { shape = h.shape; phase = on;
-        shown = (h.shown.0, told, opened,
-        (h.shown.3.0, (w, (refl, record { before = trail; heard = heard; some = e; made = refl })))) })
+    (λ e. record {
+      shape = h.shape;
+      phase = on;
+      shown = (
+        h.shown.0,
+        told,
+        opened,
+        (h.shown.3.0, (w, (refl, record { before = trail; heard = heard; some = e; made = refl }))),
+      );
+    })
 notice_goes n k (NoticeClear s tells) w trail h =
     let slot = get_or k.notice_at s 0 in
     let plain = plain_store k.shape (notice s slot) 0 (omega arith) in
     let o = at_notice k.shape s slot (Store 0) w in
     noticed_shown n k s h.shown.3.1.0 w tells (set k.notice_at s (after_place k.shape.ring slot)) trail h.shape
-        (phase_on k.shape trail _ w _ plain h.phase) h.shown.0 (told_on o h.shown.1)
+    (phase_on k.shape trail _ w _ plain h.phase) h.shown.0 (told_on o h.shown.1)
     (open_on k.shape k.shape.mutators trail o plain.shuts h.shown.2) h.shown.3.0 h.shown.3.1.1.0 h.shown.3.1.1.1
 notice_goes n k StoringIdle w trail h =
-    record { shape = h.shape; phase = phase_stored k.shape trail w (phase_word (IdlePhase (running k)));
-    shown = (h.shown.0, refl) }
+    record {
+      shape = h.shape;
+      phase = phase_stored k.shape trail w (phase_word (IdlePhase (running k)));
+      shown = (h.shown.0, refl);
+    }
 
 -- ---- every step
 stage_goes : (n : Numbers) (k : Holdings) (s : CollectStage) (w : ℕ) (trail : List Observation) → 0 < n.servers
@@ -624,6 +728,6 @@ collectors_go s trail l shape goes =
     let some : 0 < s.numbers.servers = omega (arith, each) in
     along next_of Fits fed (Moment s.numbers)
     (λ c before act w next fits h. subst
-        (λ (a : Act). Moment s.numbers (fed c w) (before ++ record { act = a; found = w } ∷ [])) (ap did next)
+    (λ (a : Act). Moment s.numbers (fed c w) (before ++ record { act = a; found = w } ∷ [])) (ap did next)
     (stage_goes s.numbers c.kept c.stage w before some (is_act (next_of c) act next) fits h))
     (opening s) l trail (record { shape = refl; phase = refl; shown = (refl, refl) }) goes

@@ -19,15 +19,15 @@ pairs_append R xs ys h g across i j d lt within =
     ⊎_elim
     (λ (inside : j < length xs). let low : get_or (xs ++ ys) i d ≡ get_or xs i d = grind (arith, common_steps) in
     let high : get_or (xs ++ ys) j d ≡ get_or xs j d = grind (arith, common_steps) in
-        rw (low, high) (h i j d lt inside))
+    rw (low, high) (h i j d lt inside))
     (λ (past : length xs ≤ j). let high : get_or (xs ++ ys) j d ≡ get_or ys (j - length xs) d =
-        grind (arith, common_steps) in
+    grind (arith, common_steps) in
     let more : j - length xs < length ys = grind (arith, common_steps) in
     ⊎_elim
     (λ (inside : i < length xs). let low : get_or (xs ++ ys) i d ≡ get_or xs i d = grind (arith, common_steps) in
-        rw (low, high) (across i (j - length xs) d inside more))
+    rw (low, high) (across i (j - length xs) d inside more))
     (λ (behind : length xs ≤ i). let low : get_or (xs ++ ys) i d ≡ get_or ys (i - length xs) d =
-        grind (arith, common_steps) in
+    grind (arith, common_steps) in
     rw (low, high) (g (i - length xs) (j - length xs) d (omega arith) more))
     (cases_lt i (length xs)))
     (cases_lt j (length xs))
@@ -40,7 +40,7 @@ server_rises : (n : Numbers) (a b : ℕ) → IsShape n → a ≤ b → server_of
 server_rises n a b shape h =
     let each = shape.in_range.each in
     div_rises (a / n.entries) (b / n.entries) n.tablets (omega (arith, each))
-        (div_rises a b n.entries (omega (arith, each)) h)
+    (div_rises a b n.entries (omega (arith, each)) h)
 
 rises_from : (n : Numbers) (first : ℕ) (lists : List (List Name)) → IsShape n
     → ((i : ℕ) → i < length lists → RiseAt n (first + i) (get_or lists i [])) →
@@ -52,15 +52,15 @@ rises_from n first (names ∷ lists) shape each =
     let own = here.own in
     let rest = rises_from n (first + 1) lists shape
     (λ i l. (let e : first + suc i ≡ first + 1 + i = omega arith in
-        subst (λ (s : ℕ). RiseAt n s (get_or lists i [])) e (each (suc i) (omega (arith, l))))) in (
+    subst (λ (s : ℕ). RiseAt n s (get_or lists i [])) e (each (suc i) (omega (arith, l))))) in (
       pairs_append (λ a b. a.entry < b.entry) names (joined lists) here.rising rest.0
           (λ i j d l m. (let a = own i d l in
           let b = rest.1 j d m in
           let x = get_or names i d in
           let y = get_or (joined lists) j d in
           ⊎_elim (λ (less : x.entry < y.entry). less)
-              (λ (more : y.entry ≤ x.entry). absurd (let up = server_rises n y.entry x.entry shape more in
-              omega (arith, a, b, up))) (cases_lt x.entry y.entry))),
+          (λ (more : y.entry ≤ x.entry). absurd (let up = server_rises n y.entry x.entry shape more in
+          omega (arith, a, b, up))) (cases_lt x.entry y.entry))),
       All-append (λ x. first ≤ server_of_entry n x.entry) names (joined lists) (λ i d l. (let a = own i d l in
           omega (arith, a)))
           (λ i d l. (let b = rest.1 i d l in omega (arith, b))),

@@ -37,7 +37,7 @@ among_same p q first zero same = refl
 among_same p q first (suc count) same =
     let rest = among_same p q first count (λ r low high. same r low (omega (arith, high))) in
     let here : one (p (first + count)) ≡ one (q (first + count)) =
-        ap one (same (first + count) (omega arith) (omega arith)) in
+    ap one (same (first + count) (omega arith) (omega arith)) in
     omega (arith, rest, here)
 
 among_change : (p q : ℕ → Bool) (r first count : ℕ) → first ≤ r → r < first + count → ((x : ℕ) → x ≢ r → p x ≡ q x)
@@ -47,7 +47,7 @@ among_change p q r first zero low high same = absurd (omega (arith, low, high))
 among_change p q r first (suc count) low high same =
     ⊎_elim
     (λ (e : r ≡ first + count). let rest =
-        among_same p q first count (λ x from below. same x (λ f. omega (arith, e, f, below))) in
+    among_same p q first count (λ x from below. same x (λ f. omega (arith, e, f, below))) in
     let here : one (p r) ≡ one (p (first + count)) = ap (λ (x : ℕ). one (p x)) e in
     let there : one (q r) ≡ one (q (first + count)) = ap (λ (x : ℕ). one (q x)) e in
     omega (arith, rest, here, there))
@@ -122,7 +122,7 @@ row_of : (n : Numbers) (r s : ℕ) → s * regions_of n ≤ r → r < s * region
 row_of n r s low high =
     let e : s * regions_of n + (r - s * regions_of n) ≡ r = omega (arith, low) in
     subst (λ (x : ℕ). x / regions_of n ≡ s) e
-        (div-mul-add s (regions_of n) (r - s * regions_of n) (omega (arith, low, high)))
+    (div-mul-add s (regions_of n) (r - s * regions_of n) (omega (arith, low, high)))
 
 -- a region of a server that there is has a role
 region_within : (n : Numbers) (r s : ℕ) → IsShape n → server_of_region n r ≡ s → s < n.servers
@@ -137,9 +137,9 @@ set_here : (n : Numbers) (p : Role → Bool) (roles : List Role) (r s : ℕ) (ro
 set_here n p roles r s role shape e within =
     let row = in_row n r s shape e in
     let here : one (p (role_at (set roles r role) r)) ≡ one (p role) =
-        ap (λ (x : Role). one (p x)) (get_or-set_same roles r role Home within) in
+    ap (λ (x : Role). one (p x)) (get_or-set_same roles r role Home within) in
     let all = among_change (λ x. p (role_at (set roles r role) x)) (λ x. p (role_at roles x)) r (s * regions_of n)
-        (regions_of n) row.0 row.1
+    (regions_of n) row.0 row.1
     (λ x other. ap p (get_or-set_other roles r x role Home other)) in
     omega (arith, all, here)
 
@@ -148,7 +148,7 @@ set_elsewhere : (n : Numbers) (p : Role → Bool) (roles : List Role) (r s : ℕ
 set_elsewhere n p roles r s role other =
     among_same (λ x. p (role_at (set roles r role) x)) (λ x. p (role_at roles x)) (s * regions_of n) (regions_of n)
     (λ x low high. ap p (get_or-set_other roles r x role Home
-        (λ e. other (subst (λ (y : ℕ). server_of_region n y ≡ s) e (row_of n x s low high)))))
+    (λ e. other (subst (λ (y : ℕ). server_of_region n y ≡ s) e (row_of n x s low high)))))
 
 no_home_spare : (cycle : ℕ) (role : Role) → is_spare cycle role ≡ true → is_no_home role ≡ true
 no_home_spare cycle Home e = e
@@ -168,7 +168,7 @@ soon_is_true since cycle h = grind (arith, nat_tests)
 module _ (n : Numbers) (cycle : ℕ) (roles : List Role) (region former t s : ℕ) (shape : IsShape n)
     (below : s < n.servers) (region_is : server_of_region n region ≡ s)
     (former_is : server_of_region n former ≡ s) (tablet_is : server_of_tablet n t ≡ s)
-        (spare : is_spare cycle (role_at roles region) ≡ true) (home : role_at roles former ≡ Home)
+    (spare : is_spare cycle (role_at roles region) ≡ true) (home : role_at roles former ≡ Home)
     (size : length roles ≡ n.servers * (n.tablets + n.spare)) where
   differ : former ≢ region
   differ e = spare_is_no_home cycle (role_at roles region) spare (subst (λ (x : ℕ). role_at roles x ≡ Home) e home)
@@ -188,11 +188,11 @@ module _ (n : Numbers) (cycle : ℕ) (roles : List Role) (region former t s : �
   kept_here =
       let first = set_here n is_no_home roles region s Home shape region_is region_below in
       let second = set_here n is_no_home (set roles region Home) former s
-          (Spare (cycle + 1)) shape former_is former_below in
+      (Spare (cycle + 1)) shape former_is former_below in
       let was : one (is_no_home (role_at roles region)) ≡ 1 =
-          ap one (no_home_spare cycle (role_at roles region) spare) in
+      ap one (no_home_spare cycle (role_at roles region) spare) in
       let were : one (is_no_home (role_at (set roles region Home) former)) ≡ 0 =
-          ap (λ (x : Role). one (is_no_home x)) former_was in
+      ap (λ (x : Role). one (is_no_home x)) former_was in
       omega (arith, first, second, was, were)
 
   free_here : count_of n (is_spare cycle) (set (set roles region Home) former (Spare (cycle + 1))) s + 1 ≡ count_of n
@@ -200,10 +200,10 @@ module _ (n : Numbers) (cycle : ℕ) (roles : List Role) (region former t s : �
   free_here =
       let first = set_here n (is_spare cycle) roles region s Home shape region_is region_below in
       let second = set_here n (is_spare cycle) (set roles region Home) former s
-          (Spare (cycle + 1)) shape former_is former_below in
+      (Spare (cycle + 1)) shape former_is former_below in
       let was : one (is_spare cycle (role_at roles region)) ≡ 1 = ap one spare in
       let were : one (is_spare cycle (role_at (set roles region Home) former)) ≡ 0 =
-          ap (λ (x : Role). one (is_spare cycle x)) former_was in
+      ap (λ (x : Role). one (is_spare cycle x)) former_was in
       let later : one (nat_le (cycle + 1) cycle) ≡ 0 = ap one (later_is_false cycle) in
       omega (arith, first, second, was, were, later)
 
@@ -219,12 +219,12 @@ module _ (n : Numbers) (cycle : ℕ) (roles : List Role) (region former t s : �
       ⊎_elim
       (λ (e : r ≡ former). subst (IsSoon cycle)
       (sym (ap (λ (x : ℕ). role_at (set (set roles region Home) former (Spare (cycle + 1))) x) e
-          ∙ get_or-set_same (set roles region Home) former (Spare (cycle + 1)) Home former_below)) (omega arith))
+      ∙ get_or-set_same (set roles region Home) former (Spare (cycle + 1)) Home former_below)) (omega arith))
       (λ other. subst (IsSoon cycle)
-          (sym (get_or-set_other (set roles region Home) former r (Spare (cycle + 1)) Home other))
+      (sym (get_or-set_other (set roles region Home) former r (Spare (cycle + 1)) Home other))
       (⊎_elim
       (λ (e : r ≡ region). subst (IsSoon cycle) (sym (ap (λ (x : ℕ). role_at (set roles region Home) x) e
-          ∙ get_or-set_same roles region Home Home region_below)) tt)
+      ∙ get_or-set_same roles region Home Home region_below)) tt)
       (λ ne. subst (IsSoon cycle) (sym (get_or-set_other roles region r Home Home ne)) soon)
       (cases_eq r region)))
       (cases_eq r former)
@@ -235,14 +235,14 @@ module _ (n : Numbers) (cycle : ℕ) (roles : List Role) (region former t s : �
     size = length-set (set roles region Home) former (Spare (cycle + 1)) ∙ (length-set roles region Home ∙ h.size);
     kept = λ other l. ⊎_elim
         (λ (e : s ≡ other). subst
-            (λ (x : ℕ). count_of n is_no_home (set (set roles region Home) former (Spare (cycle + 1))) x ≡ n.spare) e
-            (kept_here ∙ h.kept s below))
+        (λ (x : ℕ). count_of n is_no_home (set (set roles region Home) former (Spare (cycle + 1))) x ≡ n.spare) e
+        (kept_here ∙ h.kept s below))
         (λ ne. same_elsewhere is_no_home other ne ∙ h.kept other l)
         (cases_eq s other);
     free = λ other l. ⊎_elim
         (λ (e : s ≡ other). subst
         (λ (x : ℕ). count_of n (is_spare cycle) (set (set roles region Home) former (Spare (cycle + 1))) x + sum_by
-            (of_server n x) (given ++ t ∷ []) ≡ n.spare) e
+        (of_server n x) (given ++ t ∷ []) ≡ n.spare) e
         (let more = sum_by_push (of_server n s) given t in
         let mine : of_server n s t ≡ 1 = ap one (eq-eqb (server_of_tablet n t) s tablet_is) in
         let was = h.free s below in
@@ -250,7 +250,7 @@ module _ (n : Numbers) (cycle : ℕ) (roles : List Role) (region former t s : �
         omega (arith, more, mine, was, less)))
         (λ ne. let more = sum_by_push (of_server n other) given t in
         let none : of_server n other t ≡ 0 =
-            ap one (ne_eqb (server_of_tablet n t) other (λ f. ne (sym tablet_is ∙ f))) in
+        ap one (ne_eqb (server_of_tablet n t) other (λ f. ne (sym tablet_is ∙ f))) in
         let was = h.free other l in
         let same = same_elsewhere (is_spare cycle) other ne in
         omega (arith, more, none, was, same))
@@ -264,7 +264,7 @@ module _ (n : Numbers) (cycle : ℕ) (roles : List Role) (region former t s : �
   home_after r other is =
       get_or-set_other (set roles region Home) former r (Spare (cycle + 1)) Home other
       ∙ ⊎_elim (λ (e : r ≡ region). ap (λ (x : ℕ). role_at (set roles region Home) x) e
-          ∙ get_or-set_same roles region Home Home region_below)
+      ∙ get_or-set_same roles region Home Home region_below)
       (λ ne. get_or-set_other roles region r Home Home ne ∙ is) (cases_eq r region)
 
   pub homes_given : (homes : ℕ → ℕ) → former ≡ homes t → t < n.servers * n.tablets → HomesStand n roles homes →
@@ -273,7 +273,7 @@ module _ (n : Numbers) (cycle : ℕ) (roles : List Role) (region former t s : �
     are = record {
       server = λ u l. ⊎_elim
           (λ (e : u ≡ t). ap (server_of_region n) (moved_here u e)
-              ∙ (region_is ∙ (sym tablet_is ∙ ap (server_of_tablet n) (sym e))))
+          ∙ (region_is ∙ (sym tablet_is ∙ ap (server_of_tablet n) (sym e))))
           (λ ne. ap (server_of_region n) (moved_other u ne) ∙ h.are.server u l)
           (cases_eq u t);
       apart = λ u v l m same. ⊎_elim
@@ -285,11 +285,11 @@ module _ (n : Numbers) (cycle : ℕ) (roles : List Role) (region former t s : �
     };
     role = λ u l. ⊎_elim
         (λ (e : u ≡ t). subst (λ (x : ℕ). role_at (set (set roles region Home) former (Spare (cycle + 1))) x ≡ Home)
-            (sym (moved_here u e))
+        (sym (moved_here u e))
         (get_or-set_other (set roles region Home) former region (Spare (cycle + 1)) Home (λ f. differ (sym f))
-            ∙ get_or-set_same roles region Home Home region_below))
+        ∙ get_or-set_same roles region Home Home region_below))
         (λ ne. subst (λ (x : ℕ). role_at (set (set roles region Home) former (Spare (cycle + 1))) x ≡ Home)
-            (sym (moved_other u ne))
+        (sym (moved_other u ne))
         (home_after (homes u) (λ f. ne (h.are.apart u t l within (f ∙ was))) (h.role u l)))
         (cases_eq u t);
   }
@@ -333,10 +333,10 @@ opening_at n (suc count) r l =
     let long = roles_count n count in
     ⊎_elim
     (λ (e : r ≡ count). ap (λ (x : ℕ). get_or (opening_roles n count ++ opening_role n count ∷ []) x Home) (e
-        ∙ sym long) ∙ (get_or_push (opening_roles n count) (opening_role n count) Home
-        (length (opening_roles n count)) refl ∙ ap (opening_role n) (sym e)))
+    ∙ sym long) ∙ (get_or_push (opening_roles n count) (opening_role n count) Home
+    (length (opening_roles n count)) refl ∙ ap (opening_role n) (sym e)))
     (λ ne. get_or_append_left (opening_roles n count) (opening_role n count ∷ []) Home r (omega (arith, l, ne, long))
-        ∙ opening_at n count r (omega (arith, l, ne)))
+    ∙ opening_at n count r (omega (arith, l, ne)))
     (cases_eq r count)
 
 -- past the homes of a row all are spare
@@ -347,15 +347,15 @@ opening_row n p s zero home spare few = omega arith
 opening_row n p s (suc count) home spare few =
     let rest = opening_row n p s count home spare (omega (arith, few)) in
     let place : (s * regions_of n + count) % regions_of n ≡ count =
-        mod-mul-add s (regions_of n) count (omega (arith, few)) in
+    mod-mul-add s (regions_of n) count (omega (arith, few)) in
     ⊎_elim
     (λ (l : count < n.tablets). let here : one (p (opening_role n (s * regions_of n + count))) ≡ 0 =
     ap (λ (x : ℕ). one (p (cond (nat_lt x n.tablets) Home (Spare 0)))) place
-        ∙ (ap (λ (b : Bool). one (p (cond b Home (Spare 0)))) (lt-ltb count n.tablets l) ∙ ap one home) in
+    ∙ (ap (λ (b : Bool). one (p (cond b Home (Spare 0)))) (lt-ltb count n.tablets l) ∙ ap one home) in
     omega (arith, rest, here, l))
     (λ (l : n.tablets ≤ count). let here : one (p (opening_role n (s * regions_of n + count))) ≡ 1 =
     ap (λ (x : ℕ). one (p (cond (nat_lt x n.tablets) Home (Spare 0)))) place
-        ∙ (ap (λ (b : Bool). one (p (cond b Home (Spare 0)))) (le-ltb count n.tablets l) ∙ ap one spare) in
+    ∙ (ap (λ (b : Bool). one (p (cond b Home (Spare 0)))) (le-ltb count n.tablets l) ∙ ap one spare) in
     omega (arith, rest, here, l))
     (cases_lt count n.tablets)
 
@@ -368,7 +368,7 @@ opening_count : (n : Numbers) (p : Role → Bool) (s : ℕ) → p Home ≡ false
 opening_count n p s home spare l =
     let row = row_within s n.servers (regions_of n) l in
     let same = among_same (λ r. p (role_at (opening_roles n (n.servers * regions_of n)) r)) (λ r. p (opening_role n r))
-        (s * regions_of n) (regions_of n)
+    (s * regions_of n) (regions_of n)
     (λ r low high. ap p (opening_at n (n.servers * regions_of n) r (omega (arith, high, row)))) in
     let all = opening_row n p s (regions_of n) home spare (omega arith) in
     omega (arith, same, all)
@@ -381,8 +381,8 @@ roles_open n = record {
   soon = λ r. ⊎_elim (λ (l : r < n.servers * regions_of n). subst (IsSoon 1)
       (sym (opening_at n (n.servers * regions_of n) r l)) (opening_soon n r))
       (λ (l : n.servers * regions_of n ≤ r). subst (IsSoon 1)
-          (sym (get_or_past (opening_roles n (n.servers * regions_of n)) r Home (let long =
-          roles_count n (n.servers * regions_of n) in omega (arith, l, long)))) tt)
+      (sym (get_or_past (opening_roles n (n.servers * regions_of n)) r Home (let long =
+      roles_count n (n.servers * regions_of n) in omega (arith, l, long)))) tt)
       (cases_lt r (n.servers * regions_of n));
 }
 
@@ -398,9 +398,9 @@ homes_open n shape = record {
         let each = shape.in_range.each in
         let rest : t % n.tablets < n.tablets = mod-lt t (omega (arith, each)) in
         let place : opening_home n t % regions_of n ≡ t % n.tablets =
-            mod-mul-add (t / n.tablets) (regions_of n) (t % n.tablets) (omega (arith, rest)) in
+        mod-mul-add (t / n.tablets) (regions_of n) (t % n.tablets) (omega (arith, rest)) in
         ap (λ (x : ℕ). cond (nat_lt x n.tablets) Home (Spare 0)) place
-            ∙ ap (λ (b : Bool). cond b Home (Spare 0)) (lt-ltb (t % n.tablets) n.tablets rest)
+        ∙ ap (λ (b : Bool). cond b Home (Spare 0)) (lt-ltb (t % n.tablets) n.tablets rest)
 
 -- ---- where a server has a spare region, its lowest is found
 pub record SpareFound (roles : List Role) (cycle first count : ℕ) : Type 0 where
@@ -416,16 +416,16 @@ spare_found roles cycle first count r low high within spare =
     let xs = slice_range roles first (first + count) in
     let p = is_spare cycle in
     let long : length xs ≡ count =
-        omega (arith, length-take (first + count - first) (drop first roles), length-drop first roles, within) in
+    omega (arith, length-take (first + count - first) (drop first roles), length-drop first roles, within) in
     let there : (j : ℕ) → j < count → get_or xs j Home ≡ role_at roles (first + j) =
     λ j l. get_or-take (first + count - first) (drop first roles) j Home (omega (arith, l))
-        ∙ get_or-drop first roles j Home in
+    ∙ get_or-drop first roles j Home in
     let place : first + (r - first) ≡ r = omega (arith, low) in
     let passes : p (get_or xs (r - first) Home) ≡ true = ap p (there (r - first) (omega (arith, low, high))
-        ∙ ap (role_at roles) place) ∙ spare in
+    ∙ ap (role_at roles) place) ∙ spare in
     let early : position_or_len p xs ≤ r - first =
     ⊎_elim (λ (l : r - first < position_or_len p xs). absurd (let fails = fails_before_first p xs (r - first) Home l in
-        let clash : true ≡ false = sym passes ∙ fails in cc)) (λ (l : position_or_len p xs ≤ r - first). l)
+    let clash : true ≡ false = sym passes ∙ fails in cc)) (λ (l : position_or_len p xs ≤ r - first). l)
     (cases_lt (r - first) (position_or_len p xs)) in
     let inside : position_or_len p xs < length xs = omega (arith, early, long, low, high) in
     record {
@@ -447,9 +447,9 @@ spare_left n cycle roles given s l h few =
     let size = h.size in
     let row = row_within s n.servers (regions_of n) l in
     let some = among_some (λ r. is_spare cycle (role_at roles r)) (s * regions_of n) (regions_of n)
-        (omega (arith, was, few)) in
+    (omega (arith, was, few)) in
     spare_found roles cycle (s * regions_of n) (regions_of n) some.0 some.1.0 some.1.1
-        (omega (arith, row, size)) some.1.2
+    (omega (arith, row, size)) some.1.2
 
 -- such a region is of the server, and nobody's home
 pub found_free : (n : Numbers) (cycle : ℕ) (roles : List Role) (homes : ℕ

@@ -29,7 +29,7 @@ sees act w = record { act = act; found = w }
 -- ---- words
 left_push : (word : ℕ) (trail : List Observation) (o : Observation) (x : ℕ) →
     left_in word (trail ++ o ∷ []) x ≡ cond (o.act.word == word) (after_op o.act.op (left_in word trail x))
-        (left_in word trail x)
+    (left_in word trail x)
 unfolding left_in
 left_push word [] o x = refl
 left_push word (p ∷ trail) o x = left_push word trail o (cond (p.act.word == word) (after_op p.act.op x) x)
@@ -38,8 +38,8 @@ pub left_other : (word : ℕ) (trail : List Observation) (o : Observation) (x : 
     → left_in word (trail ++ o ∷ []) x ≡ left_in word trail x
 left_other word trail o x other =
     left_push word trail o x
-        ∙ ap (λ (b : Bool). cond b (after_op o.act.op (left_in word trail x)) (left_in word trail x))
-        (ne_eqb o.act.word word other)
+    ∙ ap (λ (b : Bool). cond b (after_op o.act.op (left_in word trail x)) (left_in word trail x))
+    (ne_eqb o.act.word word other)
 
 pub left_stored : (word : ℕ) (trail : List Observation) (y w x : ℕ)
     → left_in word (trail ++ sees (record { word = word; op = Store y }) w ∷ []) x ≡ y
@@ -69,8 +69,15 @@ stands_on {Before} {act} {other} {Found} {trail} o plain h = record {
 pub stands_now : (Before : List Observation → Type 0) (act other : Act) (Found : ℕ
     → Type 0) (trail : List Observation) (w : ℕ) → Before trail → Found w →
     Stands Before act Found other (trail ++ sees act w ∷ [])
-stands_now Before act other Found trail w before tells = record { front = trail; found = w; since = []; before = before;
-    tells = tells; made = refl; kept = All-nil (λ p. p.act ≢ other) }
+stands_now Before act other Found trail w before tells = record {
+  front = trail;
+  found = w;
+  since = [];
+  before = before;
+  tells = tells;
+  made = refl;
+  kept = All-nil (λ p. p.act ≢ other);
+}
 
 abbrev pub NeverOpens : Numbers → Act → Type 0
 NeverOpens n act = (m : ℕ) → act ≢ opens n m
@@ -142,7 +149,7 @@ pub shut_more : (n : Numbers) (m w : ℕ) (trail : List Observation) → EachBel
     → EachBelow IsShut n (m + 1) (trail ++ sees (shuts n m) w ∷ [])
 shut_more n m w trail each =
     below_more (λ j. IsShut n j (trail ++ sees (shuts n m) w ∷ [])) m
-        (shut_on n m trail (sees (shuts n m) w) (shut_is_no_opening n m) each)
+    (shut_on n m trail (sees (shuts n m) w) (shut_is_no_opening n m) each)
     (stands_now (λ _. Unit {0}) (shuts n m) (opens n m) (λ _. Unit {0}) trail w tt tt)
 
 pub drained_more : (n : Numbers) (m w : ℕ) (trail : List Observation) → IsShut n m trail → count_of w ≡ 0
@@ -157,7 +164,7 @@ pub open_more : (n : Numbers) (m w : ℕ) (trail : List Observation) → EachBel
     → EachBelow IsOpen n (m + 1) (trail ++ sees (opens n m) w ∷ [])
 open_more n m w trail each =
     below_more (λ j. IsOpen n j (trail ++ sees (opens n m) w ∷ [])) m
-        (open_on n m trail (sees (opens n m) w) (opening_is_no_shut n m) each)
+    (open_on n m trail (sees (opens n m) w) (opening_is_no_shut n m) each)
     (stands_now (λ _. Unit {0}) (opens n m) (shuts n m) (λ _. Unit {0}) trail w tt tt)
 
 -- ---- completion stays told
@@ -174,5 +181,5 @@ told_on {n} {cycle} {Before} {Gate} {trail} o h = record {
   polled = h.polled;
   made = ap (λ (q : List Observation). q ++ o ∷ []) h.made
       ∙ (append_assoc h.front (h.poll ++ h.since) (o ∷ [])
-          ∙ ap (λ (q : List Observation). h.front ++ q) (append_assoc h.poll h.since (o ∷ [])));
+      ∙ ap (λ (q : List Observation). h.front ++ q) (append_assoc h.poll h.since (o ∷ [])));
 }

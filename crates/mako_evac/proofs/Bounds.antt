@@ -10,7 +10,8 @@ use Rattle.mako_evac.specs.Owners.{IsOwner, IsOwnTablet, IsOwnEntry, IsEntryOf, 
 
 -- its tablets are tablets of all servers
 pub end_within : (o : Owner) → IsOwner o → tablets_end o ≤ o.shape.servers * o.shape.tablets
-end_within o h = mul-le (o.server + 1) o.shape.tablets o.shape.servers o.shape.tablets (let s = h.server in omega (arith, s)) (omega arith)
+end_within o h = mul-le (o.server + 1) o.shape.tablets o.shape.servers o.shape.tablets (let s = h.server in
+    omega (arith, s)) (omega arith)
 
 pub tablet_within : (o : Owner) (t : ℕ) → IsOwner o → IsOwnTablet o t → t < o.shape.servers * o.shape.tablets
 tablet_within o t h own = let below = own.below in omega (arith, below, end_within o h)
@@ -35,7 +36,12 @@ entry_is_own o t x own of =
 pub entry_within : (o : Owner) (x : ℕ) → IsOwner o → IsOwnEntry o x → x < all_entries o.shape
 entry_within o x h own =
     let below = own.below in
-    omega (arith, below, first_entry_rises o.shape.entries (tablets_end o) (o.shape.servers * o.shape.tablets) (end_within o h))
+    omega (
+      arith,
+      below,
+      first_entry_rises o.shape.entries (tablets_end o) (o.shape.servers * o.shape.tablets)
+          (end_within o h),
+    )
 
 -- it has an entry
 pub has_entry : (o : Owner) → IsOwner o → first_entry o.shape (first_tablet o) < first_entry o.shape (tablets_end o)
@@ -49,10 +55,12 @@ has_entry o h =
 
 -- a place behind another is one of the ring
 pub after_below : (size at : ℕ) → at < size → after_place size at < size
-after_below size at h = by_eq (λ b. (if b then 0 else at + 1) < size) (at + 1) size (λ e. omega (arith, h)) (λ d. omega (arith, h, d))
+after_below size at h =
+    by_eq (λ b. (if b then 0 else at + 1) < size) (at + 1) size (λ e. omega (arith, h)) (λ d. omega (arith, h, d))
 
 -- so is an entry of one of its tablets
-pub record_within : (o : Owner) (t x : ℕ) → IsOwner o → IsOwnTablet o t → IsEntryOf o.shape t x → x < all_entries o.shape
+pub record_within : (o : Owner) (t x : ℕ) → IsOwner o → IsOwnTablet o t → IsEntryOf o.shape t x
+    → x < all_entries o.shape
 record_within o t x h own of = entry_within o x h (entry_is_own o t x own of)
 
 -- the first of its tablets is not past the end

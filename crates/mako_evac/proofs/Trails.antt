@@ -26,13 +26,16 @@ act_done (Do act) h = refl
 act_done Ended h = absurd h
 
 -- a trail in two parts with one observation more
-pub grown : (trail front own : List Observation) (o : Observation) → trail ≡ front ++ own → trail ++ o ∷ [] ≡ front ++ (own ++ o ∷ [])
+pub grown : (trail front own : List Observation) (o : Observation) → trail ≡ front ++ own
+    → trail ++ o ∷ [] ≡ front ++ (own ++ o ∷ [])
 grown trail front own o e = ap (λ (q : List Observation). q ++ o ∷ []) e ∙ append_assoc front own (o ∷ [])
 
 -- one whose second part was empty
-pub first_grown : (trail front own : List Observation) (o : Observation) → trail ≡ front ++ own → own ≡ [] → trail ++ o ∷ [] ≡ front ++ o ∷ []
+pub first_grown : (trail front own : List Observation) (o : Observation) → trail ≡ front ++ own → own ≡ []
+    → trail ++ o ∷ [] ≡ front ++ o ∷ []
 first_grown trail front own o e empty =
-    ap (λ (q : List Observation). q ++ o ∷ []) (e ∙ (ap (λ (q : List Observation). front ++ q) empty ∙ append-nil front))
+    ap (λ (q : List Observation). q ++ o ∷ []) (e
+    ∙ (ap (λ (q : List Observation). front ++ q) empty ∙ append-nil front))
 
 -- a fact that each step keeps
 abbrev pub Keeps : (Evacuation → List Observation → Type 0) → Type 0
@@ -40,7 +43,8 @@ Keeps P = (l : Evacuation) (trail : List Observation) (w : ℕ) → IsKnown l �
     P l trail → P (fed l w) (trail ++ seen (next_of l) w ∷ [])
 
 -- what holds at the end of a trail
-pub record Along (P : Evacuation → List Observation → Type 0) (m : Evacuation) (trail : List Observation) (l : Evacuation) : Type 0 where
+pub record Along (P : Evacuation → List Observation
+    → Type 0) (m : Evacuation) (trail : List Observation) (l : Evacuation) : Type 0 where
   pub known : IsKnown l
   pub same : l.owner ≡ m.owner
   pub holds : P l trail

@@ -40,7 +40,8 @@ is_freed = record {
   };
   made = refl;
   rise = record {
-    own = All-cons (λ (a : Name). IsOwnEntry owner a.entry) (record { entry = 0; generation = 0 }) [] (record { from = lit≤ tt; below = lit< tt }) (All-nil (λ (a : Name). IsOwnEntry owner a.entry));
+    own = All-cons (λ (a : Name). IsOwnEntry owner a.entry) (record { entry = 0; generation = 0 }) []
+        (record { from = lit≤ tt; below = lit< tt }) (All-nil (λ (a : Name). IsOwnEntry owner a.entry));
     rising = λ i j d low high. absurd (omega (arith, low, high));
   };
   slot_is = refl;

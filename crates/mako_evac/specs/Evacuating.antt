@@ -15,7 +15,8 @@ use Rattle.mako_evac.specs.declared.freeing.FreeStage.{FreeStage}
 use Rattle.mako_evac.specs.declared.freeing.FreeStage.TheVariants.{Loading, Storing, Awaiting, Telling}
 use Rattle.mako_evac.specs.Owners.{IsOwner, first_tablet, IsOwnTablet, IsOwnEntry}
 use Rattle.mako_evac.specs.Passing.{at_tablet}
-use Rattle.mako_evac.specs.Tablets.{tablet_next, tablet_fed, TabletFits, tablet_waits, tablet_renewed, tablet_rank, TabletIsKnown}
+use Rattle.mako_evac.specs.Tablets.{tablet_next, tablet_fed, TabletFits, tablet_waits, tablet_renewed, tablet_rank}
+use Rattle.mako_evac.specs.Tablets.{TabletIsKnown}
 use Rattle.mako_evac.specs.Freeing.{free_next, free_fed, FreeFits, free_waits, free_renewed, free_rank, FreeIsKnown}
 
 -- whose it is, the slot of its notice ring for the next notice, and the stage

@@ -18,12 +18,14 @@ use Rattle.mako_evac.specs.declared.owner.Owner.{Owner}
 use Rattle.mako_evac.specs.declared.stage.EvacStage.{EvacStage}
 use Rattle.mako_evac.specs.declared.stage.EvacStage.TheVariants.{Evacuating, Freeing, AwaitingEnd, TellingEnd, Ended}
 use Rattle.mako_evac.specs.declared.tablet.TabletStage.{TabletStage}
-use Rattle.mako_evac.specs.declared.tablet.TabletStage.TheVariants.{LoadingLeaving, Shutting, Draining, LoadingHome, LoadingEntry, Copying, Clearing, Reopening}
+use Rattle.mako_evac.specs.declared.tablet.TabletStage.TheVariants.{LoadingLeaving, Shutting, Draining, LoadingHome}
+use Rattle.mako_evac.specs.declared.tablet.TabletStage.TheVariants.{LoadingEntry, Copying, Clearing, Reopening}
 use Rattle.mako_evac.specs.declared.freeing.FreeStage.{FreeStage}
 use Rattle.mako_evac.specs.declared.freeing.FreeStage.TheVariants.{Loading, Storing, Awaiting, Telling}
 use Rattle.mako_evac.specs.Owners.{IsOwner, tablets_end, first_entry, is_left, is_dead}
 use Rattle.mako_evac.specs.Evacuating.{Evacuation, opening, next_of, Fits, fed, slot_at}
-use Rattle.mako_evac.specs.Runs.{at_gate, at_word, FoundLeaving, Drained, Copied, Cleared, TabletsPassed, Stored, FoundEmpty, EntriesPassed}
+use Rattle.mako_evac.specs.Runs.{at_gate, at_word, FoundLeaving, Drained, Copied, Cleared, TabletsPassed, Stored}
+use Rattle.mako_evac.specs.Runs.{FoundEmpty, EntriesPassed}
 
 -- the gate was shut, and each look so far counted somebody
 pub record Looking (o : Owner) (t : ℕ) (trail : List Observation) : Type 0 where
@@ -64,9 +66,12 @@ pub record Full (slot : ℕ) (trail : List Observation) : Type 0 where
 -- what was made at the entry, with this notice slot due
 abbrev pub EntryShown : Owner → ℕ → ℕ → FreeStage → List Observation → Type 0
 EntryShown o slot x Loading trail = trail ≡ []
-EntryShown o slot x (Storing generation) trail = (word : ℕ) × (is_dead o (entry_at word) ≡ true) × ((entry_at word).generation ≡ generation) × (trail ≡ at_word o x Load word ∷ [])
-EntryShown o slot x (Awaiting generation) trail = (front : List Observation) × (looks : List Observation) × Stored o x generation front × Full (slot_at o slot) looks × (trail ≡ front ++ looks)
-EntryShown o slot x (Telling generation) trail = (front : List Observation) × (looks : List Observation) × Stored o x generation front × FoundEmpty (slot_at o slot) looks × (trail ≡ front ++ looks)
+EntryShown o slot x (Storing generation) trail = (word : ℕ) × (is_dead o (entry_at word) ≡ true)
+    × ((entry_at word).generation ≡ generation) × (trail ≡ at_word o x Load word ∷ [])
+EntryShown o slot x (Awaiting generation) trail = (front : List Observation) × (looks : List Observation)
+    × Stored o x generation front × Full (slot_at o slot) looks × (trail ≡ front ++ looks)
+EntryShown o slot x (Telling generation) trail = (front : List Observation) × (looks : List Observation)
+    × Stored o x generation front × FoundEmpty (slot_at o slot) looks × (trail ≡ front ++ looks)
 
 -- the tablets before this one were passed, and then this was made
 pub record AtTablet (o : Owner) (t : ℕ) (stage : TabletStage) (trail : List Observation) : Type 0 where
@@ -93,7 +98,8 @@ pub record AtEntry (o : Owner) (at x slot : ℕ) (stage : FreeStage) (trail : Li
   pub made : trail ≡ front ++ own
 
 -- all own entries were passed, and then this was made
-pub record AtEnd (o : Owner) (at slot : ℕ) (Shown : ℕ → List Observation → Type 0) (trail : List Observation) : Type 0 where
+pub record AtEnd (o : Owner) (at slot : ℕ) (Shown : ℕ → List Observation
+    → Type 0) (trail : List Observation) : Type 0 where
   pub front : List Observation
   pub own : List Observation
   pub names : List Name

@@ -8,12 +8,24 @@ use Rattle.mako_evac.specs.declared.owner.Owner.{Owner}
 
 abbrev pub owner : Owner
 owner = record {
-  shape = record { mutators = 1; servers = 1; tablets = 1; entries = 1; words = 16; spare = 1; ring = 1; roots = 1; cycles = 1; generations = 2 };
+  shape = record {
+    mutators = 1;
+    servers = 1;
+    tablets = 1;
+    entries = 1;
+    words = 16;
+    spare = 1;
+    ring = 1;
+    roots = 1;
+    cycles = 1;
+    generations = 2;
+  };
   server = 0;
   cycle = 1;
 }
 
--- What the tablet leaves is word 14, the entry 16 and the one notice slot 9. The tablet leaves nothing; the entry has an
+-- What the tablet leaves is word 14, the entry 16 and the one notice slot 9. The tablet leaves nothing; the entry has
+-- an
 -- object of generation 0 that is not of the cycle. It is freed and told, and once the collector has taken the name the
 -- end is told.
 abbrev pub freeing : List Observation

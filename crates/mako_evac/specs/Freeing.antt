@@ -39,7 +39,8 @@ entry_fed o x e = if is_dead o e then Freeing x (Storing e.generation) else at_e
 abbrev pub free_fed : Owner → ℕ → FreeStage → ℕ → EvacStage
 free_fed o x Loading w = entry_fed o x (entry_at w)
 free_fed o x (Storing generation) w = Freeing x (Awaiting generation)
-free_fed o x (Awaiting generation) w = if w == 0 then Freeing x (Telling generation) else Freeing x (Awaiting generation)
+free_fed o x (Awaiting generation) w =
+    if w == 0 then Freeing x (Telling generation) else Freeing x (Awaiting generation)
 free_fed o x (Telling generation) w = at_entry o (x + 1)
 
 -- the generation behind this one fits its bits

@@ -1,4 +1,5 @@
--- Low copies: of records of at most seven fields over tops of at most seven words, which fit into any region. Tests are of these.
+-- Low copies: of records of at most seven fields over tops of at most seven words, which fit into any region. Tests are
+-- of these.
 use Rattle.std.specs.Prelude.{◌≡◌, ℕ, true, ◌+◌, ◌<◌, ◌≤◌}
 use Rattle.mako_words.specs.Entries.{entry_at}
 use Rattle.mako_shape.specs.Places.{total}
@@ -29,7 +30,8 @@ IsLow _ = Unit {0}
 
 -- words that keep copies low
 abbrev pub KeepsTabletLow : Owner → TabletStage → ℕ → Type 0
-KeepsTabletLow o (LoadingEntry region x) w = is_left o region (entry_at w) ≡ true → (entry_at w).address + 7 < total o.shape
+KeepsTabletLow o (LoadingEntry region x) w = is_left o region (entry_at w) ≡ true
+    → (entry_at w).address + 7 < total o.shape
 KeepsTabletLow o (Copying region x copy) w = w ≤ 7
 KeepsTabletLow o _ w = Unit {0}
 

@@ -58,10 +58,13 @@ pub record FoundHome (o : Owner) (t region : ℕ) (trail : List Observation) : T
 -- its beginning to its end, and no other
 pub data Copied (o : Owner) (t region : ℕ) : ℕ → List Observation → Type 0 where
   none : (trail : List Observation) → FoundHome o t region trail → Copied o t region (first_entry o.shape t) trail
-  keeps : (x word : ℕ) (trail : List Observation) → Copied o t region x trail → is_left o region (entry_at word) ≡ false →
+  keeps : (x word : ℕ) (trail : List Observation) → Copied o t region x trail
+      → is_left o region (entry_at word) ≡ false →
       Copied o t region (x + 1) (trail ++ at_word o x Load word ∷ [])
-  copies : (x word : ℕ) (trail copy : List Observation) (last : Copy) → Copied o t region x trail → is_left o region (entry_at word) ≡ true →
-      Goes copying.next_of copying.Fits copying.fed (opening_copy o.shape x (entry_at word) region) copy last → copying.next_of last ≡ NoStep →
+  copies : (x word : ℕ) (trail copy : List Observation) (last : Copy) → Copied o t region x trail
+      → is_left o region (entry_at word) ≡ true →
+      Goes copying.next_of copying.Fits copying.fed (opening_copy o.shape x (entry_at word) region) copy last
+      → copying.next_of last ≡ NoStep →
       Copied o t region (x + 1) (trail ++ at_word o x Load word ∷ copy)
 
 -- then it left no region any more
@@ -82,8 +85,10 @@ pub record Evacuated (o : Owner) (t : ℕ) (trail : List Observation) : Type 0 w
 -- the own tablets below this one, one after the other: each left no region, or was evacuated
 pub data TabletsPassed (o : Owner) : ℕ → List Observation → Type 0 where
   none : TabletsPassed o (first_tablet o) []
-  stays : (t : ℕ) (trail : List Observation) → TabletsPassed o t trail → TabletsPassed o (t + 1) (trail ++ at_leaving o t Load 0 ∷ [])
-  leaves : (t : ℕ) (trail own : List Observation) → TabletsPassed o t trail → Evacuated o t own → TabletsPassed o (t + 1) (trail ++ own)
+  stays : (t : ℕ) (trail : List Observation) → TabletsPassed o t trail
+      → TabletsPassed o (t + 1) (trail ++ at_leaving o t Load 0 ∷ [])
+  leaves : (t : ℕ) (trail own : List Observation) → TabletsPassed o t trail → Evacuated o t own
+      → TabletsPassed o (t + 1) (trail ++ own)
 
 -- the entry was found with a dead object of this generation, and stored free
 pub record Stored (o : Owner) (x generation : ℕ) (trail : List Observation) : Type 0 where
@@ -106,13 +111,16 @@ pub record Told (o : Owner) (at x generation : ℕ) (trail : List Observation) :
   pub looks : List Observation
   pub empty : FoundEmpty (slot_at o at) looks
   pub before : ℕ
-  pub made : trail ≡ front ++ (looks ++ sees (slot_at o at) (Store (notice_word (Freed (name_of x generation)))) before ∷ [])
+  pub made : trail ≡ front ++ (looks ++ sees (slot_at o at)
+      (Store (notice_word (Freed (name_of x generation)))) before ∷ [])
 
 -- the own entries below this one, one after the other, with the names that were freed and the notice slot that is due:
 -- each entry had no dead object, or was freed and its name told
 pub data EntriesPassed (o : Owner) (at : ℕ) : ℕ → List Observation → List Name → ℕ → Type 0 where
   none : EntriesPassed o at (first_entry o.shape (first_tablet o)) [] [] at
-  keeps : (x word slot : ℕ) (trail : List Observation) (names : List Name) → EntriesPassed o at x trail names slot → is_dead o (entry_at word) ≡ false →
+  keeps : (x word slot : ℕ) (trail : List Observation) (names : List Name) → EntriesPassed o at x trail names slot
+      → is_dead o (entry_at word) ≡ false →
       EntriesPassed o at (x + 1) (trail ++ at_word o x Load word ∷ []) names slot
-  frees : (x generation slot : ℕ) (trail own : List Observation) (names : List Name) → EntriesPassed o at x trail names slot → Told o slot x generation own →
+  frees : (x generation slot : ℕ) (trail own : List Observation) (names : List Name)
+      → EntriesPassed o at x trail names slot → Told o slot x generation own →
       EntriesPassed o at (x + 1) (trail ++ own) (names ++ name_of x generation ∷ []) (after_place o.shape.ring slot)

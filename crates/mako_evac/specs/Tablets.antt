@@ -19,11 +19,13 @@ use Rattle.mako_evac.specs.declared.owner.Owner.{Owner}
 use Rattle.mako_evac.specs.declared.stage.EvacStage.{EvacStage}
 use Rattle.mako_evac.specs.declared.stage.EvacStage.TheVariants.{Evacuating}
 use Rattle.mako_evac.specs.declared.tablet.TabletStage.{TabletStage}
-use Rattle.mako_evac.specs.declared.tablet.TabletStage.TheVariants.{LoadingLeaving, Shutting, Draining, LoadingHome, LoadingEntry, Copying, Clearing, Reopening}
+use Rattle.mako_evac.specs.declared.tablet.TabletStage.TheVariants.{LoadingLeaving, Shutting, Draining, LoadingHome}
+use Rattle.mako_evac.specs.declared.tablet.TabletStage.TheVariants.{LoadingEntry, Copying, Clearing, Reopening}
 use Rattle.mako_evac.specs.Owners.{first_entry, IsEntryOf, is_left}
 use Rattle.mako_evac.specs.Passing.{at_tablet, at_record}
 
--- load leaving; or the shut bit into the gate; look at the gate; load home; load each entry, and copy; store leaving 0; and the shut bit away
+-- load leaving; or the shut bit into the gate; look at the gate; load home; load each entry, and copy; store leaving 0;
+-- and the shut bit away
 abbrev pub tablet_next : Owner → ℕ → TabletStage → Step
 tablet_next o t LoadingLeaving = does (index o.shape (leaving t)) Load
 tablet_next o t Shutting = does (index o.shape (tablet_gate t)) (Or shut_bit)
@@ -36,7 +38,9 @@ tablet_next o t Reopening = does (index o.shape (tablet_gate t)) (And (all_but s
 
 -- a record that is left behind is copied, and any other passed over
 abbrev pub record_fed : Owner → ℕ → ℕ → ℕ → EntryWord → EvacStage
-record_fed o t region x e = if is_left o region e then Evacuating t (Copying region x (opening_copy o.shape x e region)) else at_record o t region (x + 1)
+record_fed o t region x e =
+    if is_left o region e then Evacuating t
+    (Copying region x (opening_copy o.shape x e region)) else at_record o t region (x + 1)
 
 -- a copy goes on, or past its end the next entry is due
 abbrev pub copy_fed : Owner → ℕ → ℕ → ℕ → Copy → Step → EvacStage
@@ -49,7 +53,8 @@ tablet_fed o t Shutting w = Evacuating t Draining
 tablet_fed o t Draining w = if is_counting w then Evacuating t Draining else Evacuating t LoadingHome
 tablet_fed o t LoadingHome w = at_record o t w (first_entry o.shape t)
 tablet_fed o t (LoadingEntry region x) w = record_fed o t region x (entry_at w)
-tablet_fed o t (Copying region x copy) w = let after = copying.fed copy w in copy_fed o t region x after (copying.next_of after)
+tablet_fed o t (Copying region x copy) w = let after = copying.fed copy w in
+    copy_fed o t region x after (copying.next_of after)
 tablet_fed o t Clearing w = Evacuating t Reopening
 tablet_fed o t Reopening w = at_tablet o (t + 1)
 

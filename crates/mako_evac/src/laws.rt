@@ -1,4 +1,5 @@
-//! Laws of the machine of an evacuation, over whole trails. The functions do nothing; what they ensure is for contracts and proofs.
+//! Laws of the machine of an evacuation, over whole trails. The functions do nothing; what they ensure is for contracts
+//! and proofs.
 
 ghost use Rattle.mako_evac.specs.Evidence.{EvacuationsGo};
 ghost use Rattle.mako_evac.specs.Rising.{EvacuationsEnd};

@@ -6,7 +6,8 @@ ghost use Rattle.mako_step.specs.Acts.{IsWithin};
 ghost use Rattle.mako_record.specs.Copying.{next_of};
 ghost use Rattle.mako_evac.specs.Owners as owners;
 ghost use Rattle.mako_evac.specs.Owners.{IsOwner, IsOwnTablet};
-ghost use Rattle.mako_evac.specs.Tablets.{tablet_next, tablet_fed, tablet_waits, copy_fed, IsPlaced, TabletFits, TabletIsKnown};
+ghost use Rattle.mako_evac.specs.Tablets.{tablet_next, tablet_fed, tablet_waits, copy_fed, IsPlaced, TabletFits};
+ghost use Rattle.mako_evac.specs.Tablets.{TabletIsKnown};
 
 use crate::owner::Owner;
 use crate::stage::{EvacStage, at_record, at_tablet};

@@ -157,7 +157,8 @@ const CYCLE: u64 = 0x80_0000;
 
 #[test]
 fn copies_what_is_left_and_frees_what_is_dead(rt: HostRuntime) {
-    // tablet 1 leaves region 1 for region 2; its entries are one of the cycle, a dead one, one of the cycle, and a free one
+    // tablet 1 leaves region 1 for region 2; its entries are one of the cycle, a dead one, one of the cycle, and a free
+    // one
     let given = [
         (19, 2),
         (23, 2),

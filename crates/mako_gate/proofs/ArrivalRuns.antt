@@ -22,7 +22,8 @@ found : (word w : ℕ) (trail : List Observation) (b : Bool) → is_shut w ≡ b
 found word w trail true e t = (e, t)
 found word w trail false e t = (w, e, t)
 
-step : (word w : ℕ) (trail : List Observation) (act : Act) (s : ArriveStage) → Made word trail s → arrival_next word s ≡ Do act →
+step : (word w : ℕ) (trail : List Observation) (act : Act) (s : ArriveStage) → Made word trail s
+    → arrival_next word s ≡ Do act →
     Made word (trail ++ record { act = act; found = w } ∷ []) (stage_fed s w)
 step word w trail act Arriving m d = found word w _ (is_shut w) refl (longer trail [] word w (Add 1) act m d)
 step word w trail act (TakingBack v) m d = (w, m.0, longer trail (sees word (Add 1) v ∷ []) word w (Sub 1) act m.1 d)

@@ -14,7 +14,8 @@ abbrev Made : ℕ → List Observation → LeaveStage → Type 0
 Made word trail Leaving = trail ≡ []
 Made word trail Ended = (w : ℕ) × (trail ≡ sees word (Sub 1) w ∷ [])
 
-step : (word w : ℕ) (trail : List Observation) (act : Act) (s : LeaveStage) → Made word trail s → departure_next word s ≡ Do act →
+step : (word w : ℕ) (trail : List Observation) (act : Act) (s : LeaveStage) → Made word trail s
+    → departure_next word s ≡ Do act →
     Made word (trail ++ record { act = act; found = w } ∷ []) Ended
 step word w trail act Leaving m d = (w, longer trail [] word w (Sub 1) act m d)
 step word w trail act Ended m d = absurd (cc)

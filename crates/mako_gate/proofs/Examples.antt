@@ -4,7 +4,8 @@ use Rattle.std.proofs.lemmas.Option.{same_Some, none-some}
 use Rattle.mako_shape.specs.Places.{Place, mutator_gate, Within}
 use Rattle.mako_gate.specs.Changes.{Sets, LeavesGates}
 use Rattle.mako_gate.specs.Standings.{away, refused, inside, rests, pauses, GateFacet, mutator_at, shutter_at}
-use Rattle.mako_gate.specs.GateActions.{Reached, opens, goes_on, arrives, is_refused, departs, steps_back, pause_begins, pause_shuts, pause_looks, pause_reopens, pause_ends}
+use Rattle.mako_gate.specs.GateActions.{Reached, opens, goes_on, arrives, is_refused, departs, steps_back, pause_begins}
+use Rattle.mako_gate.specs.GateActions.{pause_shuts, pause_looks, pause_reopens, pause_ends}
 use Rattle.mako_gate.specs.Examples.{one, only, seats, WorkedRun}
 use Rattle.mako_gate.proofs.GatesHold.{reached_have}
 use Rattle.mako_gate.proofs.GatesTell.{gates_tell}
@@ -22,9 +23,12 @@ same x = record { tablets = λ t h. refl; owns = λ m h. refl; turns = λ t h. r
 
 -- each view is away, and keeps nothing shut
 settled : (i : ℕ) (g : GateFacet) → slice_get (seats away rests) i ≡ Some g → (g.standing ≡ away) × (g.watch ≡ rests)
-settled zero g e = let s = same_Some (mutator_at 0 away) g e in (ap (λ (q : GateFacet). q.standing) (sym s), ap (λ (q : GateFacet). q.watch) (sym s))
-settled (suc zero) g e = let s = same_Some (shutter_at 1 rests) g e in (ap (λ (q : GateFacet). q.standing) (sym s), ap (λ (q : GateFacet). q.watch) (sym s))
-settled (suc (suc zero)) g e = let s = same_Some (shutter_at 2 rests) g e in (ap (λ (q : GateFacet). q.standing) (sym s), ap (λ (q : GateFacet). q.watch) (sym s))
+settled zero g e = let s = same_Some (mutator_at 0 away) g e in
+    (ap (λ (q : GateFacet). q.standing) (sym s), ap (λ (q : GateFacet). q.watch) (sym s))
+settled (suc zero) g e = let s = same_Some (shutter_at 1 rests) g e in
+    (ap (λ (q : GateFacet). q.standing) (sym s), ap (λ (q : GateFacet). q.watch) (sym s))
+settled (suc (suc zero)) g e = let s = same_Some (shutter_at 2 rests) g e in
+    (ap (λ (q : GateFacet). q.standing) (sym s), ap (λ (q : GateFacet). q.watch) (sym s))
 settled (suc (suc (suc i))) g e = absurd (none-some g e)
 
 start : Reached one (only 0) (seats away rests)
@@ -47,7 +51,8 @@ shut_over = goes_on (only 1) (only 0x10001) (seats inside (pauses 0 0 0)) 2 _ _ 
     (pause_shuts 2 2 0 0 0 (omega arith) refl (omega arith) (omega arith) (sets 1 0x10001))
 
 left : Reached one (only 0x10000) (seats away (pauses 0 1 0))
-left = goes_on (only 0x10001) (only 0x10000) (seats inside (pauses 0 1 0)) 0 _ _ shut_over refl (departs 0 (omega arith) (sets 0x10001 0x10000))
+left = goes_on (only 0x10001) (only 0x10000) (seats inside (pauses 0 1 0)) 0 _ _ shut_over refl
+    (departs 0 (omega arith) (sets 0x10001 0x10000))
 
 drained : Reached one (only 0x10000) (seats away (pauses 0 1 1))
 drained = goes_on (only 0x10000) (only 0x10000) (seats away (pauses 0 1 0)) 2 _ _ left refl
@@ -70,9 +75,18 @@ reopened = goes_on (only 0) (only 0) (seats away (pauses 1 1 1)) 2 _ _ opened re
 
 never : (W : Place → ℕ) → Reached one W (seats inside (pauses 0 1 1)) → ⊥
 never W r =
-    let tell = gates_tell one W (seats inside (pauses 0 1 1)) (reached_have one W (seats inside (pauses 0 1 1)) (omega arith) r) in
-    let none = tell.drained.owns_empty 0 2 (shutter_at 2 (pauses 0 1 1)) (mutator_at 0 inside) (omega arith) refl (omega arith) refl in
+    let tell = gates_tell one W (seats inside (pauses 0 1 1))
+    (reached_have one W (seats inside (pauses 0 1 1)) (omega arith) r) in
+    let none = tell.drained.owns_empty 0 2 (shutter_at 2 (pauses 0 1 1)) (mutator_at 0 inside) (omega arith) refl
+    (omega arith) refl in
     omega arith
 
 pub worked_run : WorkedRun
-worked_run = record { entered = entered; is_shut = shut_over; drained = drained; turned_off = turned_off; reopened = reopened; never = never }
+worked_run = record {
+  entered = entered;
+  is_shut = shut_over;
+  drained = drained;
+  turned_off = turned_off;
+  reopened = reopened;
+  never = never;
+}

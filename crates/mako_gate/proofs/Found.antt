@@ -1,5 +1,6 @@
 -- What a view finds in the words of gates and turns, and what its acts make of them.
-use Rattle.std.proofs.Common.{◌≡◌, ℕ, ◌+◌, ◌-◌, ◌*◌, ◌^◌, ◌<◌, ◌≤◌, ◌==◌, inl, inr, true, false, List, set, slice_get, sum_by, Some, eq-eqb, sym, ap, ◌∙◌, refl, arith}
+use Rattle.std.proofs.Common.{◌≡◌, ℕ, ◌+◌, ◌-◌, ◌*◌, ◌^◌, ◌<◌, ◌≤◌, ◌==◌, inl, inr, true, false, List, set, slice_get}
+use Rattle.std.proofs.Common.{sum_by, Some, eq-eqb, sym, ap, ◌∙◌, refl, arith}
 use Rattle.std.specs.Prelude.{bit_and}
 use Rattle.std.proofs.lemmas.Bool.{cases_lt}
 use Rattle.std.proofs.lemmas.Bool.Decides.{nat_tests}
@@ -49,9 +50,11 @@ shut_less w low high =
 
 -- ---- what a view finds
 
-module _ (n : Numbers) (W : Place → ℕ) (gs : List GateFacet) (o : Gates n W gs) (i : ℕ) (g : GateFacet) (here : slice_get gs i ≡ Some g) where
+module _ (n : Numbers) (W : Place
+    → ℕ) (gs : List GateFacet) (o : Gates n W gs) (i : ℕ) (g : GateFacet) (here : slice_get gs i ≡ Some g) where
   -- a tablet's gate that its server has not shut is open
-  pub stands_open : (u : ℕ) → u < tablets_of n → i ≡ n.mutators + server_of_tablet n u → shut_by u g.watch ≡ 0 → W (tablet_gate u) < shut_bit
+  pub stands_open : (u : ℕ) → u < tablets_of n → i ≡ n.mutators + server_of_tablet n u → shut_by u g.watch ≡ 0
+      → W (tablet_gate u) < shut_bit
   stands_open u h seat none = elim (cases_lt 0 (sum_by (λ (x : GateFacet). shut_by u x.watch) gs)) [
     | inl l ↦ (let m = some_term (λ (x : GateFacet). shut_by u x.watch) gs l in
         let same : m.0 ≡ i = o.shutter m.0 u m.1 m.2 m.3 ∙ sym seat in
@@ -61,20 +64,24 @@ module _ (n : Numbers) (W : Place → ℕ) (gs : List GateFacet) (o : Gates n W 
   ]
 
   -- a word with count 0 that is found by the server that keeps the gate shut is that of the shut gate alone
-  pub count_zero : (u : ℕ) → u < tablets_of n → 1 ≤ shut_by u g.watch → count_of (W (tablet_gate u)) ≡ 0 → W (tablet_gate u) ≡ shut_bit
+  pub count_zero : (u : ℕ) → u < tablets_of n → 1 ≤ shut_by u g.watch → count_of (W (tablet_gate u)) ≡ 0
+      → W (tablet_gate u) ≡ shut_bit
   count_zero u h one none =
       let a = le_sum (λ (x : GateFacet). shut_by u x.watch) gs i g here in
       let q = o.tablets u h in omega (arith, q.word_is, q.few, q.once, o.many)
 
   -- who has arrived is counted, and who keeps a gate shut finds its bit
   pub arrived_word : (u : ℕ) → u < tablets_of n → 1 ≤ arrived u g.standing → 1 ≤ W (tablet_gate u)
-  arrived_word u h one = let a = le_sum (λ (x : GateFacet). arrived u x.standing) gs i g here in omega (arith, (o.tablets u h).word_is)
+  arrived_word u h one = let a = le_sum (λ (x : GateFacet). arrived u x.standing) gs i g here in
+      omega (arith, (o.tablets u h).word_is)
 
   pub shut_word : (u : ℕ) → u < tablets_of n → 1 ≤ shut_by u g.watch → shut_bit ≤ W (tablet_gate u)
-  shut_word u h one = let a = le_sum (λ (x : GateFacet). shut_by u x.watch) gs i g here in omega (arith, (o.tablets u h).word_is)
+  shut_word u h one = let a = le_sum (λ (x : GateFacet). shut_by u x.watch) gs i g here in
+      omega (arith, (o.tablets u h).word_is)
 
   -- the same at the mutators' gates, which the collector shuts
-  pub own_open : (u : ℕ) → u < n.mutators → i ≡ n.mutators + n.servers → shut_own u g.watch ≡ 0 → W (mutator_gate u) < shut_bit
+  pub own_open : (u : ℕ) → u < n.mutators → i ≡ n.mutators + n.servers → shut_own u g.watch ≡ 0
+      → W (mutator_gate u) < shut_bit
   own_open u h seat none = elim (cases_lt 0 (sum_by (λ (x : GateFacet). shut_own u x.watch) gs)) [
     | inl l ↦ (let m = some_term (λ (x : GateFacet). shut_own u x.watch) gs l in
         let same : m.0 ≡ i = o.pauser m.0 u m.1 m.2 m.3 ∙ sym seat in
@@ -83,7 +90,8 @@ module _ (n : Numbers) (W : Place → ℕ) (gs : List GateFacet) (o : Gates n W 
     | inr z ↦ (let q = o.owns u h in omega (arith, q.word_is, q.few, o.many))
   ]
 
-  pub own_count_zero : (u : ℕ) → u < n.mutators → 1 ≤ shut_own u g.watch → count_of (W (mutator_gate u)) ≡ 0 → W (mutator_gate u) ≡ shut_bit
+  pub own_count_zero : (u : ℕ) → u < n.mutators → 1 ≤ shut_own u g.watch → count_of (W (mutator_gate u)) ≡ 0
+      → W (mutator_gate u) ≡ shut_bit
   own_count_zero u h one none =
       let a = le_sum (λ (x : GateFacet). shut_own u x.watch) gs i g here in
       let q = o.owns u h in omega (arith, q.word_is, q.few, q.once, o.many)
@@ -91,11 +99,13 @@ module _ (n : Numbers) (W : Place → ℕ) (gs : List GateFacet) (o : Gates n W 
   pub own_arrived_word : g.number < n.mutators → 1 ≤ arrived_own g.standing → 1 ≤ W (mutator_gate g.number)
   own_arrived_word h one =
       let a = le_sum (λ (x : GateFacet). counted (x.number == g.number) (arrived_own x.standing)) gs i g here in
-      let e : counted (g.number == g.number) (arrived_own g.standing) ≡ arrived_own g.standing = ap (λ q. counted q (arrived_own g.standing)) (eq-eqb g.number g.number refl) in
+      let e : counted (g.number == g.number) (arrived_own g.standing) ≡ arrived_own g.standing =
+      ap (λ q. counted q (arrived_own g.standing)) (eq-eqb g.number g.number refl) in
       omega (arith, (o.owns g.number h).word_is)
 
   pub own_shut_word : (u : ℕ) → u < n.mutators → 1 ≤ shut_own u g.watch → shut_bit ≤ W (mutator_gate u)
-  own_shut_word u h one = let a = le_sum (λ (x : GateFacet). shut_own u x.watch) gs i g here in omega (arith, (o.owns u h).word_is)
+  own_shut_word u h one = let a = le_sum (λ (x : GateFacet). shut_own u x.watch) gs i g here in
+      omega (arith, (o.owns u h).word_is)
 
   -- a turn word names its holder
   pub held_word : (u : ℕ) → u < tablets_of n → holds_turn u g.standing ≡ 1 → W (turn u) ≡ g.number + 1
@@ -105,7 +115,8 @@ module _ (n : Numbers) (W : Place → ℕ) (gs : List GateFacet) (o : Gates n W 
       let b = sum_at (λ (x : GateFacet). holds_turn u x.standing * (x.number + 1)) gs i g z here in
       let c = o.holder u h in
       let d = o.turns u h in
-      let none = none_along (λ (x : GateFacet). holds_turn u x.standing) (λ (x : GateFacet). holds_turn u x.standing * (x.number + 1))
+      let none = none_along (λ (x : GateFacet). holds_turn u x.standing)
+      (λ (x : GateFacet). holds_turn u x.standing * (x.number + 1))
       (λ x e. rw e (omega arith)) (set gs i z) (omega arith) in
       let mine : holds_turn u g.standing * (g.number + 1) ≡ g.number + 1 = rw one (omega arith) in
       omega arith

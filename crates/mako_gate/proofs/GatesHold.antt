@@ -2,7 +2,8 @@
 use Rattle.std.proofs.Common.{◌≡◌, ℕ, ◌+◌, ◌*◌, ◌==◌, sym, ap, ◌∙◌, arith}
 use Rattle.mako_shape.specs.Places.{mutator_gate, tablet_gate}
 use Rattle.mako_gate.specs.Sums.{counted}
-use Rattle.mako_gate.specs.Standings.{GateFacet, arrived, admitted, holds_turn, shut_by, drained_by, arrived_own, admitted_own, shut_own, drained_own}
+use Rattle.mako_gate.specs.Standings.{GateFacet, arrived, admitted, holds_turn, shut_by, drained_by, arrived_own}
+use Rattle.mako_gate.specs.Standings.{admitted_own, shut_own, drained_own}
 use Rattle.mako_gate.specs.Gates.{Gate}
 use Rattle.mako_gate.specs.GateActions.{opens, goes_on}
 use Rattle.mako_gate.specs.GateLaws.{StepsKeepGates, ActionsAreSteps, OpeningsHaveGates, ReachedHaveGates}
@@ -45,7 +46,9 @@ opening_has n W gs many z = record {
       (sum_none (λ (g : GateFacet). drained_own m g.watch) gs (λ i g e. ap (drained_own m) (z.rest_all i g e)));
   turns = λ t h. z.turns t h ∙ sym (sum_none (λ (g : GateFacet). holds_turn t g.standing * (g.number + 1)) gs
       (λ i g e. ap (λ s. holds_turn t s * (g.number + 1)) (z.away_all i g e) ∙ (omega arith)));
-  holder = λ t h. (let e = sum_none (λ (g : GateFacet). holds_turn t g.standing) gs (λ i g e. ap (holds_turn t) (z.away_all i g e)) in omega arith);
+  holder = λ t h. (let e =
+      sum_none (λ (g : GateFacet). holds_turn t g.standing) gs (λ i g e. ap (holds_turn t) (z.away_all i g e)) in
+      omega arith);
   mutator = λ i g e one. absurd (let d = ap arrived_own (z.away_all i g e) in omega arith);
   seat = λ i g e one. absurd (let d = ap arrived_own (z.away_all i g e) in omega arith);
   shutter = λ i t g e one. absurd (let d = ap (shut_by t) (z.rest_all i g e) in omega arith);

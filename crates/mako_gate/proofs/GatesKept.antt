@@ -1,5 +1,6 @@
 -- Gates and turns are kept by one view's step.
-use Rattle.std.proofs.Common.{◌≡◌, ℕ, ◌+◌, ◌*◌, ◌<◌, ◌≤◌, ◌==◌, inl, inr, List, set, slice_get, sum_by, Some, sym, ◌∙◌, subst, arith}
+use Rattle.std.proofs.Common.{◌≡◌, ℕ, ◌+◌, ◌*◌, ◌<◌, ◌≤◌, ◌==◌, inl, inr, List, set, slice_get, sum_by, Some, sym, ◌∙◌}
+use Rattle.std.proofs.Common.{subst, arith}
 use Rattle.std.proofs.lemmas.List.Sums.{sum_by-le-sum_by}
 use Rattle.std.proofs.lemmas.Bool.{cases_lt}
 use Rattle.mako_shape.specs.declared.numbers.Numbers.{Numbers}
@@ -7,14 +8,17 @@ use Rattle.mako_shape.specs.Places.{Place, mutator_gate, tablet_gate}
 use Rattle.mako_gate.specs.Bits.{shut_bit}
 use Rattle.mako_gate.specs.Sums.{counted}
 use Rattle.mako_gate.specs.Changes.{tablets_of}
-use Rattle.mako_gate.specs.Standings.{GateFacet, arrived, admitted, holds_turn, shut_by, drained_by, arrived_own, admitted_own, shut_own, drained_own}
+use Rattle.mako_gate.specs.Standings.{GateFacet, arrived, admitted, holds_turn, shut_by, drained_by, arrived_own}
+use Rattle.mako_gate.specs.Standings.{admitted_own, shut_own, drained_own}
 use Rattle.mako_gate.specs.Gates.{Gate, Gates}
 use Rattle.mako_gate.specs.GateSteps.{Moves, GateStep}
 use Rattle.mako_gate.proofs.Lists.{at_set, sum_at, le_sum, sum_seated}
-use Rattle.mako_gate.proofs.Numbers.{counted_le, counted_mono, arrived_le, arrived_own_le, admitted_le, holds_le, own_le, drained_le, drained_own_le, holds_named}
+use Rattle.mako_gate.proofs.Numbers.{counted_le, counted_mono, arrived_le, arrived_own_le, admitted_le, holds_le}
+use Rattle.mako_gate.proofs.Numbers.{own_le, drained_le, drained_own_le, holds_named}
 
 -- the numbers of one gate after the step
-pub gate_moved : (M W V A B I O S U D E a b m o s u d e : ℕ) → M < shut_bit → Gate M W A I S D → Moves W V a b m o s u d e →
+pub gate_moved : (M W V A B I O S U D E a b m o s u d e : ℕ) → M < shut_bit → Gate M W A I S D
+    → Moves W V a b m o s u d e →
     B + a ≡ A + b → O + m ≡ I + o → U + s ≡ S + u → E + d ≡ D + e → O ≤ B → E ≤ U → B ≤ M →
     a ≤ A → m ≤ I → s ≤ S → d ≤ D → Gate M V B O U E
 gate_moved M W V A B I O S U D E a b m o s u d e many g p ha hm hs hd hob heu few la lm ls ld = record {
@@ -32,7 +36,8 @@ gate_moved M W V A B I O S U D E a b m o s u d e many g p ha hm hs hd hob heu fe
 
 module _ (n : Numbers) (W V : Place → ℕ) (gs : List GateFacet) (o : Gates n W gs)
     (i : ℕ) (f g : GateFacet) (here : slice_get gs i ≡ Some f) (p : GateStep n W V i f g) where
-  mutator_after : (j : ℕ) (x : GateFacet) → slice_get (set gs i g) j ≡ Some x → 1 ≤ arrived_own x.standing → x.number < n.mutators
+  mutator_after : (j : ℕ) (x : GateFacet) → slice_get (set gs i g) j ≡ Some x → 1 ≤ arrived_own x.standing
+      → x.number < n.mutators
   mutator_after j x at one = elim (at_set gs i j g x at) [
     | inl c ↦ subst (λ (y : GateFacet). y.number < n.mutators) c.1
         (p.mutator (subst (λ (y : GateFacet). 1 ≤ arrived_own y.standing) (sym c.1) one))
@@ -46,7 +51,8 @@ module _ (n : Numbers) (W V : Place → ℕ) (gs : List GateFacet) (o : Gates n 
     | inr c ↦ o.seat j x c.1 one
   ]
 
-  few_after : (k : GateFacet → ℕ) → ((x : GateFacet) → k x ≤ arrived_own x.standing) → sum_by k (set gs i g) ≤ n.mutators
+  few_after : (k : GateFacet → ℕ) → ((x : GateFacet) → k x ≤ arrived_own x.standing)
+      → sum_by k (set gs i g) ≤ n.mutators
   few_after k h = sum_seated k (set gs i g) n.mutators (λ x. omega (arith, h x, arrived_own_le x.standing))
       (λ j x at one. let l = h x in
       let m = mutator_after j x at (omega arith) in
@@ -70,27 +76,34 @@ module _ (n : Numbers) (W V : Place → ℕ) (gs : List GateFacet) (o : Gates n 
   pub gates_kept : Gates n V (set gs i g)
   gates_kept = record {
     many = o.many;
-    tablets = λ t h. gate_moved n.mutators (W (tablet_gate t)) (V (tablet_gate t)) _ _ _ _ _ _ _ _ _ _ _ _ _ _ _ _ o.many (o.tablets t h) (p.tablets t h)
+    tablets = λ t h. gate_moved n.mutators (W (tablet_gate t))
+        (V (tablet_gate t)) _ _ _ _ _ _ _ _ _ _ _ _ _ _ _ _ o.many (o.tablets t h) (p.tablets t h)
         (sum_at (λ (x : GateFacet). arrived t x.standing) gs i f g here)
         (sum_at (λ (x : GateFacet). admitted t x.standing) gs i f g here)
         (sum_at (λ (x : GateFacet). shut_by t x.watch) gs i f g here)
         (sum_at (λ (x : GateFacet). drained_by t x.watch) gs i f g here)
-        (sum_by-le-sum_by (λ (x : GateFacet). admitted t x.standing) (λ (x : GateFacet). arrived t x.standing) (set gs i g) (λ x. admitted_le t x.standing))
-        (sum_by-le-sum_by (λ (x : GateFacet). drained_by t x.watch) (λ (x : GateFacet). shut_by t x.watch) (set gs i g) (λ x. drained_le t x.watch))
+        (sum_by-le-sum_by (λ (x : GateFacet). admitted t x.standing) (λ (x : GateFacet). arrived t x.standing)
+        (set gs i g) (λ x. admitted_le t x.standing))
+        (sum_by-le-sum_by (λ (x : GateFacet). drained_by t x.watch) (λ (x : GateFacet). shut_by t x.watch) (set gs i g)
+        (λ x. drained_le t x.watch))
         (few_after (λ (x : GateFacet). arrived t x.standing) (λ x. arrived_le t x.standing))
         (le_sum (λ (x : GateFacet). arrived t x.standing) gs i f here)
         (le_sum (λ (x : GateFacet). admitted t x.standing) gs i f here)
         (le_sum (λ (x : GateFacet). shut_by t x.watch) gs i f here)
         (le_sum (λ (x : GateFacet). drained_by t x.watch) gs i f here);
-    owns = λ k h. gate_moved n.mutators (W (mutator_gate k)) (V (mutator_gate k)) _ _ _ _ _ _ _ _ _ _ _ _ _ _ _ _ o.many (o.owns k h) (p.owns k h)
+    owns = λ k h. gate_moved n.mutators (W (mutator_gate k)) (V (mutator_gate k)) _ _ _ _ _ _ _ _ _ _ _ _ _ _ _ _ o.many
+        (o.owns k h) (p.owns k h)
         (sum_at (λ (x : GateFacet). counted (x.number == k) (arrived_own x.standing)) gs i f g here)
         (sum_at (λ (x : GateFacet). counted (x.number == k) (admitted_own x.standing)) gs i f g here)
         (sum_at (λ (x : GateFacet). shut_own k x.watch) gs i f g here)
         (sum_at (λ (x : GateFacet). drained_own k x.watch) gs i f g here)
-        (sum_by-le-sum_by (λ (x : GateFacet). counted (x.number == k) (admitted_own x.standing)) (λ (x : GateFacet). counted (x.number == k) (arrived_own x.standing)) (set gs i g)
+        (sum_by-le-sum_by (λ (x : GateFacet). counted (x.number == k) (admitted_own x.standing))
+        (λ (x : GateFacet). counted (x.number == k) (arrived_own x.standing)) (set gs i g)
         (λ x. counted_mono (x.number == k) (admitted_own x.standing) (arrived_own x.standing) (own_le x.standing)))
-        (sum_by-le-sum_by (λ (x : GateFacet). drained_own k x.watch) (λ (x : GateFacet). shut_own k x.watch) (set gs i g) (λ x. drained_own_le k x.watch))
-        (few_after (λ (x : GateFacet). counted (x.number == k) (arrived_own x.standing)) (λ x. counted_le (x.number == k) (arrived_own x.standing)))
+        (sum_by-le-sum_by (λ (x : GateFacet). drained_own k x.watch) (λ (x : GateFacet). shut_own k x.watch)
+        (set gs i g) (λ x. drained_own_le k x.watch))
+        (few_after (λ (x : GateFacet). counted (x.number == k) (arrived_own x.standing))
+        (λ x. counted_le (x.number == k) (arrived_own x.standing)))
         (le_sum (λ (x : GateFacet). counted (x.number == k) (arrived_own x.standing)) gs i f here)
         (le_sum (λ (x : GateFacet). counted (x.number == k) (admitted_own x.standing)) gs i f here)
         (le_sum (λ (x : GateFacet). shut_own k x.watch) gs i f here)

@@ -1,5 +1,6 @@
 -- Lists read by index, after one write.
-use Rattle.std.proofs.Common.{◌≡◌, ◌≢◌, ℕ, zero, suc, ◌+◌, ◌<◌, ◌≤◌, ◌⊎◌, inl, inr, ⊎_elim, List, [], ◌∷◌, set, Some, ap, refl, arith}
+use Rattle.std.proofs.Common.{◌≡◌, ◌≢◌, ℕ, zero, suc, ◌+◌, ◌<◌, ◌≤◌, ◌⊎◌, inl, inr, ⊎_elim, List, [], ◌∷◌, set, Some}
+use Rattle.std.proofs.Common.{ap, refl, arith}
 use Rattle.std.specs.Prelude.{slice_get, sum_by}
 use Rattle.std.proofs.lemmas.Bool.{cases_lt}
 use Rattle.std.proofs.lemmas.Option.{same_Some, none-some, slice_get_within, get_or_from_slice_get}
@@ -7,12 +8,14 @@ use Rattle.std.proofs.lemmas.List.Sums.{sum_by-set, sum_by-cons, get_or-le-sum_b
 
 module _ {A : Type 0} where
   -- an element after a write is the one written, or an older one at another place
-  pub at_set : (xs : List A) (i j : ℕ) (a b : A) → slice_get (set xs i a) j ≡ Some b → ((j ≡ i) × (a ≡ b)) ⊎ ((j ≢ i) × (slice_get xs j ≡ Some b))
+  pub at_set : (xs : List A) (i j : ℕ) (a b : A) → slice_get (set xs i a) j ≡ Some b → ((j ≡ i) × (a ≡ b))
+      ⊎ ((j ≢ i) × (slice_get xs j ≡ Some b))
   at_set [] i j a b e = absurd (none-some b e)
   at_set (x ∷ xs) zero zero a b e = inl (refl, same_Some a b e)
   at_set (x ∷ xs) zero (suc j) a b e = inr ((λ h. omega arith), e)
   at_set (x ∷ xs) (suc i) zero a b e = inr ((λ h. omega arith), e)
-  at_set (x ∷ xs) (suc i) (suc j) a b e = ⊎_elim (λ t. inl (ap suc t.0, t.1)) (λ t. let n = t.0 in inr ((λ h. n (omega arith)), t.1)) (at_set xs i j a b e)
+  at_set (x ∷ xs) (suc i) (suc j) a b e = ⊎_elim (λ t. inl (ap suc t.0, t.1)) (λ t. let n = t.0 in
+      inr ((λ h. n (omega arith)), t.1)) (at_set xs i j a b e)
 
   pub set_at : (xs : List A) (i : ℕ) (a b : A) → slice_get xs i ≡ Some a → slice_get (set xs i b) i ≡ Some b
   set_at [] i a b e = absurd (none-some a e)
@@ -27,16 +30,19 @@ module _ {A : Type 0} where
   set_past (x ∷ xs) (suc i) (suc j) a b d e = set_past xs i j a b (λ h. d (ap suc h)) e
 
   -- a sum after a write
-  pub sum_at : (f : A → ℕ) (xs : List A) (i : ℕ) (a b : A) → slice_get xs i ≡ Some a → sum_by f (set xs i b) + f a ≡ sum_by f xs + f b
+  pub sum_at : (f : A → ℕ) (xs : List A) (i : ℕ) (a b : A) → slice_get xs i ≡ Some a
+      → sum_by f (set xs i b) + f a ≡ sum_by f xs + f b
   sum_at f xs i a b e =
       let s = sum_by-set f xs i b a (slice_get_within xs i a e) in
       rw (get_or_from_slice_get xs i a a e) at s
 
   pub le_sum : (f : A → ℕ) (xs : List A) (i : ℕ) (a : A) → slice_get xs i ≡ Some a → f a ≤ sum_by f xs
-  le_sum f xs i a e = let s = get_or-le-sum_by f xs i a (slice_get_within xs i a e) in rw (get_or_from_slice_get xs i a a e) at s
+  le_sum f xs i a e = let s = get_or-le-sum_by f xs i a (slice_get_within xs i a e) in
+      rw (get_or_from_slice_get xs i a a e) at s
 
   -- two elements of a sum
-  pub two_at : (f : A → ℕ) (xs : List A) (i j : ℕ) (a b : A) → i ≢ j → slice_get xs i ≡ Some a → slice_get xs j ≡ Some b → f a + f b ≤ sum_by f xs
+  pub two_at : (f : A → ℕ) (xs : List A) (i j : ℕ) (a b : A) → i ≢ j → slice_get xs i ≡ Some a → slice_get xs j ≡ Some b
+      → f a + f b ≤ sum_by f xs
   two_at f [] i j a b d e h = absurd (none-some a e)
   two_at f (x ∷ xs) zero zero a b d e h = absurd (d refl)
   two_at f (x ∷ xs) zero (suc j) a b d e h =
@@ -47,7 +53,8 @@ module _ {A : Type 0} where
       let c = sum_by-cons f x xs in let r = two_at f xs i j a b (λ s. d (ap suc s)) e h in omega arith
 
   -- a sum that is not 0 has an element that is not
-  pub some_term : (f : A → ℕ) (xs : List A) → 0 < sum_by f xs → (i : ℕ) × (a : A) × (slice_get xs i ≡ Some a) × (0 < f a)
+  pub some_term : (f : A → ℕ) (xs : List A) → 0 < sum_by f xs → (i : ℕ) × (a : A) × (slice_get xs i ≡ Some a)
+      × (0 < f a)
   some_term f [] h = absurd (omega arith)
   some_term f (x ∷ xs) h = elim (cases_lt 0 (f x)) [
     | inl l ↦ (0, x, refl, l)

@@ -1,10 +1,13 @@
 -- The parts of one view in the numbers of gates.
-use Rattle.std.proofs.Common.{◌≡◌, ◌≢◌, ℕ, ◌+◌, ◌*◌, ◌<◌, ◌≤◌, ◌==◌, ◌&&◌, nat_le, nat_lt, ◌⊎◌, inl, inr, Bool, true, false, eq-eqb, ne_eqb, ap, refl, arith}
+use Rattle.std.proofs.Common.{◌≡◌, ◌≢◌, ℕ, ◌+◌, ◌*◌, ◌<◌, ◌≤◌, ◌==◌, ◌&&◌, nat_le, nat_lt, ◌⊎◌, inl, inr, Bool, true}
+use Rattle.std.proofs.Common.{false, eq-eqb, ne_eqb, ap, refl, arith}
 use Rattle.std.proofs.lemmas.Bool.{cases_eq, cases_lt}
 use Rattle.std.proofs.lemmas.Bool.Decides.{nat_tests}
 use Rattle.mako_gate.specs.Bits.{shut_bit}
 use Rattle.mako_gate.specs.Sums.{counted}
-use Rattle.mako_gate.specs.Standings.{Standing, away, turned_away, at_tablet, with_turn, Watch, rests, pauses, GateFacet, arrived, admitted, holds_turn, shut_by, drained_by, arrived_own, admitted_own, shut_own, drained_own}
+use Rattle.mako_gate.specs.Standings.{Standing, away, turned_away, at_tablet, with_turn, Watch, rests, pauses}
+use Rattle.mako_gate.specs.Standings.{GateFacet, arrived, admitted, holds_turn, shut_by, drained_by, arrived_own}
+use Rattle.mako_gate.specs.Standings.{admitted_own, shut_own, drained_own}
 
 pub counted_le : (b : Bool) (z : ℕ) → counted b z ≤ z
 counted_le true z = omega arith
@@ -103,9 +106,21 @@ below_not k m z l = ap (λ q. counted q z) (test k m l)
 pub shut_more : (low m k : ℕ) → low ≤ m →
     counted (nat_le low k && nat_lt k (m + 1)) 1 ≡ counted (nat_le low k && nat_lt k m) 1 + counted (m == k) 1
 shut_more low m k h = elim (cases_lt k low) [
-  | inl l ↦ omega (arith, between_not low (m + 1) k (inl l), between_not low m k (inl l), count_off m k 1 (λ e. omega arith))
+  | inl l ↦ omega (
+    arith,
+    between_not low (m + 1) k (inl l),
+    between_not low m k (inl l),
+    count_off m k 1
+        (λ e. omega arith),
+  )
   | inr a ↦ elim (cases_lt k m) [
-    | inl l ↦ omega (arith, between_is low (m + 1) k a (omega arith), between_is low m k a l, count_off m k 1 (λ e. omega arith))
+    | inl l ↦ omega (
+      arith,
+      between_is low (m + 1) k a (omega arith),
+      between_is low m k a l,
+      count_off m k 1
+          (λ e. omega arith),
+    )
     | inr r ↦ elim (cases_eq m k) [
       | inl e ↦ omega (arith, between_is low (m + 1) k a (omega arith), between_not low m k (inr r), count_at m k 1 e)
       | inr d ↦ (let ne : m ≢ k = d in
@@ -118,9 +133,20 @@ shut_more low m k h = elim (cases_lt k low) [
 pub shut_less : (m top k : ℕ) → m < top →
     counted (nat_le m k && nat_lt k top) 1 ≡ counted (nat_le (m + 1) k && nat_lt k top) 1 + counted (m == k) 1
 shut_less m top k h = elim (cases_lt k m) [
-  | inl l ↦ omega (arith, between_not (m + 1) top k (inl (omega arith)), between_not m top k (inl l), count_off m k 1 (λ e. omega arith))
+  | inl l ↦ omega (
+    arith,
+    between_not (m + 1) top k (inl (omega arith)),
+    between_not m top k (inl l),
+    count_off m k 1
+        (λ e. omega arith),
+  )
   | inr r ↦ elim (cases_eq m k) [
-    | inl e ↦ omega (arith, between_not (m + 1) top k (inl (omega arith)), between_is m top k r (omega arith), count_at m k 1 e)
+    | inl e ↦ omega (
+      arith,
+      between_not (m + 1) top k (inl (omega arith)),
+      between_is m top k r (omega arith),
+      count_at m k 1 e,
+    )
     | inr d ↦ (let ne : m ≢ k = d in elim (cases_lt k top) [
       | inl l ↦ omega (arith, between_is (m + 1) top k (omega arith) l, between_is m top k r l, count_off m k 1 d)
       | inr q ↦ omega (arith, between_not (m + 1) top k (inr q), between_not m top k (inr q), count_off m k 1 d)
@@ -132,9 +158,21 @@ shut_less m top k h = elim (cases_lt k m) [
 pub drained_more : (low m top k : ℕ) → low ≤ m → m < top →
     drained_own k (pauses low top (m + 1)) ≡ drained_own k (pauses low top m) + counted (m == k) 1
 drained_more low m top k a h = elim (cases_lt k m) [
-  | inl l ↦ omega (arith, below_is k (m + 1) whole (omega arith), below_is k m whole l, count_off m k 1 (λ e. omega arith))
+  | inl l ↦ omega (
+    arith,
+    below_is k (m + 1) whole (omega arith),
+    below_is k m whole l,
+    count_off m k 1
+        (λ e. omega arith),
+  )
   | inr r ↦ elim (cases_eq m k) [
-    | inl e ↦ omega (arith, below_is k (m + 1) whole (omega arith), below_not k m whole r, count_at m k 1 e, between_is low top k (omega arith) (omega arith))
+    | inl e ↦ omega (
+      arith,
+      below_is k (m + 1) whole (omega arith),
+      below_not k m whole r,
+      count_at m k 1 e,
+      between_is low top k (omega arith) (omega arith),
+    )
     | inr d ↦ (let ne : m ≢ k = d in
         omega (arith, below_not k (m + 1) whole (omega arith), below_not k m whole r, count_off m k 1 d))
   ]

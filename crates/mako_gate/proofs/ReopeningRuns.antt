@@ -16,7 +16,8 @@ abbrev Made : ℕ → List Observation → ReopenStage → Type 0
 Made word trail Clearing = trail ≡ []
 Made word trail Ended = (w : ℕ) × (trail ≡ sees word (And (all_but shut_bit)) w ∷ [])
 
-step : (word w : ℕ) (trail : List Observation) (act : Act) (s : ReopenStage) → Made word trail s → reopening_next word s ≡ Do act →
+step : (word w : ℕ) (trail : List Observation) (act : Act) (s : ReopenStage) → Made word trail s
+    → reopening_next word s ≡ Do act →
     Made word (trail ++ record { act = act; found = w } ∷ []) Ended
 step word w trail act Clearing m d = (w, longer trail [] word w (And (all_but shut_bit)) act m d)
 step word w trail act Ended m d = absurd (cc)

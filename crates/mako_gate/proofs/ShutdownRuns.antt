@@ -1,5 +1,6 @@
 -- The runs of a shutting: at each stage, what was made so far.
-use Rattle.std.proofs.Common.{◌≡◌, ℕ, ◌<◌, Bool, true, false, List, [], ◌∷◌, ◌++◌, map, if◌then◌else◌, refl, sym, ap, subst, ◌∙◌, arith}
+use Rattle.std.proofs.Common.{◌≡◌, ℕ, ◌<◌, Bool, true, false, List, [], ◌∷◌, ◌++◌, map, if◌then◌else◌, refl, sym, ap}
+use Rattle.std.proofs.Common.{subst, ◌∙◌, arith}
 use Rattle.std.specs.List.{All}
 use Rattle.std.proofs.lemmas.List.{map-append}
 use Rattle.std.proofs.lemmas.List.Elements.{All-append, All-cons, All-nil}
@@ -35,19 +36,35 @@ counts_not : (w : ℕ) → is_counting w ≡ false → count_of w ≡ 0
 counts_not w e = grind (arith, nat_tests)
 
 looked : (word w : ℕ) (trail : List Observation) (m : Looked word trail) (b : Bool) → is_counting w ≡ b →
-    (next : List Observation) → next ≡ sees word (Or shut_bit) m.before ∷ (map (sees word Load) m.looks ++ sees word Load w ∷ []) →
+    (next : List Observation)
+    → next ≡ sees word (Or shut_bit) m.before ∷ (map (sees word Load) m.looks ++ sees word Load w ∷ []) →
     Made word next (if b then Looking else Ended)
 looked word w trail m true e next t = record {
   before = m.before;
   looks = m.looks ++ w ∷ [];
   made_so = t ∙ ap (λ l. sees word (Or shut_bit) m.before ∷ l) (sym (map-append (sees word Load) m.looks (w ∷ [])));
-  counted = All-append (λ v. 0 < count_of v) m.looks (w ∷ []) m.counted (All-cons (λ v. 0 < count_of v) w [] (counts w e) (All-nil (λ v. 0 < count_of v)));
+  counted = All-append (λ v. 0 < count_of v) m.looks (w ∷
+      []) m.counted (All-cons (λ v. 0 < count_of v) w [] (counts w e) (All-nil (λ v. 0 < count_of v)));
 }
-looked word w trail m false e next t = record { before = m.before; looks = m.looks; last = w; made = t; counted = m.counted; empty = counts_not w e }
+looked word w trail m false e next t = record {
+  before = m.before;
+  looks = m.looks;
+  last = w;
+  made = t;
+  counted = m.counted;
+  empty = counts_not w e;
+}
 
-step : (word w : ℕ) (trail : List Observation) (act : Act) (s : ShutStage) → Made word trail s → shutdown_next word s ≡ Do act →
+step : (word w : ℕ) (trail : List Observation) (act : Act) (s : ShutStage) → Made word trail s
+    → shutdown_next word s ≡ Do act →
     Made word (trail ++ record { act = act; found = w } ∷ []) (stage_fed s w)
-step word w trail act Shutting m d = record { before = w; looks = []; made_so = longer trail [] word w (Or shut_bit) act m d; counted = All-nil (λ v. 0 < count_of v) }
+step word w trail act Shutting m d =
+    record {
+      before = w;
+      looks = [];
+      made_so = longer trail [] word w (Or shut_bit) act m d;
+      counted = All-nil (λ v. 0 < count_of v);
+    }
 step word w trail act Looking m d = looked word w trail m (is_counting w) refl _
     (longer trail (sees word (Or shut_bit) m.before ∷ map (sees word Load) m.looks) word w Load act m.made_so d)
 step word w trail act Ended m d = absurd (cc)

@@ -2,7 +2,8 @@
 use Rattle.std.specs.Prelude.{ℕ, List, [], ◌∷◌}
 use Rattle.mako_shape.specs.declared.numbers.Numbers.{Numbers}
 use Rattle.mako_shape.specs.Places.{Place, mutator_gate}
-use Rattle.mako_gate.specs.Standings.{Standing, away, refused, inside, Watch, rests, pauses, GateFacet, mutator_at, shutter_at}
+use Rattle.mako_gate.specs.Standings.{Standing, away, refused, inside, Watch, rests, pauses, GateFacet, mutator_at}
+use Rattle.mako_gate.specs.Standings.{shutter_at}
 use Rattle.mako_gate.specs.GateActions.{Reached}
 
 -- one of everything

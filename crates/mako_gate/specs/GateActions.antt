@@ -8,7 +8,8 @@ use Rattle.mako_shape.specs.Belongings.{server_of_tablet}
 use Rattle.mako_step.specs.declared.act.Op.TheVariants.{Load, Store, Add, Sub, Or, And, Exchange}
 use Rattle.mako_gate.specs.Bits.{shut_bit}
 use Rattle.mako_gate.specs.Changes.{Makes, LeavesGates, tablets_of}
-use Rattle.mako_gate.specs.Standings.{away, refused, inside, turned_away, at_tablet, with_turn, rests, keeps_shut, has_drained, pauses, GateFacet, mutator_at, shutter_at}
+use Rattle.mako_gate.specs.Standings.{away, refused, inside, turned_away, at_tablet, with_turn, rests, keeps_shut}
+use Rattle.mako_gate.specs.Standings.{has_drained, pauses, GateFacet, mutator_at, shutter_at}
 
 -- The words go from W to V. A mutator's seat is its number; then come the servers' seats, and the collector's.
 pub data GateAction (n : Numbers) (W V : Place → ℕ) : ℕ → GateFacet → GateFacet → Type 0 where

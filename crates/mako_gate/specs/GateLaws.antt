@@ -5,7 +5,8 @@ use Rattle.mako_shape.specs.declared.numbers.Numbers.{Numbers}
 use Rattle.mako_shape.specs.Places.{Place, mutator_gate, tablet_gate, turn}
 use Rattle.mako_gate.specs.Sums.{counted}
 use Rattle.mako_gate.specs.Changes.{tablets_of}
-use Rattle.mako_gate.specs.Standings.{Standing, GateFacet, arrived, admitted, holds_turn, drained_by, arrived_own, admitted_own, drained_own, writes}
+use Rattle.mako_gate.specs.Standings.{Standing, GateFacet, arrived, admitted, holds_turn, drained_by, arrived_own}
+use Rattle.mako_gate.specs.Standings.{admitted_own, drained_own, writes}
 use Rattle.mako_gate.specs.Gates.{Gates}
 use Rattle.mako_gate.specs.GateSteps.{GateStep}
 use Rattle.mako_gate.specs.GateActions.{GateAction, OpensGates, Reached}
@@ -52,7 +53,8 @@ pub record DrainedIsEmpty (n : Numbers) (W : Place → ℕ) (gs : List GateFacet
   pub all_empty : (i j : ℕ) (f g : GateFacet) → slice_get gs i ≡ Some f →
       ((m : ℕ) → m < n.mutators → 1 ≤ drained_own m f.watch) → slice_get gs j ≡ Some g → admitted_own g.standing ≡ 0
 
--- a turn word is m + 1 exactly where mutator m holds the turn, and who holds it is admitted at the tablet and at its own gate
+-- a turn word is m + 1 exactly where mutator m holds the turn, and who holds it is admitted at the tablet and at its
+-- own gate
 pub record TurnsNameHolders (n : Numbers) (W : Place → ℕ) (gs : List GateFacet) : Type 0 where
   pub named : (t m : ℕ) (g : GateFacet) → t < tablets_of n → slice_get gs m ≡ Some g → holds_turn t g.standing ≡ 1 →
       W (turn t) ≡ m + 1

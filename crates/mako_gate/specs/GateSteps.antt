@@ -6,10 +6,13 @@ use Rattle.mako_shape.specs.Belongings.{server_of_tablet}
 use Rattle.mako_gate.specs.Bits.{shut_bit}
 use Rattle.mako_gate.specs.Sums.{counted}
 use Rattle.mako_gate.specs.Changes.{tablets_of}
-use Rattle.mako_gate.specs.Standings.{GateFacet, arrived, admitted, holds_turn, shut_by, drained_by, arrived_own, admitted_own, shut_own, drained_own}
+use Rattle.mako_gate.specs.Standings.{GateFacet, arrived, admitted, holds_turn, shut_by, drained_by, arrived_own}
+use Rattle.mako_gate.specs.Standings.{admitted_own, shut_own, drained_own}
 
--- At one gate: the word goes from W to V, and the view's part of each number from a to b (arrived), m to o (admitted), s to u
--- (shut) and d to e (drained). A view shuts the gate and is admitted only where the shut bit is clear, and drains it only
+-- At one gate: the word goes from W to V, and the view's part of each number from a to b (arrived), m to o (admitted),
+-- s to u
+-- (shut) and d to e (drained). A view shuts the gate and is admitted only where the shut bit is clear, and drains it
+-- only
 -- where the count is 0.
 pub record Moves (W V a b m o s u d e : ℕ) : Type 0 where
   pub word : V + a + shut_bit * s ≡ W + b + shut_bit * u

@@ -6,9 +6,11 @@ use Rattle.mako_shape.specs.Belongings.{server_of_tablet}
 use Rattle.mako_gate.specs.Bits.{shut_bit}
 use Rattle.mako_gate.specs.Sums.{counted}
 use Rattle.mako_gate.specs.Changes.{tablets_of}
-use Rattle.mako_gate.specs.Standings.{GateFacet, arrived, admitted, holds_turn, shut_by, drained_by, arrived_own, admitted_own, shut_own, drained_own}
+use Rattle.mako_gate.specs.Standings.{GateFacet, arrived, admitted, holds_turn, shut_by, drained_by, arrived_own}
+use Rattle.mako_gate.specs.Standings.{admitted_own, shut_own, drained_own}
 
--- The numbers of one gate: the most views that may be there, its word, and how many views arrived, are admitted, keep it
+-- The numbers of one gate: the most views that may be there, its word, and how many views arrived, are admitted, keep
+-- it
 -- shut and have drained it. While it is drained nobody is admitted.
 pub record Gate (most word arrivals inside shut drained : ℕ) : Type 0 where
   pub word_is : word ≡ arrivals + shut_bit * shut

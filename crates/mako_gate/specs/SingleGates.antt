@@ -1,4 +1,5 @@
--- One gate on its own: any views arrive and leave, and one seat shuts, looks and reopens in whatever order, whatever they
+-- One gate on its own: any views arrive and leave, and one seat shuts, looks and reopens in whatever order, whatever
+-- they
 -- do at other gates.
 use Rattle.std.specs.Prelude.{ℕ, true, false, ◌≡◌, ◌<◌, ◌≤◌, ◌^◌, List, length, slice_get, slice_set, Some, sum_by}
 use Rattle.mako_words.specs.Gates.{is_shut, count_of}
@@ -68,7 +69,8 @@ pub data SingleReached : SingleGate → Type 0 where
       SingleReached (record { word = 0; views = views; keeping = is_open })
   goes_on : (g h : SingleGate) → SingleReached g → SingleAct g h → SingleReached h
 
--- the count is the number of views there; the shut bit stands while the gate is kept shut; while drained it admits nobody
+-- the count is the number of views there; the shut bit stands while the gate is kept shut; while drained it admits
+-- nobody
 pub record SingleTells (g : SingleGate) : Type 0 where
   pub count : count_of g.word ≡ sum_by is_there g.views
   pub most : count_of g.word ≤ length g.views

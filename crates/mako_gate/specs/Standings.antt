@@ -2,7 +2,8 @@
 use Rattle.std.specs.Prelude.{ℕ, ◌+◌, ◌==◌, ◌&&◌, nat_le, nat_lt}
 use Rattle.mako_gate.specs.Sums.{counted}
 
--- Where a mutator's view stands: at its own gate, where it was refused or is inside, and from inside at one tablet's gate,
+-- Where a mutator's view stands: at its own gate, where it was refused or is inside, and from inside at one tablet's
+-- gate,
 -- where it was turned away, is admitted, or is admitted and holds the tablet's turn.
 pub data Standing : Type 0 where
   away : Standing

@@ -9,7 +9,8 @@ ghost use Rattle.mako_gate.specs.Examples.{WorkedRun};
 ghost use Rattle.mako_gate.specs.SingleGates.{SinglesTell};
 ghost use Rattle.mako_gate.specs.Standings.{GateFacet};
 ghost use Rattle.mako_gate.specs.Gates.{Gates};
-ghost use Rattle.mako_gate.specs.GateLaws.{StepsKeepGates, ActionsAreSteps, OpeningsHaveGates, ReachedHaveGates, GatesTell};
+ghost use Rattle.mako_gate.specs.GateLaws.{StepsKeepGates, ActionsAreSteps, OpeningsHaveGates, ReachedHaveGates};
+ghost use Rattle.mako_gate.specs.GateLaws.{GatesTell};
 
 /// What each machine makes from its beginning to its end, whatever words its acts find.
 pub fn runs()

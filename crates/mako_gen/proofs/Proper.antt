@@ -23,15 +23,37 @@ few_words = omega arith
 
 pub is_shape : IsShape numbers
 is_shape = record {
-  in_range = record { each =
-      (omega arith, omega arith,
-      (omega arith, omega arith,
-      (omega arith, omega arith,
-      (omega arith, omega arith,
-      (omega arith, omega arith,
-      (omega arith, omega arith,
-      (omega arith, omega arith,
-      (omega arith, omega arith, (omega arith, omega arith, (omega arith, omega arith, tt)))))))))) };
+  in_range = record {
+    each = (
+      omega arith,
+      omega arith,
+      (
+        omega arith,
+        omega arith,
+        (
+          omega arith,
+          omega arith,
+          (
+            omega arith,
+            omega arith,
+            (
+              omega arith,
+              omega arith,
+              (
+                omega arith,
+                omega arith,
+                (
+                  omega arith,
+                  omega arith,
+                  (omega arith, omega arith, (omega arith, omega arith, (omega arith, omega arith, tt))),
+                ),
+              ),
+            ),
+          ),
+        ),
+      ),
+    );
+  };
   entries = omega arith;
   words = few_words;
 }
@@ -88,11 +110,11 @@ either P false x y p q = q
 within : (kind a b c : ℕ) → IsWithin (call_of_words kind a b c)
 within kind a b c =
     either IsWithin _ _ _ new
-        (either IsWithin _ _ _ get
-        (either IsWithin _ _ _ put (either IsWithin _ _ _ copied (either IsWithin _ _ _ dropped
+    (either IsWithin _ _ _ get
+    (either IsWithin _ _ _ put (either IsWithin _ _ _ copied (either IsWithin _ _ _ dropped
     (either IsWithin _ _ _ board_put
-        (either IsWithin _ _ _ board_get
-        (either IsWithin _ _ _ num (either IsWithin _ _ _ shown (either IsWithin _ _ _ collected other_shown)))))))))
+    (either IsWithin _ _ _ board_get
+    (either IsWithin _ _ _ num (either IsWithin _ _ _ shown (either IsWithin _ _ _ collected other_shown)))))))))
   where
     new : IsWithin (New (variable a) (b % 6))
     new = record { is = (omega arith, omega arith); after = omega arith }
@@ -134,12 +156,19 @@ calls_within g h (call ∷ calls) d =
     (one.is, subst (λ (n : ℕ). AreCalls n calls 7) (sym one.after) (calls_within (left g) h calls d.1))
 
 section_calls : (g h : Lcg) (calls : List Call) → AreDrawn g calls h → AreCalls 1 (first_calls ++ calls) 7
-section_calls g h calls d =
-    ((omega arith, omega arith),
-        ((omega arith, omega arith),
-        ((omega arith, omega arith),
-        ((omega arith, omega arith),
-        ((omega arith, omega arith), ((omega arith, omega arith), calls_within g h calls d))))))
+section_calls g h calls d = (
+  (omega arith, omega arith),
+  (
+    (omega arith, omega arith),
+    (
+      (omega arith, omega arith),
+      (
+        (omega arith, omega arith),
+        ((omega arith, omega arith), ((omega arith, omega arith), calls_within g h calls d)),
+      ),
+    ),
+  ),
+)
 
 pub is_program : (size : ℕ) (g h : Lcg) (p : ProgramView) → IsSection size g p h → IsProgram 8 p
 is_program size g h p s = record {
@@ -156,9 +185,11 @@ are_programs size g h [] s = (tt, omega arith)
 are_programs size g h (p ∷ ps) s =
     let others = are_programs size s.0 h ps s.2 in
     let mine : length p.calls ≡ 6 + size =
-        omega (arith, ap length s.1.calls, length-append first_calls s.1.drawn, s.1.count) in
-    ((is_program size g s.0 p s.1, others.0), omega
-        (arith, others.1, mine, sum_by-cons (λ (q : ProgramView). length q.calls) p ps))
+    omega (arith, ap length s.1.calls, length-append first_calls s.1.drawn, s.1.count) in (
+      (is_program size g s.0 p s.1, others.0),
+      omega
+          (arith, others.1, mine, sum_by-cons (λ (q : ProgramView). length q.calls) p ps),
+    )
 
 pub is_proper : (seed size : ℕ) (s : ScriptView) → size ≤ 4096 → IsWorkload seed size s → IsProper s
 is_proper seed size s few w =

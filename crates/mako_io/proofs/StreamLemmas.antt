@@ -1,5 +1,6 @@
 -- Lemmas on counts of faults, and on what sources and sinks tell, that callers of the crate can cite.
-use Rattle.std.proofs.Common.{◌≡◌, ℕ, ◌+◌, ◌<◌, ◌≤◌, List, length, take, drop, None, Some, arith, sym, ◌∙◌, ap, subst, length-append}
+use Rattle.std.proofs.Common.{◌≡◌, ℕ, ◌+◌, ◌<◌, ◌≤◌, List, length, take, drop, None, Some, arith, sym, ◌∙◌, ap, subst}
+use Rattle.std.proofs.Common.{length-append}
 use Rattle.std.proofs.Math.Seq.{take-add, drop-append_seam}
 use Rattle.std.specs.declared.option.Option.{Option}
 use Rattle.std.specs.Io.KnownBytes.{Appends}
@@ -19,10 +20,12 @@ Rose-before before mid now rose kept = omega arith
 pub Appends-front : (a b c : Option (List ℕ)) (piece : List ℕ) (m n : ℕ)
     → Appends a b (take m piece) → Appends b c (take n (drop m piece)) → Appends a c (take (m + n) piece)
 Appends-front a b c piece m n first second =
-    subst (Appends a c) (sym (take-add m n piece)) (Appends-trans a b c (take m piece) (take n (drop m piece)) first second)
+    subst (Appends a c) (sym (take-add m n piece))
+    (Appends-trans a b c (take m piece) (take n (drop m piece)) first second)
 
 -- where a source that told its bytes gave more than the limit, it had more than the limit
-pub TakesMore-length : (limit : ℕ) (all : List ℕ) (after : Option (List ℕ)) → TakesMore limit (Some all) after → limit < length all
+pub TakesMore-length : (limit : ℕ) (all : List ℕ) (after : Option (List ℕ)) → TakesMore limit (Some all) after
+    → limit < length all
 TakesMore-length limit all None (bytes, past, gone) = absurd gone
 TakesMore-length limit all (Some rest) (bytes, past, gone) = omega (arith, ap length gone, length-append bytes rest)
 

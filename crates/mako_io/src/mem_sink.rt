@@ -26,14 +26,26 @@ impl Model for MemSink {
 
     ghost Value = { MemStock };
 
-    ghost view = { λ s. record { taken = s.store.taken; room = s.store.room; faults = s.faults; calls = s.calls.made; fails = s.calls.fails.items } };
+    ghost view = { λ s. record {
+      taken = s.store.taken;
+      room = s.store.room;
+      faults = s.faults;
+      calls = s.calls.made;
+      fails = s.calls.fails.items;
+    } };
 }
 
 impl MemSink {
     /// A sink with room for so many bytes in all. Its write calls are numbered from 1, and those whose
     /// number stands in `fails` fail.
     pub fn new(alloc: Global, room: usize, fails: Vec<u64>) -> Result<MemSink, Memory>
-        ensures { IfOk result (λ sink. sink ≡ record { taken = []; room = room; faults = 0; calls = 0; fails = fails.items }) }
+        ensures { IfOk result (λ sink. sink ≡ record {
+          taken = [];
+          room = room;
+          faults = 0;
+          calls = 0;
+          fails = fails.items;
+        }) }
     {
         Ok(MemSink {
             store: Store::with_room(alloc, room)?,
@@ -62,7 +74,8 @@ impl Sink for MemSink {
         ensures count { IfOk result (λ count. count ≡ fitting self.old.taken self.old.room bytes.now) }
         ensures taken { IfOk result (λ count. self.new.taken ≡ self.old.taken ++ take count bytes.now) }
         ensures kept { OnErr result (self.new.taken ≡ self.old.taken) }
-        ensures full { OnOk result (self.new.faults ≡ faults_after self.old.faults self.old.taken self.old.room bytes.now) }
+        ensures full { OnOk result
+            (self.new.faults ≡ faults_after self.old.faults self.old.taken self.old.room bytes.now) }
         ensures failed { OnErr result (self.new.faults ≡ raised self.old.faults) }
         ensures numbered { self.new.calls ≡ raised self.old.calls }
         ensures room { self.new.room ≡ self.old.room }

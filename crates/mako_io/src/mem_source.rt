@@ -1,6 +1,7 @@
 //! A source over memory whose reads fail where that is asked for.
 
-ghost use Rattle.std.specs.Prelude.{◌≡◌, ◌+◌, ◌<◌, ◌++◌, ◌↔◌, length, take, min, IfOk, OnErr, OnOk, IsErr, Contains, Some};
+ghost use Rattle.std.specs.Prelude.{◌≡◌, ◌+◌, ◌<◌, ◌++◌, ◌↔◌, length, take, min, IfOk, OnErr, OnOk, IsErr, Contains};
+ghost use Rattle.std.specs.Prelude.{Some};
 ghost use Rattle.mako_io.specs.Causes.{raised};
 
 use crate::calls::Calls;
@@ -22,7 +23,12 @@ impl Model for MemSource {
 
     ghost Value = { MemSupply };
 
-    ghost view = { λ s. record { left = s.rest; faults = s.faults; calls = s.calls.made; fails = s.calls.fails.items } };
+    ghost view = { λ s. record {
+      left = s.rest;
+      faults = s.faults;
+      calls = s.calls.made;
+      fails = s.calls.fails.items;
+    } };
 }
 
 impl MemSource {

@@ -31,7 +31,8 @@ pub fn read_all<S: Source>(
     ensures ended { OnOk result (IfSome (S.left source.old) (λ all. S.left source.new ≡ Some [])) }
     ensures within { IfOk result (λ bytes. length bytes.items ≤ limit) }
     ensures too_long { result ≡ Err ReadRefusal.TooLong → TakesMore limit (S.left source.old) (S.left source.new) }
-    ensures not_too_long { result ≢ Err ReadRefusal.TooLong → TakesAtMost limit (S.left source.old) (S.left source.new) }
+    ensures not_too_long { result ≢ Err ReadRefusal.TooLong
+        → TakesAtMost limit (S.left source.old) (S.left source.new) }
     ensures bounded { TakesAtMost (limit + PART) (S.left source.old) (S.left source.new) }
     ensures fault { result ≡ Err ReadRefusal.Fault → Rose (S.faults source.old) (S.faults source.new) }
     ensures counted { S.faults source.old ≤ S.faults source.new }

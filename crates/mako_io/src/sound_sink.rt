@@ -53,7 +53,8 @@ impl Sink for SoundSink {
     /// Takes what still fits. A piece that is not empty and finds no room left raises the count of faults.
     fn write(&mut self, bytes: &[u8]) -> Result<usize, Failed>
         ensures count { result ≡ Ok (fitting self.old.taken self.old.room bytes.now) }
-        ensures taken { self.new.taken ≡ self.old.taken ++ take (fitting self.old.taken self.old.room bytes.now) bytes.now }
+        ensures taken { self.new.taken ≡ self.old.taken ++ take
+            (fitting self.old.taken self.old.room bytes.now) bytes.now }
         ensures room { self.new.room ≡ self.old.room }
         ensures full { self.new.faults ≡ faults_after self.old.faults self.old.taken self.old.room bytes.now }
     {

@@ -1,5 +1,6 @@
 -- Kinds of step that keep all groups.
-use Rattle.std.proofs.Common.{◌≡◌, ◌≢◌, ℕ, ◌+◌, ◌<◌, ◌≤◌, ⊎_elim, Bool, true, false, List, length, set, slice_get, Some, sym, ap, subst, refl, ◌∙◌, arith}
+use Rattle.std.proofs.Common.{◌≡◌, ◌≢◌, ℕ, ◌+◌, ◌<◌, ◌≤◌, ⊎_elim, Bool, true, false, List, length, set, slice_get, Some}
+use Rattle.std.proofs.Common.{sym, ap, subst, refl, ◌∙◌, arith}
 use Rattle.mako_words.specs.declared.name.Name.{Name}
 use Rattle.mako_words.specs.declared.entry_word.EntryWord.{EntryWord}
 use Rattle.mako_words.specs.declared.phase_word.PhaseWord.{PhaseWord}
@@ -35,7 +36,8 @@ use Rattle.mako_phases.specs.Facets.{PhaseFacet, serving, freeing}
 use Rattle.mako_phases.specs.Steps.{PhaseScene}
 use Rattle.mako_phases.specs.Steps as phases
 use Rattle.mako_phases.proofs.AllPhases.{phase_kept}
-use Rattle.mako_joint.specs.Joints.{JointScene, names_in, trace_in, layout_in, polls_in, phases_in, TracksFit, HasName, ReadsAreHeld, Joint}
+use Rattle.mako_joint.specs.Joints.{JointScene, names_in, trace_in, layout_in, polls_in, phases_in, TracksFit, HasName}
+use Rattle.mako_joint.specs.Joints.{ReadsAreHeld, Joint}
 use Rattle.mako_joint.specs.Kinds.{with_work, with_entry, with_freed, LoadsEntry, FindsAway, FreesEntry}
 use Rattle.mako_joint.proofs.Epochs.{held_are_taken, held_have_epoch, held_within, none_reads}
 use Rattle.mako_joint.proofs.Pauses.{gates_drain, freeing_follows}
@@ -148,7 +150,8 @@ frees_entry n w s j seat server cycle ended i laden sent e at comes may zero =
     let evac = comes.evacuates in
     record {
       script = j.script;
-      names = step_kept n w (names_in s) (names_in after) j.script.facts (Frees cycle server i sent e comes may) j.names;
+      names = step_kept n w (names_in s) (names_in after) j.script.facts
+          (Frees cycle server i sent e comes may) j.names;
       tracks = subst (λ p. TracksFit p n w (trace_in after))
           (sym (phase_else n s.words x (entry_word e) within ∙ evac)) tt;
       layout = freed n w s j cycle x e may.fits evac within follows.1 may.taken may.epoch may.free;

@@ -1,5 +1,6 @@
 -- A field is stored, with its point.
-use Rattle.std.proofs.Common.{◌≡◌, ℕ, ◌+◌, ◌<◌, List, [], ◌∷◌, ◌++◌, length, set, slice_get, Some, sym, ap, subst, refl, ◌∙◌, arith}
+use Rattle.std.proofs.Common.{◌≡◌, ℕ, ◌+◌, ◌<◌, List, [], ◌∷◌, ◌++◌, length, set, slice_get, Some, sym, ap, subst, refl}
+use Rattle.std.proofs.Common.{◌∙◌, arith}
 use Rattle.mako_words.specs.declared.name.Name.{Name}
 use Rattle.mako_words.specs.declared.value.Value.{Value}
 use Rattle.mako_words.specs.declared.value.Value.TheVariants.{Ref}

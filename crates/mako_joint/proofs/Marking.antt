@@ -1,5 +1,6 @@
 -- A server marks the name in its hand.
-use Rattle.std.proofs.Common.{◌≡◌, ◌≢◌, ℕ, ◌+◌, ◌<◌, ◌≤◌, ◌^◌, ◌%◌, inl, inr, ⊎_elim, true, false, set, slice_get, Some, sym, ap, subst, refl, ◌∙◌, arith}
+use Rattle.std.proofs.Common.{◌≡◌, ◌≢◌, ℕ, ◌+◌, ◌<◌, ◌≤◌, ◌^◌, ◌%◌, inl, inr, ⊎_elim, true, false, set, slice_get, Some}
+use Rattle.std.proofs.Common.{sym, ap, subst, refl, ◌∙◌, arith}
 use Rattle.mako_words.specs.declared.name.Name.{Name}
 use Rattle.mako_words.specs.declared.entry_word.EntryWord.{EntryWord}
 use Rattle.mako_words.specs.declared.phase_word.PhaseWord.TheVariants.{Trace}
@@ -28,7 +29,8 @@ use Rattle.mako_layout.specs.Evacuations.{State, Evacuation, layout, slot_at, Is
 use Rattle.mako_layout.specs.Steps.{alter_entry}
 use Rattle.mako_layout.proofs.EachStep.{each_step_keeps}
 use Rattle.mako_layout.proofs.Entries.{generation_small}
-use Rattle.mako_phases.specs.Facets.{Part, idle, pausing, rooting, tracing as in_tracing, choosing, evacuating, stopped, serving, working, IsRestful}
+use Rattle.mako_phases.specs.Facets.{Part, idle, pausing, rooting, tracing as in_tracing, choosing, evacuating, stopped}
+use Rattle.mako_phases.specs.Facets.{serving, working, IsRestful}
 use Rattle.mako_phases.specs.Laws.{IsStaying}
 use Rattle.mako_phases.specs.Steps as phases
 use Rattle.mako_phases.proofs.AllPhases.{phase_kept}
@@ -90,7 +92,8 @@ module _ (n : Numbers) (w : Facts) (s : JointScene) (j : Joint n w s) (cycle sea
   small =
       let o = j.order in
       let few = cycles_fit n o.shape in
-      let same = work_cycle o.part server cycle ended (o.each seat (serving server (working cycle) ended true) at).fits in
+      let same = work_cycle o.part server cycle ended
+      (o.each seat (serving server (working cycle) ended true) at).fits in
       let bound = bound_cycle n o.part o.words_stand.bound in omega arith
 
   fits : FitsEntry marked

@@ -85,7 +85,8 @@ module _ (n : Numbers) (w : Facts) (s : JointScene) (j : Joint n w s) (seat x r 
   moved cycle evac = record {
     script = j.script;
     names = step_kept n w (names_in s) (names_in after) j.script.facts (Moves x e keeps epoch_is) j.names;
-    tracks = subst (λ p. TracksFit p n w (trace_in after)) (sym (phase_else n s.words x (entry_word e) within ∙ evac)) tt;
+    tracks = subst (λ p. TracksFit p n w (trace_in after)) (sym (phase_else n s.words x (entry_word e) within
+        ∙ evac)) tt;
     layout = evacuated;
     polls = polls_stay n s (entry x) (entry_word e) within (λ is. is) j.polls;
     order = phase_kept n (phases_in s) (phases_in after) j.order (gates_drain n w s j)

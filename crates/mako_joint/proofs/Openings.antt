@@ -1,12 +1,14 @@
 -- All groups hold at the opening.
-use Rattle.std.proofs.Common.{◌≡◌, ℕ, ◌+◌, ◌<◌, ◌≤◌, ◌==◌, if◌then◌else◌, ⊎_elim, List, [], slice_get, Some, sym, ap, subst, refl, ◌∙◌, arith}
+use Rattle.std.proofs.Common.{◌≡◌, ℕ, ◌+◌, ◌<◌, ◌≤◌, ◌==◌, if◌then◌else◌, ⊎_elim, List, [], slice_get, Some, sym, ap}
+use Rattle.std.proofs.Common.{subst, refl, ◌∙◌, arith}
 use Rattle.std.proofs.lemmas.Bool.{cases_eq}
 use Rattle.std.proofs.lemmas.Option.{same_Some}
 use Rattle.mako_words.specs.declared.name.Name.{Name}
 use Rattle.mako_words.specs.declared.phase_word.PhaseWord.{PhaseWord}
 use Rattle.mako_words.specs.declared.phase_word.PhaseWord.TheVariants.{Idle}
 use Rattle.mako_shape.specs.declared.numbers.Numbers.{Numbers}
-use Rattle.mako_shape.specs.Places.{phase, entry, home, top, leaving, region_word, tablet_gate, mutator_gate, turn, word_at}
+use Rattle.mako_shape.specs.Places.{phase, entry, home, top, leaving, region_word, tablet_gate, mutator_gate, turn}
+use Rattle.mako_shape.specs.Places.{word_at}
 use Rattle.mako_model.specs.Fronts.{Seen}
 use Rattle.mako_model.specs.Heaps.{opening}
 use Rattle.mako_model.specs.Legal.{Facts, state_of}
@@ -23,7 +25,8 @@ use Rattle.mako_layout.proofs.Opens.{opening_kept, work_is_idle}
 use Rattle.mako_layout.proofs.Outside.{outside_kept}
 use Rattle.mako_phases.specs.Facets.{PhaseFacet, Part, idle, collecting, mutating, serving}
 use Rattle.mako_phases.proofs.Reaching.{opening_order}
-use Rattle.mako_joint.specs.Joints.{JointScene, names_in, trace_in, polls_in, phases_in, layout_in, TracksFit, ChoiceFits, ChoiceMatches, Joint}
+use Rattle.mako_joint.specs.Joints.{JointScene, names_in, trace_in, polls_in, phases_in, layout_in, TracksFit}
+use Rattle.mako_joint.specs.Joints.{ChoiceFits, ChoiceMatches, Joint}
 use Rattle.mako_joint.specs.Openings.{IsJointOpening, OpeningsHoldAll}
 
 -- the words of the board's record alone, and those that a history made

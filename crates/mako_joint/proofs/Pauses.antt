@@ -1,5 +1,7 @@
 -- Pauses, and what is given.
-use Rattle.std.proofs.Common.{◌≡◌, ℕ, zero, suc, ◌+◌, ◌*◌, ◌/◌, ◌%◌, ◌<◌, ◌≤◌, ◌==◌, inl, inr, ⊎_elim, Bool, List, [], ◌∷◌, map, slice_get, sum_by, Some, option_map, sym, ap, subst, refl, ◌∙◌, arith, eq-eqb, mul_assoc, add-mul}
+use Rattle.std.proofs.Common.{◌≡◌, ℕ, zero, suc, ◌+◌, ◌*◌, ◌/◌, ◌%◌, ◌<◌, ◌≤◌, ◌==◌, inl, inr, ⊎_elim, Bool, List, []}
+use Rattle.std.proofs.Common.{◌∷◌, map, slice_get, sum_by, Some, option_map, sym, ap, subst, refl, ◌∙◌, arith, eq-eqb}
+use Rattle.std.proofs.Common.{mul_assoc, add-mul}
 use Rattle.std.proofs.lemmas.List.Sums.{sum_by-cons}
 use Rattle.std.proofs.lemmas.Option.{same_Some, slice_get-map}
 use Rattle.mako_words.specs.declared.name.Name.{Name}
@@ -15,7 +17,9 @@ use Rattle.mako_names.specs.Freeing.{entry_by}
 use Rattle.mako_layout.specs.Facets.{Choice, rests_with, chooses, has_chosen, Paused}
 use Rattle.mako_layout.specs.Evacuations.{State, Evacuation, layout}
 use Rattle.mako_layout.proofs.Alone.{none_given}
-use Rattle.mako_phases.specs.Facets.{Part, idle, pausing, rooting, tracing, choosing, evacuating, stopped, IsInPause, PhaseFacet, role_of, TabletStage, clearing, freeing, serving, collecting, phase_during}
+use Rattle.mako_phases.specs.Facets.{Part, idle, pausing, rooting, tracing, choosing, evacuating, stopped, IsInPause}
+use Rattle.mako_phases.specs.Facets.{PhaseFacet, role_of, TabletStage, clearing, freeing, serving, collecting}
+use Rattle.mako_phases.specs.Facets.{phase_during}
 use Rattle.mako_phases.specs.Laws.{IsStaying}
 use Rattle.mako_phases.specs.Orders.{ServerFits}
 use Rattle.mako_phases.proofs.Says.{part_phase, tablets_stay}

@@ -23,7 +23,9 @@ use Rattle.mako_shades.specs.Steps.{TraceScene}
 use Rattle.mako_layout.specs.Facets.{Work, Choice, rests_with, chooses, has_chosen}
 use Rattle.mako_layout.specs.Evacuations.{State, Evacuation}
 use Rattle.mako_layout.specs.Beside.{IsReading, entry_of}
-use Rattle.mako_phases.specs.Facets.{PhaseFacet, mutating, serving, collecting, Part, idle, pausing, rooting, tracing, choosing, evacuating, stopped, clearing, TabletStage, Admission, IsInPause, IsNotAdmitted}
+use Rattle.mako_phases.specs.Facets.{PhaseFacet, mutating, serving, collecting, Part, idle, pausing, rooting, tracing}
+use Rattle.mako_phases.specs.Facets.{choosing, evacuating, stopped, clearing, TabletStage, Admission, IsInPause}
+use Rattle.mako_phases.specs.Facets.{IsNotAdmitted}
 use Rattle.mako_phases.specs.Steps.{PhaseScene, PhaseOrderIn}
 
 -- what all groups read of the seats: of names, of tracing, where seats stand at the gates, what they hold of records,

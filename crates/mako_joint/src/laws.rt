@@ -1,7 +1,9 @@
 //! What the groups give to one another, and what keeps them all. The functions do nothing; what they ensure is for
 //! contracts and proofs.
 
-ghost use Rattle.mako_joint.specs.Bridges.{AllAreMarked, FreeingFollows, GatesDrain, HeapsStand, HeldAreTaken, HeldHaveTheEpoch, NoneReadsTheFreed, NothingIsGiven, PartsPause, UsedRecordsArePresent, ValuesFitTheirWords};
+ghost use Rattle.mako_joint.specs.Bridges.{AllAreMarked, FreeingFollows, GatesDrain, HeapsStand, HeldAreTaken};
+ghost use Rattle.mako_joint.specs.Bridges.{HeldHaveTheEpoch, NoneReadsTheFreed, NothingIsGiven, PartsPause};
+ghost use Rattle.mako_joint.specs.Bridges.{UsedRecordsArePresent, ValuesFitTheirWords};
 ghost use Rattle.mako_joint.specs.Kinds.{FindsAway, FreesEntry, LoadsEntry, MarksName, MovesEntry, StoresField};
 ghost use Rattle.mako_joint.specs.Openings.{OpeningsHoldAll};
 
@@ -17,8 +19,8 @@ pub fn tracing_is_served()
     ensures marked { AllAreMarked }
 {}
 
-/// The entry of a name that a seat has still to use is taken, and has the epoch while servers evacuate: so no view reads
-/// an entry that is to be freed.
+/// The entry of a name that a seat has still to use is taken, and has the epoch while servers evacuate: so no view
+/// reads an entry that is to be freed.
 pub fn names_in_use_are_kept()
     ensures taken { HeldAreTaken }
     ensures epoch { HeldHaveTheEpoch }

@@ -1,5 +1,6 @@
 -- The names dead in each cycle, point by point.
-use Rattle.std.proofs.Common.{◌≡◌, ◌↔◌, ℕ, zero, suc, ◌+◌, ◌-◌, ◌<◌, ◌⊎◌, inl, inr, ⊎_elim, List, [], ◌∷◌, ◌++◌, length, Contains, take, get_or, slice_get, Some, sym, ap, subst, refl, ◌∙◌, arith, length-append}
+use Rattle.std.proofs.Common.{◌≡◌, ◌↔◌, ℕ, zero, suc, ◌+◌, ◌-◌, ◌<◌, ◌⊎◌, inl, inr, ⊎_elim, List, [], ◌∷◌, ◌++◌, length}
+use Rattle.std.proofs.Common.{Contains, take, get_or, slice_get, Some, sym, ap, subst, refl, ◌∙◌, arith, length-append}
 use Rattle.std.proofs.lemmas.Bool.{cases_eq}
 use Rattle.std.proofs.lemmas.List.{take_more}
 use Rattle.std.proofs.lemmas.Option.{same_Some, none-some, get_or_from_slice_get}
@@ -32,7 +33,8 @@ module _ {A : Type 0} where
   get_last [] x = refl
   get_last (y ∷ xs) x = get_last xs x
 
-  pub get_cases : (xs : List A) (last x : A) (i : ℕ) → slice_get (xs ++ last ∷ []) i ≡ Some x → ((i ≡ length xs) × (last ≡ x)) ⊎ (slice_get xs i ≡ Some x)
+  pub get_cases : (xs : List A) (last x : A) (i : ℕ) → slice_get (xs ++ last ∷ []) i ≡ Some x
+      → ((i ≡ length xs) × (last ≡ x)) ⊎ (slice_get xs i ≡ Some x)
   get_cases [] last x zero e = inl (refl, same_Some last x e)
   get_cases [] last x (suc i) e = absurd (none-some x e)
   get_cases (y ∷ xs) last x zero e = inr e
@@ -59,40 +61,56 @@ pub no_deaths : (w : Facts) (lists : List (List Name)) → lists ≡ [] → AreD
 no_deaths w lists none = subst (AreDeaths w []) (sym none) (record {
   legal = tt;
   count = refl;
-  each = λ cycle x. ((λ l. absurd (none_listed cycle x l)), (λ dead. absurd (no_point dead.before (Snap cycle) dead.after dead.split)));
+  each = λ cycle x. (
+    (λ l. absurd (none_listed cycle x l)),
+    (λ dead. absurd (no_point dead.before (Snap cycle) dead.after dead.split)),
+  );
 })
 
 -- a call changes no dead name
-pub deaths_did : (w : Facts) (history : List Point) (m : ℕ) (c : Call) (r : Reply) (lists : List (List Name)) → AreDeaths w history lists → IsLawful (state_of w history) (Did m c r)
+pub deaths_did : (w : Facts) (history : List Point) (m : ℕ) (c : Call) (r : Reply) (lists : List (List Name))
+    → AreDeaths w history lists → IsLawful (state_of w history) (Did m c r)
     → AreDeaths w (history ++ Did m c r ∷ []) lists
 deaths_did w history m c r lists deaths lawful = record {
   legal = legal_push w history (Did m c r) deaths.legal lawful;
-  count = deaths.count ∙ sym (ap (λ h. h.snaps) (state_push w history (Did m c r)) ∙ snaps_replied (state_of w history) m c r);
+  count = deaths.count
+      ∙ sym (ap (λ h. h.snaps) (state_push w history (Did m c r)) ∙ snaps_replied (state_of w history) m c r);
   each = λ cycle x. (
     (λ l. dead_stays w history (Did m c r ∷ []) cycle x ((deaths.each cycle x).0 l)),
     (λ dead. ⊎_elim (λ t. absurd (no_snap m c r cycle t.1))
-        (λ t. (deaths.each cycle x).1 (record { before = dead.before; after = t.0; numbered = dead.numbered; split = t.1; made = dead.made; unreached = dead.unreached }))
+        (λ t. (deaths.each cycle x).1 (record {
+          before = dead.before;
+          after = t.0;
+          numbered = dead.numbered;
+          split = t.1;
+          made = dead.made;
+          unreached = dead.unreached;
+        }))
         (last_or_before history (Did m c r) dead.before (Snap cycle) dead.after dead.split)),
   );
 }
 
-listed_last : (lists : List (List Name)) (names : List Name) (cycle : ℕ) (x : Name) → cycle ≡ length lists + 1 → Contains names x → IsListed (lists ++ names ∷ []) cycle x
+listed_last : (lists : List (List Name)) (names : List Name) (cycle : ℕ) (x : Name) → cycle ≡ length lists + 1
+    → Contains names x → IsListed (lists ++ names ∷ []) cycle x
 listed_last lists names cycle x e c =
     let last : cycle - 1 ≡ length lists = omega arith in
     (omega arith, (names, ap (slice_get (lists ++ names ∷ [])) last ∙ get_last lists names, c))
 
-listed_before : (lists : List (List Name)) (names : List Name) (cycle : ℕ) (x : Name) → IsListed lists cycle x → IsListed (lists ++ names ∷ []) cycle x
+listed_before : (lists : List (List Name)) (names : List Name) (cycle : ℕ) (x : Name) → IsListed lists cycle x
+    → IsListed (lists ++ names ∷ []) cycle x
 listed_before lists names cycle x l = (l.0, (l.1.0, get_before lists (names ∷ []) (cycle - 1) l.1.0 l.1.1, l.1.2))
 
 -- a snapshot adds its dead names
-pub deaths_snap : (w : Facts) (history : List Point) (k : ℕ) (lists : List (List Name)) (names : List Name) → AreDeaths w history lists → IsLawful (state_of w history) (Snap k)
+pub deaths_snap : (w : Facts) (history : List Point) (k : ℕ) (lists : List (List Name)) (names : List Name)
+    → AreDeaths w history lists → IsLawful (state_of w history) (Snap k)
     → ((x : Name) → Contains names x ↔ (Contains (names_made history) x × ¬ IsReachable (state_of w history) x))
     → AreDeaths w (history ++ Snap k ∷ []) (lists ++ names ∷ [])
 deaths_snap w history k lists names deaths lawful are =
     let count = deaths.count in
     let numbered : k ≡ length lists + 1 = (let l = lawful.0 in omega arith) in record {
       legal = legal_push w history (Snap k) deaths.legal lawful;
-      count = length-append lists (names ∷ []) ∙ ap (λ (n : ℕ). n + 1) count ∙ sym (ap (λ h. h.snaps) (state_push w history (Snap k)));
+      count = length-append lists (names ∷ []) ∙ ap (λ (n : ℕ). n + 1) count
+          ∙ sym (ap (λ h. h.snaps) (state_push w history (Snap k)));
       each = λ cycle x. (
         (λ l. ⊎_elim
             (λ t.
@@ -100,28 +118,46 @@ deaths_snap w history k lists names deaths lawful are =
             let here = t.0 in
             let same : k ≡ cycle = omega arith in
             let dead = (are x).0 (subst (λ ns. Contains ns x) (sym t.1) l.1.2) in
-            record { before = history; after = []; numbered = first; split = ap (λ (n : ℕ). history ++ Snap n ∷ []) same; made = dead.0; unreached = dead.1 })
+            record {
+              before = history;
+              after = [];
+              numbered = first;
+              split = ap (λ (n : ℕ). history ++ Snap n ∷ []) same;
+              made = dead.0;
+              unreached = dead.1;
+            })
             (λ t. dead_stays w history (Snap k ∷ []) cycle x ((deaths.each cycle x).0 (l.0, (l.1.0, t, l.1.2))))
             (get_cases lists names l.1.0 (cycle - 1) l.1.1)),
         (λ dead. ⊎_elim
             (λ t.
             let same = same_cycle k cycle t.1 in
-            listed_last lists names cycle x (omega arith) ((are x).1 (subst (λ ps. Contains (names_made ps) x × ¬ IsReachable (state_of w ps) x) t.0 (dead.made, dead.unreached))))
+            listed_last lists names cycle x (omega arith)
+            ((are x).1 (subst (λ ps. Contains (names_made ps) x
+            × ¬ IsReachable (state_of w ps) x) t.0 (dead.made, dead.unreached))))
             (λ t. listed_before lists names cycle x ((deaths.each cycle x).1
-            (record { before = dead.before; after = t.0; numbered = dead.numbered; split = t.1; made = dead.made; unreached = dead.unreached })))
+            (record {
+              before = dead.before;
+              after = t.0;
+              numbered = dead.numbered;
+              split = t.1;
+              made = dead.made;
+              unreached = dead.unreached;
+            })))
             (last_or_before history (Snap k) dead.before (Snap cycle) dead.after dead.split)),
       );
     }
 
 -- ---- at a heap and a point that are those
 
-pub noted_did : (w : Facts) (history : List Point) (h : Heap) (p : Point) (m : ℕ) (c : Call) (r : Reply) (lists : List (List Name)) → p ≡ Did m c r → h ≡ state_of w history
+pub noted_did : (w : Facts) (history : List Point) (h : Heap) (p : Point) (m : ℕ) (c : Call) (r : Reply)
+    (lists : List (List Name)) → p ≡ Did m c r → h ≡ state_of w history
     → AreDeaths w history lists → IsLawful h p → AreDeaths w (history ++ p ∷ []) lists
 noted_did w history h p m c r lists is e deaths lawful =
     subst (λ q. AreDeaths w (history ++ q ∷ []) lists) (sym is)
     (deaths_did w history m c r lists deaths (subst (λ g. IsLawful g (Did m c r)) e (subst (IsLawful h) is lawful)))
 
-pub noted_snap : (w : Facts) (history : List Point) (h : Heap) (p : Point) (k : ℕ) (lists after : List (List Name)) (names : List Name) → p ≡ Snap k → h ≡ state_of w history → after ≡ lists ++ names ∷ []
+pub noted_snap : (w : Facts) (history : List Point) (h : Heap) (p : Point) (k : ℕ) (lists after : List (List Name))
+    (names : List Name) → p ≡ Snap k → h ≡ state_of w history → after ≡ lists ++ names ∷ []
     → ((x : Name) → Contains names x ↔ (Contains (names_made history) x × ¬ IsReachable h x))
     → AreDeaths w history lists → IsLawful h p → AreDeaths w (history ++ p ∷ []) after
 noted_snap w history h p k lists after names is e more are deaths lawful =
@@ -132,18 +168,23 @@ noted_snap w history h p k lists after names is e more are deaths lawful =
 -- ---- up to a place
 
 -- the heap after one point more
-pub heap_more : (w : Facts) (points : List Point) (i : ℕ) (h after : Heap) → i < length points → h ≡ state_of w (take i points) → after ≡ heap_after h (get_or points i blank)
+pub heap_more : (w : Facts) (points : List Point) (i : ℕ) (h after : Heap) → i < length points
+    → h ≡ state_of w (take i points) → after ≡ heap_after h (get_or points i blank)
     → after ≡ state_of w (take (i + 1) points)
 heap_more w points i h after l e changed =
-    changed ∙ ap (λ g. heap_after g (get_or points i blank)) e ∙ sym (ap (state_of w) (take_more points i blank l) ∙ state_push w (take i points) (get_or points i blank))
+    changed ∙ ap (λ g. heap_after g (get_or points i blank)) e
+    ∙ sym (ap (state_of w) (take_more points i blank l) ∙ state_push w (take i points) (get_or points i blank))
 
 -- the points below a place meet a clause, and the one there does
-pub holds_more : (w : Facts) (front : Seen) (clause : Clause) (i : ℕ) → ((q : Point) → slice_get front.history i ≡ Some q → HoldsAt w front clause (take i front.history) q)
+pub holds_more : (w : Facts) (front : Seen) (clause : Clause) (i : ℕ)
+    → ((q : Point) → slice_get front.history i ≡ Some q → HoldsAt w front clause (take i front.history) q)
     → HoldsBelow w front clause i → HoldsBelow w front clause (i + 1)
 holds_more w front clause i here below place point l at =
-    ⊎_elim (λ e. subst (λ (k : ℕ). HoldsAt w front clause (take k front.history) point) (sym e) (here point (ap (slice_get front.history) (sym e) ∙ at)))
+    ⊎_elim (λ e. subst (λ (k : ℕ). HoldsAt w front clause (take k front.history) point) (sym e)
+    (here point (ap (slice_get front.history) (sym e) ∙ at)))
     (λ less. below place point less at) (at_or_below place i l)
 
 -- what holds of the point that is read there
-pub at_read : (P : Point → Type 0) (points : List Point) (i : ℕ) → P (get_or points i blank) → (q : Point) → slice_get points i ≡ Some q → P q
+pub at_read : (P : Point → Type 0) (points : List Point) (i : ℕ) → P (get_or points i blank) → (q : Point)
+    → slice_get points i ≡ Some q → P q
 at_read P points i holds q e = subst P (get_or_from_slice_get points i q blank e) holds

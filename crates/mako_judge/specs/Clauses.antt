@@ -21,7 +21,8 @@ use Rattle.mako_judge.specs.declared.verdict.Clause.TheVariants as clause
 
 -- each finished cycle freed the names that died in it
 abbrev pub AreListsFreed : Facts → Seen → Type 0
-AreListsFreed w front = (i : ℕ) (names : List Name) → slice_get front.finished i ≡ Some names → AreFreed w front.history (i + 1) names
+AreListsFreed w front = (i : ℕ) (names : List Name) → slice_get front.finished i ≡ Some names
+    → AreFreed w front.history (i + 1) names
 
 -- the front meets the clause
 abbrev pub Holds : Facts → Seen → Clause → Type 0
@@ -37,7 +38,8 @@ Holds w front clause.Programs = FollowsPrograms w.programs front.history
 
 -- the cycle that a point waited for is finished, and began during the wait
 abbrev pub IsAnswered : Seen → List Point → Point → Type 0
-IsAnswered front before (Did mutator call (Cycle cycle)) = (cycle ≤ length front.finished) × Contains (since mutator before) (Snap cycle)
+IsAnswered front before (Did mutator call (Cycle cycle)) = (cycle ≤ length front.finished)
+    × Contains (since mutator before) (Snap cycle)
 IsAnswered front before point = Unit {0}
 
 -- the name that a point makes is in range
@@ -61,7 +63,8 @@ RefusesStarved w front before point = Unit {0}
 
 -- the calls of a point's mutator, among these points, are the beginning of its program
 abbrev pub FollowsProgram : Facts → List Point → Point → Type 0
-FollowsProgram w points (Did mutator call reply) = (program : List Call) → slice_get w.programs mutator ≡ Some program → IsPrefix (calls_by mutator points) program
+FollowsProgram w points (Did mutator call reply) = (program : List Call) → slice_get w.programs mutator ≡ Some program
+    → IsPrefix (calls_by mutator points) program
 FollowsProgram w points (Snap cycle) = Unit {0}
 
 -- a point, behind those before it, meets the clause

@@ -13,7 +13,8 @@ lists_in d = map (λ names. names.items) d.lists.items
 
 -- the list of the cycle has the name. Cycles are numbered from 1.
 abbrev pub IsListed : List (List Name) → ℕ → Name → Type 0
-IsListed lists cycle name = (0 < cycle) × ((names : List Name) × (slice_get lists (cycle - 1) ≡ Some names) × Contains names name)
+IsListed lists cycle name = (0 < cycle)
+    × ((names : List Name) × (slice_get lists (cycle - 1) ≡ Some names) × Contains names name)
 
 -- the history is legal, and there is a list of the dead names for each cycle that has begun
 pub record AreDeaths (w : Facts) (history : List Point) (lists : List (List Name)) : Type 0 where

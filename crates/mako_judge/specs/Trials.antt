@@ -29,12 +29,15 @@ DiedIn w history cycle name = IsDead w history cycle name × ¬ IsDead w history
 
 -- no tablet has room for so many fields
 abbrev pub AreTabletsFull : Facts → Seen → List Point → ℕ → ℕ → Type 0
-AreTabletsFull w front before cycle fields = (tablet : ℕ) → tablet < w.tablets → IsTabletFull w front before cycle fields tablet
+AreTabletsFull w front before cycle fields = (tablet : ℕ) → tablet < w.tablets
+    → IsTabletFull w front before cycle fields tablet
 
 -- the name is one of the entry that is not dead in the cycle, or the last that it can have
 abbrev pub Blocks : Facts → List Point → ℕ → ℕ → Name → Type 0
-Blocks w history cycle entry name = (name.entry ≡ entry) × ((name.generation ≡ w.generations - 1) ⊎ (¬ IsDead w history cycle name))
+Blocks w history cycle entry name = (name.entry ≡ entry)
+    × ((name.generation ≡ w.generations - 1) ⊎ (¬ IsDead w history cycle name))
 
 -- the calls of each mutator are its program
 abbrev pub IsWhole : Facts → List Point → Type 0
-IsWhole w history = (mutator : ℕ) (program : List Call) → slice_get w.programs mutator ≡ Some program → calls_by mutator history ≡ program
+IsWhole w history = (mutator : ℕ) (program : List Call) → slice_get w.programs mutator ≡ Some program
+    → calls_by mutator history ≡ program

@@ -5,7 +5,8 @@ use Rattle.mako_model.specs.Fronts.{Seen}
 use Rattle.mako_model.specs.Legal.{Facts}
 use Rattle.mako_model.specs.Answering.{Answers, AnswersToEnd}
 use Rattle.mako_judge.specs.declared.verdict.Clause.{Clause}
-use Rattle.mako_judge.specs.declared.verdict.Clause.TheVariants.{Legal, Finished, Unfinished, Freed, Waits, Names, Reuses, Starved, Programs}
+use Rattle.mako_judge.specs.declared.verdict.Clause.TheVariants.{Legal, Finished, Unfinished, Freed, Waits, Names}
+use Rattle.mako_judge.specs.declared.verdict.Clause.TheVariants.{Reuses, Starved, Programs}
 use Rattle.mako_judge.specs.declared.verdict.Fault.{Fault}
 use Rattle.mako_judge.specs.declared.verdict.Verdict.{Verdict}
 use Rattle.mako_judge.specs.declared.verdict.Verdict.TheVariants.{ToTheEnd, SoFar, No}

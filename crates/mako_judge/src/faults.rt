@@ -41,7 +41,9 @@ impl<'a> Trial<'a> {
 
     fn first_fault(&self, alloc: Global) -> Result<Option<Fault>, Memory>
         requires { IsFair self.now }
-        ensures { IfOk result (λ fault. MatchOption fault (Answers (script self.now) (front self.now)) (IsFirstFault (script self.now) (front self.now))) }
+        ensures { IfOk result
+            (λ fault. MatchOption fault (Answers (script self.now) (front self.now))
+            (IsFirstFault (script self.now) (front self.now))) }
     {
         for clause in &CLAUSES {
             if let Some(fault) = self.fault(alloc, *clause)? {
@@ -53,7 +55,9 @@ impl<'a> Trial<'a> {
 
     fn fault(&self, alloc: Global, clause: Clause) -> Result<Option<Fault>, Memory>
         requires { IsFair self.now }
-        ensures { IfOk result (λ fault. MatchOption fault (Holds (script self.now) (front self.now) clause) (λ f. (f.clause ≡ clause) × IsFault (script self.now) (front self.now) clause f.place)) }
+        ensures { IfOk result
+            (λ fault. MatchOption fault (Holds (script self.now) (front self.now) clause) (λ f. (f.clause ≡ clause)
+            × IsFault (script self.now) (front self.now) clause f.place)) }
     {
         match self.first_breach(alloc, clause)? {
             Some(place) => Ok(Some(Fault {
@@ -98,7 +102,8 @@ impl<'a> Trial<'a> {
 
     fn is_done(&self, mutator: usize) -> bool
         requires { mutator < length self.now.setup.now.programs.items }
-        ensures { (program : List Call) → slice_get (script self.now).programs mutator ≡ Some program → IsTrue result ↔ (calls_by mutator self.now.points.now ≡ program) }
+        ensures { (program : List Call) → slice_get (script self.now).programs mutator ≡ Some program
+            → IsTrue result ↔ (calls_by mutator self.now.points.now ≡ program) }
     {
         let program = &self.setup.programs[mutator];
         match calls_made(program, mutator, self.points) {

@@ -35,7 +35,8 @@ impl<'a> Trial<'a> {
     /// Whether the names are those that died in the cycle.
     fn are_those(&self, cycle: usize, names: &[Name]) -> bool
         requires { IsFair self.now }
-        ensures { IsTrue result ↔ ((name : Name) → Contains names.now name ↔ DiedIn (script self.now) self.now.points.now cycle name) }
+        ensures { IsTrue result ↔ ((name : Name)
+            → Contains names.now name ↔ DiedIn (script self.now) self.now.points.now cycle name) }
     {
         self.have_died(cycle, names) && self.are_all(cycle, names)
     }
@@ -43,7 +44,8 @@ impl<'a> Trial<'a> {
     /// Whether each of the names died in the cycle.
     fn have_died(&self, cycle: usize, names: &[Name]) -> bool
         requires { IsFair self.now }
-        ensures { IsTrue result ↔ ((name : Name) → Contains names.now name → DiedIn (script self.now) self.now.points.now cycle name) }
+        ensures { IsTrue result ↔ ((name : Name) → Contains names.now name
+            → DiedIn (script self.now) self.now.points.now cycle name) }
     {
         for name in names {
             if !self.has_died(cycle, *name) {
@@ -56,7 +58,8 @@ impl<'a> Trial<'a> {
     /// Whether each name that died in the cycle is one of these.
     fn are_all(&self, cycle: usize, names: &[Name]) -> bool
         requires { IsFair self.now }
-        ensures { IsTrue result ↔ ((name : Name) → DiedIn (script self.now) self.now.points.now cycle name → Contains names.now name) }
+        ensures { IsTrue result ↔ ((name : Name) → DiedIn (script self.now) self.now.points.now cycle name
+            → Contains names.now name) }
     {
         let dead = self.deaths.of(cycle);
         for name in dead {

@@ -22,10 +22,17 @@ pub fn judge(
     journal: &Journal,
     cycles: &Cycles,
 ) -> Result<Verdict, Memory>
-    ensures to_the_end { IfOk result (λ verdict. (verdict ≡ Verdict.ToTheEnd) ↔ AnswersToEnd (script_of setup.now) (front_of journal.now.points cycles.now.lists)) }
-    ensures so_far { IfOk result (λ verdict. (verdict ≡ Verdict.SoFar) ↔ (Answers (script_of setup.now) (front_of journal.now.points cycles.now.lists) × ¬ AnswersToEnd (script_of setup.now) (front_of journal.now.points cycles.now.lists))) }
-    ensures no { IfOk result (λ verdict. IsNo verdict ↔ ¬ Answers (script_of setup.now) (front_of journal.now.points cycles.now.lists)) }
-    ensures first { IfOk result (λ verdict. (fault : Fault) → verdict ≡ Verdict.No fault → IsFirstFault (script_of setup.now) (front_of journal.now.points cycles.now.lists) fault) }
+    ensures to_the_end { IfOk result
+        (λ verdict. (verdict ≡ Verdict.ToTheEnd) ↔ AnswersToEnd (script_of setup.now)
+        (front_of journal.now.points cycles.now.lists)) }
+    ensures so_far { IfOk result
+        (λ verdict. (verdict ≡ Verdict.SoFar) ↔
+        (Answers (script_of setup.now) (front_of journal.now.points cycles.now.lists)
+        × ¬ AnswersToEnd (script_of setup.now) (front_of journal.now.points cycles.now.lists))) }
+    ensures no { IfOk result
+        (λ verdict. IsNo verdict ↔ ¬ Answers (script_of setup.now) (front_of journal.now.points cycles.now.lists)) }
+    ensures first { IfOk result (λ verdict. (fault : Fault) → verdict ≡ Verdict.No fault
+        → IsFirstFault (script_of setup.now) (front_of journal.now.points cycles.now.lists) fault) }
 {
     let points = points_of(alloc, journal)?;
     verdict_of(alloc, setup, &points, cycles)

@@ -48,7 +48,8 @@ pub fn name_made(point: Point) -> Option<Name>
 
 /// The names that the points made and that are not reachable in the heap.
 pub fn unreached(alloc: Global, points: &[Point], heap: &Immortal) -> Result<Vec<Name>, Memory>
-    ensures { IfOk result (λ names. (name : Name) → Contains names.items name ↔ (Contains (names_made points.now) name × ¬ IsReachable heap.now name)) }
+    ensures { IfOk result (λ names. (name : Name)
+        → Contains names.items name ↔ (Contains (names_made points.now) name × ¬ IsReachable heap.now name)) }
 {
     let reached = reach(alloc, heap)?;
     let made = names_made(alloc, points)?;

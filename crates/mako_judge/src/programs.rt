@@ -1,6 +1,7 @@
 //! Calls against programs.
 
-ghost use Rattle.std.specs.Prelude.{◌≡◌, ◌≤◌, ◌↔◌, ◌∷◌, [], length, take, slice_get, Some, MatchOption, option_to_list, IsTrue};
+ghost use Rattle.std.specs.Prelude.{◌≡◌, ◌≤◌, ◌↔◌, ◌∷◌, [], length, take, slice_get, Some, MatchOption, option_to_list};
+ghost use Rattle.std.specs.Prelude.{IsTrue};
 ghost use mathlib.Core.List.{IsPrefix};
 ghost use Rattle.mako_model.specs.Fronts.{calls_by};
 
@@ -8,7 +9,8 @@ use mako_model::{Call, Point};
 
 /// How many calls of its program the mutator made, or `None` where it made another call than the next.
 pub fn calls_made(program: &[Call], mutator: usize, points: &[Point]) -> Option<usize>
-    ensures { MatchOption result (¬ IsPrefix (calls_by mutator points.now) program.now) (λ made. (calls_by mutator points.now ≡ take made program.now) × (made ≤ length program.now)) }
+    ensures { MatchOption result (¬ IsPrefix (calls_by mutator points.now) program.now)
+        (λ made. (calls_by mutator points.now ≡ take made program.now) × (made ≤ length program.now)) }
 {
     let mut made = 0;
     for point in points {

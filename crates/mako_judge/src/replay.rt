@@ -52,7 +52,8 @@ fn note(
     point: Point,
     heap: &Immortal,
 ) -> Result<(), Memory>
-    ensures { OnOk result ((w : Facts) → heap.now ≡ state_of w before.now → AreDeaths w before.now (lists_in deaths.old) → IsLawful heap.now point → AreDeaths w (before.now ++ point ∷ []) (lists_in deaths.new)) }
+    ensures { OnOk result ((w : Facts) → heap.now ≡ state_of w before.now → AreDeaths w before.now (lists_in deaths.old)
+        → IsLawful heap.now point → AreDeaths w (before.now ++ point ∷ []) (lists_in deaths.new)) }
 {
     match point {
         Point::Snap { .. } => deaths.push(unreached(alloc, before, heap)?),

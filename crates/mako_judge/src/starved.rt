@@ -2,7 +2,8 @@
 
 ghost use Rattle.std.specs.Prelude.{ℕ, ◌≡◌, ◌<◌, ◌≤◌, ◌-◌, ◌^◌, ◌/◌, ◌↔◌, min, IsTrue};
 ghost use Rattle.mako_model.specs.Dead.{names_made};
-ghost use Rattle.mako_model.specs.Starved.{IsStarved, IsAwaited, AreSpent, IsTabletFull, IsEntryUnavailable, words_by, words_made};
+ghost use Rattle.mako_model.specs.Starved.{IsStarved, IsAwaited, AreSpent, IsTabletFull, IsEntryUnavailable, words_by};
+ghost use Rattle.mako_model.specs.Starved.{words_made};
 ghost use Rattle.mako_judge.specs.Trials.{script, front, IsFair, Blocks, AreTabletsFull};
 
 use crate::points::{first_snap, since, snaps};
@@ -25,7 +26,8 @@ impl<'a> Trial<'a> {
     fn is_full_after_wait(&self, before: &[Point], made: &[Name], mutator: u8, fields: u8) -> bool
         requires fair { IsFair self.now }
         requires made { made.now ≡ names_made before.now }
-        ensures { IsTrue result ↔ ((cycle : ℕ) × IsAwaited (front self.now) before.now mutator cycle × AreTabletsFull (script self.now) (front self.now) before.now cycle fields) }
+        ensures { IsTrue result ↔ ((cycle : ℕ) × IsAwaited (front self.now) before.now mutator cycle
+            × AreTabletsFull (script self.now) (front self.now) before.now cycle fields) }
     {
         match first_snap(since(before, mutator)) {
             Some(cycle) => {
@@ -40,7 +42,8 @@ impl<'a> Trial<'a> {
     fn is_full_at_end(&self, before: &[Point], made: &[Name], fields: u8) -> bool
         requires fair { IsFair self.now }
         requires made { made.now ≡ names_made before.now }
-        ensures { IsTrue result ↔ ((cycle : ℕ) × AreSpent (script self.now) before.now cycle × AreTabletsFull (script self.now) (front self.now) before.now cycle fields) }
+        ensures { IsTrue result ↔ ((cycle : ℕ) × AreSpent (script self.now) before.now cycle
+            × AreTabletsFull (script self.now) (front self.now) before.now cycle fields) }
     {
         let cycles = self.setup.cycles as usize;
         snaps(before) == cycles
@@ -86,7 +89,8 @@ impl<'a> Trial<'a> {
     ) -> bool
         requires fair { IsFair self.now }
         requires made { made.now ≡ names_made before.now }
-        ensures { IsTrue result ↔ ((entry : ℕ) → entry / (script self.now).entries ≡ tablet → IsEntryUnavailable (script self.now) (front self.now) before.now cycle entry) }
+        ensures { IsTrue result ↔ ((entry : ℕ) → entry / (script self.now).entries ≡ tablet
+            → IsEntryUnavailable (script self.now) (front self.now) before.now cycle entry) }
     {
         let entries = self.setup.entries as u64;
         if entries == 0 {

@@ -1,10 +1,12 @@
 //! The trial of a legal history.
 
-ghost use Rattle.std.specs.Prelude.{◌≡◌, ◌<◌, ◌≤◌, ◌↔◌, ◌++◌, ◌∷◌, [], length, take, slice_get, Some, MatchOption, IfOk, IsTrue};
+ghost use Rattle.std.specs.Prelude.{◌≡◌, ◌<◌, ◌≤◌, ◌↔◌, ◌++◌, ◌∷◌, [], length, take, slice_get, Some, MatchOption};
+ghost use Rattle.std.specs.Prelude.{IfOk, IsTrue};
 ghost use Rattle.mako_model.specs.declared.point.Point.{Point};
 ghost use Rattle.mako_model.specs.Dead.{names_made, IsDead};
 ghost use Rattle.mako_model.specs.LawfulFronts.{IsInRange};
-ghost use Rattle.mako_judge.specs.Clauses.{HoldsAt, HoldsBelow, IsFirstBreach, IsAnswered, MakesInRange, IsReuse, MakesAgain, RefusesStarved, FollowsProgram};
+ghost use Rattle.mako_judge.specs.Clauses.{HoldsAt, HoldsBelow, IsFirstBreach, IsAnswered, MakesInRange, IsReuse};
+ghost use Rattle.mako_judge.specs.Clauses.{MakesAgain, RefusesStarved, FollowsProgram};
 ghost use Rattle.mako_judge.specs.Trials.{script, front, IsFair};
 
 use crate::deaths::Deaths;
@@ -30,7 +32,10 @@ impl<'a> Trial<'a> {
     /// The first point that does not meet the clause.
     pub fn first_breach(&self, alloc: Global, clause: Clause) -> Result<Option<usize>, Memory>
         requires { IsFair self.now }
-        ensures { IfOk result (λ place. MatchOption place (HoldsBelow (script self.now) (front self.now) clause (length self.now.points.now)) (IsFirstBreach (script self.now) (front self.now) clause)) }
+        ensures { IfOk result
+            (λ place. MatchOption place
+            (HoldsBelow (script self.now) (front self.now) clause (length self.now.points.now))
+            (IsFirstBreach (script self.now) (front self.now) clause)) }
     {
         for place in 0..self.points.len() {
             if !self.holds_at(alloc, clause, place)? {
@@ -44,7 +49,8 @@ impl<'a> Trial<'a> {
     fn holds_at(&self, alloc: Global, clause: Clause, place: usize) -> Result<bool, Memory>
         requires fair { IsFair self.now }
         requires within { place < length self.now.points.now }
-        ensures { IfOk result (λ holds. (point : Point) → slice_get self.now.points.now place ≡ Some point → IsTrue holds ↔ HoldsAt (script self.now) (front self.now) clause (take place self.now.points.now) point) }
+        ensures { IfOk result (λ holds. (point : Point) → slice_get self.now.points.now place ≡ Some point
+            → IsTrue holds ↔ HoldsAt (script self.now) (front self.now) clause (take place self.now.points.now) point) }
     {
         let before = &self.points[..place];
         let point = self.points[place];

@@ -1,5 +1,6 @@
 -- The collector's stretch: all mutator gates are drained and no server has drained a tablet, so no view knows anything.
-use Rattle.std.proofs.Common.{⊎_elim, ◌≡◌, ℕ, ◌+◌, ◌-◌, ◌<◌, ◌≤◌, ◌==◌, inl, inr, true, cond, List, slice_get, sum_by, Some, eq-eqb, ne_eqb, sym, ap, ◌∙◌, refl, subst, arith}
+use Rattle.std.proofs.Common.{⊎_elim, ◌≡◌, ℕ, ◌+◌, ◌-◌, ◌<◌, ◌≤◌, ◌==◌, inl, inr, true, cond, List, slice_get, sum_by}
+use Rattle.std.proofs.Common.{Some, eq-eqb, ne_eqb, sym, ap, ◌∙◌, refl, subst, arith}
 use Rattle.std.proofs.lemmas.Bool.{cases_eq}
 use Rattle.mako_shape.specs.declared.numbers.Numbers.{Numbers}
 use Rattle.mako_shape.specs.Places.{Place, phase, entry, home, top, leaving, region_word}
@@ -10,8 +11,11 @@ use Rattle.mako_gate.specs.Changes.{tablets_of, Sets, LeavesGates}
 use Rattle.mako_gate.specs.Standings.{GateFacet, drained_by}
 use Rattle.mako_gate.proofs.Numbers.{holds_le}
 use Rattle.mako_layout.specs.Layouts.{Layout, entries_of, regions_of, OneCopy}
-use Rattle.mako_layout.specs.Facets.{stands, Work, idle, reads, uses, holds_home, settled, owes_home, owes_top, Choice, Paused, Debt, debt_of, given_of, spare_of, rests_with, chooses, Gift, gift_of, times_in}
-use Rattle.mako_layout.specs.Evacuations.{slot_of, home_read, top_read, to_raise, counted_in, layout_of, Knows, State, layout, Evacuation}
+use Rattle.mako_layout.specs.Facets.{stands, Work, idle, reads, uses, holds_home, settled, owes_home, owes_top, Choice}
+use Rattle.mako_layout.specs.Facets.{Paused, Debt, debt_of, given_of, spare_of, rests_with, chooses, Gift, gift_of}
+use Rattle.mako_layout.specs.Facets.{times_in}
+use Rattle.mako_layout.specs.Evacuations.{slot_of, home_read, top_read, to_raise, counted_in, layout_of, Knows, State}
+use Rattle.mako_layout.specs.Evacuations.{layout, Evacuation}
 use Rattle.mako_layout.proofs.Alterations.{cycle_kept}
 use Rattle.mako_layout.proofs.Choices.{choose_kept, same_kept}
 use Rattle.mako_layout.proofs.Frames.{gates_frame, record_within, leaves_gates}

@@ -1,13 +1,15 @@
 -- One copy is kept where an entry is freed or marked, a region is left, a cycle ends or begins, and where nothing
 -- changes.
-use Rattle.std.proofs.Common.{◌≡◌, ◌≢◌, ℕ, ◌+◌, ◌<◌, ◌≤◌, ◌⊎◌, inl, inr, Bool, true, false, ◌==◌, sym, ap, ◌∙◌, refl, subst, arith}
+use Rattle.std.proofs.Common.{◌≡◌, ◌≢◌, ℕ, ◌+◌, ◌<◌, ◌≤◌, ◌⊎◌, inl, inr, Bool, true, false, ◌==◌, sym, ap, ◌∙◌, refl}
+use Rattle.std.proofs.Common.{subst, arith}
 use Rattle.std.proofs.lemmas.Bool.{cases_eq}
 use Rattle.mako_shape.specs.declared.numbers.Numbers.{Numbers}
 use Rattle.mako_shape.specs.Belongings.{tablet_of_entry}
 use Rattle.mako_shape.proofs.BelongingLaws.{belongings_in_range}
 use Rattle.mako_gate.specs.Sums.{counted}
 use Rattle.mako_gate.specs.Changes.{tablets_of}
-use Rattle.mako_layout.specs.Layouts.{Slot, Layout, entries_of, part_in, part_of_cycle, gifts_at, InHome, InGiven, Holds, OneCopy}
+use Rattle.mako_layout.specs.Layouts.{Slot, Layout, entries_of, part_in, part_of_cycle, gifts_at, InHome, InGiven}
+use Rattle.mako_layout.specs.Layouts.{Holds, OneCopy}
 use Rattle.mako_layout.specs.Changes.{Alters, Clears, Finishes}
 use Rattle.mako_layout.proofs.Sums.{sum_below_none, over_le, over_same, counted_cases, counted_is}
 use Rattle.mako_layout.proofs.Roles.{home_kept}

@@ -4,8 +4,10 @@ use Rattle.mako_shape.specs.declared.numbers.Numbers.{Numbers}
 use Rattle.mako_shape.specs.Places.{Place, region_word}
 use Rattle.mako_shape.specs.Belongings.{tablet_of_entry}
 use Rattle.mako_layout.specs.Layouts.{Slot, Layout, entries_of, OneCopy}
-use Rattle.mako_layout.specs.Facets.{Work, idle, reads, uses, holds_home, moves, asks, tops, finds, fills, carries, raises, makes, counts}
-use Rattle.mako_layout.specs.Evacuations.{Kept, Reads, Uses, Moves, Asks, Tops, Fills, Carries, Raises, Makes, Knows, IsAsFound}
+use Rattle.mako_layout.specs.Facets.{Work, idle, reads, uses, holds_home, moves, asks, tops, finds, fills, carries}
+use Rattle.mako_layout.specs.Facets.{raises, makes, counts}
+use Rattle.mako_layout.specs.Evacuations.{Kept, Reads, Uses, Moves, Asks, Tops, Fills, Carries, Raises, Makes, Knows}
+use Rattle.mako_layout.specs.Evacuations.{IsAsFound}
 use Rattle.mako_layout.specs.Beside.{entry_of, IsWriting, MindsEntry, Quiet, BesideWork, Beside}
 use Rattle.mako_layout.proofs.Roles.{copy_fits}
 use Rattle.mako_gate.specs.Standings.{GateFacet, writes}

@@ -6,9 +6,11 @@ use Rattle.mako_shape.specs.Belongings.{tablet_of_entry, server_of_tablet, serve
 use Rattle.mako_shape.proofs.BelongingLaws.{belongings_in_range}
 use Rattle.mako_gate.specs.Sums.{counted}
 use Rattle.mako_gate.specs.Changes.{tablets_of}
-use Rattle.mako_layout.specs.Layouts.{Slot, Layout, entries_of, regions_of, part_in, part_of_cycle, home_words, cycle_words, homes_at, gifts_at, InHome, InGiven, Holds, OneCopy}
+use Rattle.mako_layout.specs.Layouts.{Slot, Layout, entries_of, regions_of, part_in, part_of_cycle, home_words}
+use Rattle.mako_layout.specs.Layouts.{cycle_words, homes_at, gifts_at, InHome, InGiven, Holds, OneCopy}
 use Rattle.mako_layout.specs.Changes.{Chooses, AreSame}
-use Rattle.mako_layout.proofs.Sums.{sum_below_same, sum_below_one, over_le, over_same, over_none, counted_cases, counted_is, counted_not, one_same}
+use Rattle.mako_layout.proofs.Sums.{sum_below_same, sum_below_one, over_le, over_same, over_none, counted_cases}
+use Rattle.mako_layout.proofs.Sums.{counted_is, counted_not, one_same}
 use Rattle.mako_layout.proofs.Roles.{home_not_spare, given_not_spare}
 use Rattle.mako_gate.proofs.Numbers.{count_off}
 

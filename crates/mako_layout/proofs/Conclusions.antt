@@ -2,7 +2,8 @@
 use Rattle.mako_gate.specs.Sums.{counted}
 use Rattle.mako_gate.specs.Standings.{has_drained, writes, shutter_at}
 use Rattle.mako_layout.proofs.Sums.{sum_below_both, over_le, counted_cases}
-use Rattle.std.proofs.Common.{◌≡◌, ℕ, ◌+◌, ◌-◌, ◌*◌, ◌<◌, ◌≤◌, inl, inr, sym, ap, ◌∙◌, refl, subst, arith, Bool, true, false, cond, ◌&&◌, ◌==◌, eq-eqb}
+use Rattle.std.proofs.Common.{◌≡◌, ℕ, ◌+◌, ◌-◌, ◌*◌, ◌<◌, ◌≤◌, inl, inr, sym, ap, ◌∙◌, refl, subst, arith, Bool, true}
+use Rattle.std.proofs.Common.{false, cond, ◌&&◌, ◌==◌, eq-eqb}
 use Rattle.std.proofs.lemmas.Nat.{mul-le}
 use Rattle.std.proofs.lemmas.Bool.{cases_eq, cases_lt}
 use Rattle.mako_shape.specs.Places.{region_word, index, leaving}
@@ -13,7 +14,9 @@ use Rattle.mako_layout.specs.Facets.{reads, uses, holds_home, fills}
 use Rattle.mako_layout.specs.Evacuations.{layout}
 use Rattle.mako_layout.specs.Beside.{entry_of}
 use Rattle.mako_layout.proofs.Passing.{passed_all}
-use Rattle.mako_layout.specs.Conclusions.{ServersCopyAlone, OneWriter, UsedIsPresent, ReadIsPresent, EachHasItsRecord, RecordsAreApart, BegunCopiesFit, ClearedTopsAreExact, part_to_come, WhatIsLeftFits, UsedIsMade, AllAreHomeAtRest, WritersMayWrite, FoundIsPresent}
+use Rattle.mako_layout.specs.Conclusions.{ServersCopyAlone, OneWriter, UsedIsPresent, ReadIsPresent, EachHasItsRecord}
+use Rattle.mako_layout.specs.Conclusions.{RecordsAreApart, BegunCopiesFit, ClearedTopsAreExact, part_to_come}
+use Rattle.mako_layout.specs.Conclusions.{WhatIsLeftFits, UsedIsMade, AllAreHomeAtRest, WritersMayWrite, FoundIsPresent}
 use Rattle.mako_layout.proofs.Roles.{copy_fits, part_le}
 use Rattle.mako_layout.proofs.Besides.{writing}
 use Rattle.mako_layout.proofs.Frames.{record_within}

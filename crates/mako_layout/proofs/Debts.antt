@@ -1,6 +1,7 @@
 -- What the views still owe: who stands at a tablet finds the collector settled; a writer that owes nothing finds the
 -- top as it is read.
-use Rattle.std.proofs.Common.{◌≡◌, ◌≢◌, ℕ, ◌+◌, ◌<◌, ◌≤◌, ◌==◌, inl, inr, set, slice_get, get_or, sum_by, Some, sym, ap, ◌∙◌, refl, subst, ne_eqb, arith}
+use Rattle.std.proofs.Common.{◌≡◌, ◌≢◌, ℕ, ◌+◌, ◌<◌, ◌≤◌, ◌==◌, inl, inr, set, slice_get, get_or, sum_by, Some, sym, ap}
+use Rattle.std.proofs.Common.{◌∙◌, refl, subst, ne_eqb, arith}
 use Rattle.std.proofs.lemmas.List.{length-set}
 use Rattle.std.proofs.lemmas.Bool.{cases_eq, cases_lt}
 use Rattle.std.proofs.lemmas.Option.{same_Some, slice_get_within, slice_get-get_or}
@@ -16,7 +17,8 @@ use Rattle.mako_gate.proofs.Lists.{sum_at, some_term}
 use Rattle.mako_gate.proofs.Numbers.{holds_le}
 use Rattle.mako_layout.specs.Layouts.{Layout, entries_of, regions_of}
 use Rattle.mako_layout.specs.Facets.{stands, Work, raises, counts, settled, Paused, debt_of}
-use Rattle.mako_layout.specs.Evacuations.{slot_of, home_read, top_read, to_raise, counted_in, layout_of, Knows, State, layout, Evacuation}
+use Rattle.mako_layout.specs.Evacuations.{slot_of, home_read, top_read, to_raise, counted_in, layout_of, Knows, State}
+use Rattle.mako_layout.specs.Evacuations.{layout, Evacuation}
 use Rattle.mako_layout.proofs.Frames.{gates_frame, record_within, leaves_gates}
 use Rattle.mako_layout.proofs.Stays.{stays_kept}
 use Rattle.mako_layout.proofs.Works.{known}

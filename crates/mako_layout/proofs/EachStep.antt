@@ -4,7 +4,8 @@ use Rattle.mako_shape.specs.declared.numbers.Numbers.{Numbers}
 use Rattle.mako_shape.specs.Limits.{IsShape}
 use Rattle.mako_gate.specs.Standings.{keeps_shut, has_drained, mutator_at, shutter_at}
 use Rattle.mako_layout.specs.Layouts.{Passed, gifts_at}
-use Rattle.mako_layout.specs.Facets.{idle, holds_home, owes_home, owes_top, chooses, has_chosen, settled, debt_of, given_of, spare_of, gift_of, times_in}
+use Rattle.mako_layout.specs.Facets.{idle, holds_home, owes_home, owes_top, chooses, has_chosen, settled, debt_of}
+use Rattle.mako_layout.specs.Facets.{given_of, spare_of, gift_of, times_in}
 use Rattle.mako_layout.specs.Evacuations.{State, layout, Evacuation}
 use Rattle.mako_layout.specs.Steps as step
 use Rattle.mako_layout.specs.Steps.{Step}

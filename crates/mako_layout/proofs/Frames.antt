@@ -1,7 +1,8 @@
 -- Frames: what one changed word leaves of the layout, the gates and the records.
 use Rattle.std.proofs.Common.{◌≡◌, ◌≢◌, ℕ, ◌+◌, ◌-◌, ◌<◌, ◌≤◌, inl, inr, List, sum_by, sym, ap, ◌∙◌, refl, subst, arith}
 use Rattle.mako_shape.specs.declared.numbers.Numbers.{Numbers}
-use Rattle.mako_shape.specs.Places.{Place, phase, mutator_gate, tablet_gate, turn, entry, home, top, leaving, region_word}
+use Rattle.mako_shape.specs.Places.{Place, phase, mutator_gate, tablet_gate, turn, entry, home, top, leaving}
+use Rattle.mako_shape.specs.Places.{region_word}
 use Rattle.mako_shape.specs.Belongings.{tablet_of_entry}
 use Rattle.mako_shape.proofs.BelongingLaws.{belongings_in_range}
 use Rattle.mako_model.specs.Heaps.{Heap}

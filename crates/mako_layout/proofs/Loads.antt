@@ -1,12 +1,14 @@
 -- Kinds of step of one view that leave the layout: what is loaded from entry, home and top, and the raises of the top.
-use Rattle.std.proofs.Common.{◌≡◌, ◌≢◌, ℕ, ◌+◌, ◌<◌, ◌≤◌, inl, inr, true, false, set, slice_get, Some, sym, ap, ◌∙◌, refl, subst, arith}
+use Rattle.std.proofs.Common.{◌≡◌, ◌≢◌, ℕ, ◌+◌, ◌<◌, ◌≤◌, inl, inr, true, false, set, slice_get, Some, sym, ap, ◌∙◌}
+use Rattle.std.proofs.Common.{refl, subst, arith}
 use Rattle.std.proofs.lemmas.Bool.{cases_eq}
 use Rattle.mako_shape.specs.declared.numbers.Numbers.{Numbers}
 use Rattle.mako_shape.specs.Places.{Place, home, top, leaving, region_word, entry}
 use Rattle.mako_shape.specs.Belongings.{tablet_of_entry}
 use Rattle.mako_shape.proofs.BelongingLaws.{belongings_in_range}
 use Rattle.mako_layout.specs.Layouts.{entries_of, regions_of}
-use Rattle.mako_layout.specs.Facets.{stands, Work, idle, reads, uses, holds_home, moves, asks, tops, finds, fills, raises, makes, counts}
+use Rattle.mako_layout.specs.Facets.{stands, Work, idle, reads, uses, holds_home, moves, asks, tops, finds, fills}
+use Rattle.mako_layout.specs.Facets.{raises, makes, counts}
 use Rattle.mako_layout.specs.Evacuations.{to_raise, counted_in, Raises, Makes, Knows, State, layout, Evacuation}
 use Rattle.mako_gate.specs.Standings.{GateFacet, admitted, holds_turn, writes}
 use Rattle.mako_gate.specs.Changes.{Sets}

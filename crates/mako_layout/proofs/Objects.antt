@@ -1,5 +1,6 @@
 -- The entry of a copied record and of a new object is stored; a field is stored.
-use Rattle.std.proofs.Common.{◌≡◌, ◌≢◌, ℕ, zero, suc, ◌+◌, ◌-◌, ◌<◌, ◌≤◌, ◌^◌, inl, inr, true, List, [], length, map, set, replicate, slice_get, get_or, Some, sym, ap, ◌∙◌, refl, subst, arith}
+use Rattle.std.proofs.Common.{◌≡◌, ◌≢◌, ℕ, zero, suc, ◌+◌, ◌-◌, ◌<◌, ◌≤◌, ◌^◌, inl, inr, true, List, [], length, map}
+use Rattle.std.proofs.Common.{set, replicate, slice_get, get_or, Some, sym, ap, ◌∙◌, refl, subst, arith}
 use Rattle.std.specs.Option.{unwrap_or}
 use Rattle.std.proofs.lemmas.List.{length-set, length-map, length-replicate, map-set, get_or-set_same, get_or-set_other}
 use Rattle.std.proofs.lemmas.Bool.{cases_eq}
@@ -19,12 +20,14 @@ use Rattle.mako_model.specs.Heaps.{Heap, fields_of}
 use Rattle.mako_layout.specs.Layouts.{Layout, entries_of, regions_of, Holds}
 use Rattle.mako_layout.specs.Changes.{AreSame}
 use Rattle.mako_layout.specs.Facets.{Work, idle, uses, fills, raises, counts, debt_of}
-use Rattle.mako_layout.specs.Evacuations.{name_of, slot_of, top_read, layout_of, record_words, IsRecordOf, Uses, Fills, Counts, State, layout, Evacuation}
+use Rattle.mako_layout.specs.Evacuations.{name_of, slot_of, top_read, layout_of, record_words, IsRecordOf, Uses, Fills}
+use Rattle.mako_layout.specs.Evacuations.{Counts, State, layout, Evacuation}
 use Rattle.mako_layout.specs.Beside.{entry_of}
 use Rattle.mako_layout.specs.StepParts.{moved_entry, new_entry}
 use Rattle.mako_layout.specs.Frames.{SameTable}
 use Rattle.mako_layout.proofs.Roles.{copy_fits, away, record_in_home, one_home}
-use Rattle.mako_layout.proofs.Frames.{table_beside_region, gates_frame, layout_same, beside_same, record_within, leaves_gates}
+use Rattle.mako_layout.proofs.Frames.{table_beside_region, gates_frame, layout_same, beside_same, record_within}
+use Rattle.mako_layout.proofs.Frames.{leaves_gates}
 use Rattle.mako_layout.proofs.Stays.{size_is, frame_kept}
 use Rattle.mako_layout.proofs.Debts.{filled_is}
 use Rattle.mako_layout.proofs.Entries.{address_fits, generation_small, epoch_small}
@@ -253,7 +256,8 @@ module _ (n : Numbers) (s : State) (e : Evacuation n s) (i : ℕ) (g : GateFacet
                   ∙ c.address ∙ ap (λ q. (entry_at q).address) (sym es);
               words = λ b small.
                   let inside : b < length fields + 1 = (let a = length-set fields j v in omega arith) in
-                  let place : region_word (slot_of n h y (V (entry y))).region ((slot_of n h y (V (entry y))).offset + b)
+                  let place : region_word (slot_of n h y (V (entry y))).region
+                  ((slot_of n h y (V (entry y))).offset + b)
                   ≡ region_word r (o + b) =
                   (λ q. region_word (slot_of n h y (es q)).region ((slot_of n h y (es q)).offset + b))
                   ∙ (λ q. region_word (at_r q) (at_o q + b)) in

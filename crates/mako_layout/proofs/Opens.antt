@@ -1,5 +1,7 @@
 -- The opening meets the invariant.
-use Rattle.std.proofs.Common.{◌≡◌, ◌≢◌, ℕ, zero, suc, ◌+◌, ◌*◌, ◌/◌, ◌%◌, ◌<◌, ◌≤◌, ◌==◌, ◌&&◌, nat_lt, inl, inr, Bool, true, false, cond, [], ◌∷◌, length, map, replicate, slice_get, get_or, sum_by, Some, ne_eqb, sym, ap, ◌∙◌, refl, subst, arith}
+use Rattle.std.proofs.Common.{◌≡◌, ◌≢◌, ℕ, zero, suc, ◌+◌, ◌*◌, ◌/◌, ◌%◌, ◌<◌, ◌≤◌, ◌==◌, ◌&&◌, nat_lt, inl, inr, Bool}
+use Rattle.std.proofs.Common.{true, false, cond, [], ◌∷◌, length, map, replicate, slice_get, get_or, sum_by, Some}
+use Rattle.std.proofs.Common.{ne_eqb, sym, ap, ◌∙◌, refl, subst, arith}
 use Rattle.std.proofs.lemmas.Nat.{mod-mul-add, div-mul-add}
 use Rattle.std.proofs.lemmas.Bool.{cases_eq, cases_lt}
 use Rattle.std.proofs.lemmas.Bool.Decides.{nat_tests}
@@ -22,14 +24,17 @@ use Rattle.mako_model.specs.Heaps.{fields_of, board_name, opening}
 use Rattle.mako_model.proofs.Lookups.{fields_same}
 use Rattle.std.specs.FinMap as finmap
 use Rattle.mako_layout.specs.Sums.{sum_below}
-use Rattle.mako_layout.specs.Layouts.{Slot, Layout, entries_of, regions_of, part_in, home_words, taken_words, InHome, OneCopy}
+use Rattle.mako_layout.specs.Layouts.{Slot, Layout, entries_of, regions_of, part_in, home_words, taken_words, InHome}
+use Rattle.mako_layout.specs.Layouts.{OneCopy}
 use Rattle.mako_layout.specs.Facets.{Work, idle, times_in}
-use Rattle.mako_layout.specs.Evacuations.{slot_of_entry, to_raise, counted_in, record_words, IsRecordOf, Knows, State, layout, Evacuation}
+use Rattle.mako_layout.specs.Evacuations.{slot_of_entry, to_raise, counted_in, record_words, IsRecordOf, Knows, State}
+use Rattle.mako_layout.specs.Evacuations.{layout, Evacuation}
 use Rattle.mako_gate.specs.Sums.{counted}
 use Rattle.mako_gate.specs.Changes.{tablets_of}
 use Rattle.mako_gate.specs.Standings.{GateFacet, away, rests, has_drained, mutator_at}
 use Rattle.mako_gate.proofs.Numbers.{counted_le, count_at, count_off}
-use Rattle.mako_layout.specs.Openings.{board_entry, opening_words, seats_from, idle_works, spares_below, opening_state, OpeningHolds}
+use Rattle.mako_layout.specs.Openings.{board_entry, opening_words, seats_from, idle_works, spares_below, opening_state}
+use Rattle.mako_layout.specs.Openings.{OpeningHolds}
 use Rattle.mako_layout.proofs.Sums.{sum_below_none, sum_below_one, over_one, over_none, counted_not}
 use Rattle.mako_layout.proofs.Entries.{address_fits, region_of_place, word_of_place, slot_stored}
 use Rattle.mako_gate.proofs.GatesHold.{opening_has}

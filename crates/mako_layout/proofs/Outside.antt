@@ -1,5 +1,6 @@
 -- Steps outside of evacuation, and the steps that put a point into the history.
-use Rattle.std.proofs.Common.{◌≡◌, ℕ, ◌+◌, ◌-◌, ◌/◌, ◌<◌, ◌^◌, cond, eq-eqb, inr, true, List, [], ◌∷◌, ◌++◌, length, set, replicate, slice_get, Some, sym, ap, ◌∙◌, refl, subst, arith}
+use Rattle.std.proofs.Common.{◌≡◌, ℕ, ◌+◌, ◌-◌, ◌/◌, ◌<◌, ◌^◌, cond, eq-eqb, inr, true, List, [], ◌∷◌, ◌++◌, length}
+use Rattle.std.proofs.Common.{set, replicate, slice_get, Some, sym, ap, ◌∙◌, refl, subst, arith}
 use Rattle.std.specs.Option.{unwrap_or}
 use Rattle.std.proofs.lemmas.List.Sums.{fold_push, sum_by_push}
 use Rattle.mako_words.specs.declared.name.Name.{Name}

@@ -1,5 +1,6 @@
 -- An entry is stored, whose record stands at the end of the home: by a copy, or for a new object.
-use Rattle.std.proofs.Common.{◌≡◌, ◌≢◌, ℕ, ◌+◌, ◌<◌, ◌≤◌, ◌==◌, ◌⊎◌, inl, inr, ⊎_elim, true, false, List, [], length, set, slice_get, get_or, sum_by, Some, sym, ap, ◌∙◌, refl, subst, arith}
+use Rattle.std.proofs.Common.{◌≡◌, ◌≢◌, ℕ, ◌+◌, ◌<◌, ◌≤◌, ◌==◌, ◌⊎◌, inl, inr, ⊎_elim, true, false, List, [], length}
+use Rattle.std.proofs.Common.{set, slice_get, get_or, sum_by, Some, sym, ap, ◌∙◌, refl, subst, arith}
 use Rattle.std.specs.Option.{unwrap_or}
 use Rattle.std.proofs.lemmas.List.{length-set}
 use Rattle.std.proofs.lemmas.Bool.{cases_eq}
@@ -21,7 +22,9 @@ use Rattle.mako_gate.proofs.Lists.{at_set, sum_at}
 use Rattle.mako_layout.specs.Layouts.{Slot, Layout, entries_of, regions_of, Holds, OneCopy}
 use Rattle.mako_layout.specs.Changes.{Puts, AreSame}
 use Rattle.mako_layout.specs.Facets.{Work, debt_of}
-use Rattle.mako_layout.specs.Evacuations.{name_of, slot_of_entry, slot_of, home_read, top_read, to_raise, counted_in, layout_of, record_words, Stand, IsRecordOf, Kept, Knows, State, layout, Evacuation}
+use Rattle.mako_layout.specs.Evacuations.{name_of, slot_of_entry, slot_of, home_read, top_read, to_raise, counted_in}
+use Rattle.mako_layout.specs.Evacuations.{layout_of, record_words, Stand, IsRecordOf, Kept, Knows, State, layout}
+use Rattle.mako_layout.specs.Evacuations.{Evacuation}
 use Rattle.mako_layout.specs.Beside.{entry_of, Beside}
 use Rattle.mako_layout.proofs.Puts.{put_kept}
 use Rattle.mako_layout.proofs.Choices.{same_kept}

@@ -1,12 +1,14 @@
 -- One copy is kept where a record comes to stand at the end of its tablet's home.
-use Rattle.std.proofs.Common.{◌≡◌, ◌≢◌, ℕ, ◌+◌, ◌<◌, ◌≤◌, ◌⊎◌, inl, inr, ⊎_elim, Bool, true, false, ◌&&◌, ◌==◌, sym, ap, ◌∙◌, subst, arith}
+use Rattle.std.proofs.Common.{◌≡◌, ◌≢◌, ℕ, ◌+◌, ◌<◌, ◌≤◌, ◌⊎◌, inl, inr, ⊎_elim, Bool, true, false, ◌&&◌, ◌==◌, sym, ap}
+use Rattle.std.proofs.Common.{◌∙◌, subst, arith}
 use Rattle.std.proofs.lemmas.Bool.{cases_eq}
 use Rattle.mako_shape.specs.declared.numbers.Numbers.{Numbers}
 use Rattle.mako_shape.specs.Belongings.{tablet_of_entry}
 use Rattle.mako_shape.proofs.BelongingLaws.{belongings_in_range}
 use Rattle.mako_gate.specs.Sums.{counted}
 use Rattle.mako_gate.specs.Changes.{tablets_of}
-use Rattle.mako_layout.specs.Layouts.{Slot, Layout, entries_of, part_in, part_of_cycle, taken_words, home_words, cycle_words, InHome, InGiven, Holds, OneCopy}
+use Rattle.mako_layout.specs.Layouts.{Slot, Layout, entries_of, part_in, part_of_cycle, taken_words, home_words}
+use Rattle.mako_layout.specs.Layouts.{cycle_words, InHome, InGiven, Holds, OneCopy}
 use Rattle.mako_layout.specs.Changes.{Puts}
 use Rattle.mako_layout.proofs.Sums.{over_one, over_same, over_le, counted_is, counted_not}
 use Rattle.mako_layout.proofs.Roles.{free_above}

@@ -6,8 +6,10 @@ use Rattle.mako_shape.specs.Belongings.{tablet_of_entry}
 use Rattle.mako_shape.proofs.BelongingLaws.{belongings_in_range}
 use Rattle.mako_gate.specs.Sums.{counted}
 use Rattle.mako_gate.specs.Changes.{tablets_of}
-use Rattle.mako_layout.specs.Layouts.{Layout, entries_of, part_in, part_of_cycle, home_words, cycle_words, Holds, OneCopy}
-use Rattle.mako_layout.proofs.Sums.{term_below, terms_below, over_le_at, over_same, counted_cases, counted_is, counted_not}
+use Rattle.mako_layout.specs.Layouts.{Layout, entries_of, part_in, part_of_cycle, home_words, cycle_words, Holds}
+use Rattle.mako_layout.specs.Layouts.{OneCopy}
+use Rattle.mako_layout.proofs.Sums.{term_below, terms_below, over_le_at, over_same, counted_cases, counted_is}
+use Rattle.mako_layout.proofs.Sums.{counted_not}
 use Rattle.mako_gate.proofs.Numbers.{count_at}
 
 module _ (n : Numbers) (l : Layout) (o : OneCopy n l) where

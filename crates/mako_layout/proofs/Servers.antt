@@ -1,5 +1,6 @@
 -- A server clears a tablet that it left, frees and marks entries; the collector stores the phases of evacuation.
-use Rattle.std.proofs.Common.{◌≡◌, ◌≢◌, ℕ, ◌+◌, ◌-◌, ◌<◌, ◌≤◌, inl, inr, ⊎_elim, true, [], length, slice_get, sum_by, Some, sym, ap, ◌∙◌, refl, subst, arith, List}
+use Rattle.std.proofs.Common.{◌≡◌, ◌≢◌, ℕ, ◌+◌, ◌-◌, ◌<◌, ◌≤◌, inl, inr, ⊎_elim, true, [], length, slice_get, sum_by}
+use Rattle.std.proofs.Common.{Some, sym, ap, ◌∙◌, refl, subst, arith, List}
 use Rattle.std.specs.Option.{unwrap_or}
 use Rattle.std.proofs.lemmas.Bool.{cases_eq}
 use Rattle.std.proofs.lemmas.Option.{same_Some}
@@ -16,8 +17,11 @@ use Rattle.mako_gate.specs.Changes.{tablets_of, Sets, LeavesGates}
 use Rattle.mako_gate.specs.Standings.{GateFacet, drained_by, writes}
 use Rattle.mako_layout.specs.Layouts.{Slot, Layout, entries_of, regions_of, cycle_words, gifts_at, OneCopy}
 use Rattle.mako_layout.specs.Changes.{Alters, AreSame, IsMoved}
-use Rattle.mako_layout.specs.Facets.{Work, idle, reads, uses, holds_home, moves, asks, tops, finds, fills, carries, raises, makes, counts, Choice, debt_of, given_of, spare_of, rests_with, has_chosen, Gift, gift_of, times_in}
-use Rattle.mako_layout.specs.Evacuations.{slot_of_entry, slot_of, home_read, top_read, to_raise, counted_in, layout_of, IsRecordOf, Knows, State, layout, Evacuation}
+use Rattle.mako_layout.specs.Facets.{Work, idle, reads, uses, holds_home, moves, asks, tops, finds, fills, carries}
+use Rattle.mako_layout.specs.Facets.{raises, makes, counts, Choice, debt_of, given_of, spare_of, rests_with, has_chosen}
+use Rattle.mako_layout.specs.Facets.{Gift, gift_of, times_in}
+use Rattle.mako_layout.specs.Evacuations.{slot_of_entry, slot_of, home_read, top_read, to_raise, counted_in, layout_of}
+use Rattle.mako_layout.specs.Evacuations.{IsRecordOf, Knows, State, layout, Evacuation}
 use Rattle.mako_layout.specs.Beside.{entry_of, IsWriting, MindsEntry, IsReading}
 use Rattle.mako_layout.specs.StepParts.{AltersEntry}
 use Rattle.mako_layout.proofs.Roles.{away, all_moved}

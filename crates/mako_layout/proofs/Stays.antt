@@ -1,5 +1,6 @@
 -- Steps that leave the layout: loads, stores past the words in use, raises of a top, and all at gates and turns.
-use Rattle.std.proofs.Common.{◌≡◌, ℕ, ◌+◌, ◌<◌, ◌≤◌, ◌⊎◌, inl, inr, true, List, [], length, slice_get, sum_by, Some, sym, ap, ◌∙◌, refl, arith}
+use Rattle.std.proofs.Common.{◌≡◌, ℕ, ◌+◌, ◌<◌, ◌≤◌, ◌⊎◌, inl, inr, true, List, [], length, slice_get, sum_by, Some}
+use Rattle.std.proofs.Common.{sym, ap, ◌∙◌, refl, arith}
 use Rattle.std.specs.Option.{unwrap_or}
 use Rattle.mako_words.specs.Entries.{entry_at}
 use Rattle.mako_shape.specs.declared.numbers.Numbers.{Numbers}
@@ -9,7 +10,8 @@ use Rattle.mako_model.specs.Heaps.{Heap, fields_of}
 use Rattle.mako_layout.specs.Layouts.{Slot, Layout, entries_of, Holds, Passed, OneCopy}
 use Rattle.mako_layout.specs.Changes.{AreSame}
 use Rattle.mako_layout.specs.Facets.{Work, settled, Paused, debt_of}
-use Rattle.mako_layout.specs.Evacuations.{name_of, slot_of, top_read, to_raise, counted_in, layout_of, IsRecordOf, Knows, State, layout, Evacuation}
+use Rattle.mako_layout.specs.Evacuations.{name_of, slot_of, top_read, to_raise, counted_in, layout_of, IsRecordOf}
+use Rattle.mako_layout.specs.Evacuations.{Knows, State, layout, Evacuation}
 use Rattle.mako_layout.specs.Beside.{entry_of, Beside}
 use Rattle.mako_layout.proofs.Choices.{same_kept}
 use Rattle.mako_layout.proofs.Besides.{knows_kept}

@@ -1,5 +1,6 @@
 -- The worked examples.
-use Rattle.std.proofs.Common.{◌≡◌, ◌≢◌, ℕ, zero, suc, ◌+◌, ◌<◌, inl, inr, true, refl, sym, ap, ◌∙◌, subst, ◌==◌, if◌then◌else◌, arith}
+use Rattle.std.proofs.Common.{◌≡◌, ◌≢◌, ℕ, zero, suc, ◌+◌, ◌<◌, inl, inr, true, refl, sym, ap, ◌∙◌, subst, ◌==◌}
+use Rattle.std.proofs.Common.{if◌then◌else◌, arith}
 use Rattle.mako_shape.specs.Limits.{IsShape}
 use Rattle.mako_shape.specs.Places.{Place, mutator_gate, tablet_gate, Within, total}
 use Rattle.mako_shape.specs.Belongings.{tablet_of_entry, server_of_tablet, server_of_region}
@@ -7,14 +8,16 @@ use Rattle.mako_gate.specs.Changes.{Sets, tablets_of}
 use Rattle.mako_gate.specs.Standings.{away, inside, at_tablet, has_drained, mutator_at, shutter_at}
 use Rattle.mako_gate.specs.GateActions.{arrives, enters}
 use Rattle.mako_gate.proofs.GatesTell.{gates_tell}
-use Rattle.mako_layout.specs.Layouts.{Slot, regions_of, homes_at, gifts_at, home_words, cycle_words, taken_words, InGiven, Holds, OneCopy}
+use Rattle.mako_layout.specs.Layouts.{Slot, regions_of, homes_at, gifts_at, home_words, cycle_words, taken_words}
+use Rattle.mako_layout.specs.Layouts.{InGiven, Holds, OneCopy}
 use Rattle.mako_layout.specs.Changes.{Puts, Clears}
 use Rattle.mako_layout.specs.Facets.{Work, idle, reads, uses}
 use Rattle.mako_layout.specs.Evacuations.{State, slot_at, Seat}
 use Rattle.mako_layout.specs.Openings.{opening_words, opening_state}
 use Rattle.mako_layout.specs.Steps as step
 use Rattle.mako_layout.specs.Runs.{Reaches, opens, goes_on}
-use Rattle.mako_layout.specs.Examples.{small, with_gates, with_mutator, board_in, slots_with, before_copy, after_copy, WorkedUse, WorkedCopy, WrongLayouts}
+use Rattle.mako_layout.specs.Examples.{small, with_gates, with_mutator, board_in, slots_with, before_copy, after_copy}
+use Rattle.mako_layout.specs.Examples.{WorkedUse, WorkedCopy, WrongLayouts}
 use Rattle.mako_layout.proofs.Frames.{leaves_layout}
 use Rattle.mako_layout.proofs.Puts.{put_kept}
 use Rattle.mako_layout.proofs.Alterations.{clear_kept}

@@ -1,6 +1,7 @@
 -- Steps of one view's work that leave the layout: loads, stores of a record's words past the words in use, raises of
 -- the top.
-use Rattle.std.proofs.Common.{◌≡◌, ◌≢◌, ℕ, ◌+◌, ◌<◌, ◌≤◌, inl, inr, set, slice_get, sum_by, Some, sym, ap, ◌∙◌, refl, subst, arith}
+use Rattle.std.proofs.Common.{◌≡◌, ◌≢◌, ℕ, ◌+◌, ◌<◌, ◌≤◌, inl, inr, set, slice_get, sum_by, Some, sym, ap, ◌∙◌, refl}
+use Rattle.std.proofs.Common.{subst, arith}
 use Rattle.std.proofs.lemmas.List.{length-set}
 use Rattle.std.proofs.lemmas.Bool.{cases_eq}
 use Rattle.std.proofs.lemmas.Option.{same_Some}
@@ -10,14 +11,16 @@ use Rattle.mako_shape.specs.Belongings.{tablet_of_entry}
 use Rattle.mako_shape.proofs.BelongingLaws.{belongings_in_range}
 use Rattle.mako_layout.specs.Layouts.{Layout, entries_of, regions_of, Holds}
 use Rattle.mako_layout.specs.Facets.{Work, fills, carries, makes, debt_of}
-use Rattle.mako_layout.specs.Evacuations.{top_read, to_raise, counted_in, Carries, Makes, null_words, Knows, State, layout, Evacuation}
+use Rattle.mako_layout.specs.Evacuations.{top_read, to_raise, counted_in, Carries, Makes, null_words, Knows, State}
+use Rattle.mako_layout.specs.Evacuations.{layout, Evacuation}
 use Rattle.mako_layout.specs.Beside.{entry_of}
 use Rattle.mako_layout.specs.Frames.{SameTable}
 use Rattle.mako_gate.specs.Changes.{tablets_of, Sets, LeavesGates}
 use Rattle.mako_gate.specs.Standings.{GateFacet, writes}
 use Rattle.mako_gate.proofs.Lists.{at_set, sum_at}
 use Rattle.mako_layout.proofs.Roles.{copy_fits}
-use Rattle.mako_layout.proofs.Frames.{table_beside_region, gates_frame, layout_same, record_stays, ahead_stays, leaves_gates}
+use Rattle.mako_layout.proofs.Frames.{table_beside_region, gates_frame, layout_same, record_stays, ahead_stays}
+use Rattle.mako_layout.proofs.Frames.{leaves_gates}
 use Rattle.mako_layout.proofs.Stays.{KnownAfter, stays_kept}
 use Rattle.mako_gate.proofs.GatesTell.{gates_tell}
 use Rattle.mako_words.specs.declared.name.Name.{Name}

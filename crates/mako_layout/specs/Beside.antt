@@ -6,7 +6,8 @@ use Rattle.mako_shape.specs.Places.{Place, top, region_word}
 use Rattle.mako_shape.specs.Belongings.{tablet_of_entry}
 use Rattle.mako_gate.specs.Standings.{GateFacet, writes}
 use Rattle.mako_layout.specs.Layouts.{Layout, Holds}
-use Rattle.mako_layout.specs.Facets.{Work, idle, reads, uses, holds_home, moves, asks, tops, finds, fills, carries, raises, makes, counts}
+use Rattle.mako_layout.specs.Facets.{Work, idle, reads, uses, holds_home, moves, asks, tops, finds, fills, carries}
+use Rattle.mako_layout.specs.Facets.{raises, makes, counts}
 
 -- the entry that the work is about
 abbrev pub entry_of : Work → ℕ

@@ -10,7 +10,8 @@ use Rattle.mako_gate.specs.Standings.{has_drained, GateFacet, admitted, drained_
 use Rattle.mako_layout.specs.Sums.{over_tablet}
 use Rattle.mako_layout.specs.Layouts.{entries_of, home_words, cycle_words, Slot, Layout, InHome}
 use Rattle.mako_layout.specs.Facets.{Work, reads, uses, holds_home, fills, rests_with}
-use Rattle.mako_layout.specs.Evacuations.{to_raise, counted_in, IsRecordOf, State, layout, slot_at, IsTaken, top_of, Seat, Evacuation}
+use Rattle.mako_layout.specs.Evacuations.{to_raise, counted_in, IsRecordOf, State, layout, slot_at, IsTaken, top_of}
+use Rattle.mako_layout.specs.Evacuations.{Seat, Evacuation}
 use Rattle.mako_layout.specs.Beside.{entry_of, IsWriting}
 use Rattle.mako_layout.specs.StepParts.{past_of}
 use Rattle.mako_words.specs.declared.entry_word.EntryWord.{EntryWord}

@@ -1,5 +1,6 @@
 -- The whole: the layout that words, works, heap and choice give, what stands in the records, and what each view knows.
-use Rattle.std.specs.Prelude.{ℕ, true, false, ◌≡◌, ◌≢◌, ◌+◌, ◌-◌, ◌<◌, ◌≤◌, ◌==◌, if◌then◌else◌, ◌⊎◌, List, [], ◌∷◌, length, map, get_or, replicate, slice_get, sum_by, Some}
+use Rattle.std.specs.Prelude.{ℕ, true, false, ◌≡◌, ◌≢◌, ◌+◌, ◌-◌, ◌<◌, ◌≤◌, ◌==◌, if◌then◌else◌, ◌⊎◌, List, [], ◌∷◌}
+use Rattle.std.specs.Prelude.{length, map, get_or, replicate, slice_get, sum_by, Some}
 use Rattle.std.specs.Option.{unwrap_or}
 use Rattle.mako_words.specs.declared.name.Name.{Name}
 use Rattle.mako_words.specs.declared.value.Value.{Value}
@@ -17,7 +18,9 @@ use Rattle.mako_gate.specs.Changes.{tablets_of}
 use Rattle.mako_gate.specs.Standings.{GateFacet, has_drained, admitted, holds_turn, writes}
 use Rattle.mako_gate.specs.Gates.{Gates}
 use Rattle.mako_layout.specs.Layouts.{Slot, Layout, entries_of, Passed, OneCopy}
-use Rattle.mako_layout.specs.Facets.{stands, Work, idle, reads, uses, holds_home, moves, asks, tops, finds, fills, carries, raises, makes, counts, Debt, settled, owes_home, owes_top, Choice, debt_of, given_of, spare_of, gift_of, times_in, Paused}
+use Rattle.mako_layout.specs.Facets.{stands, Work, idle, reads, uses, holds_home, moves, asks, tops, finds, fills}
+use Rattle.mako_layout.specs.Facets.{carries, raises, makes, counts, Debt, settled, owes_home, owes_top, Choice}
+use Rattle.mako_layout.specs.Facets.{debt_of, given_of, spare_of, gift_of, times_in, Paused}
 
 -- ---- the layout
 

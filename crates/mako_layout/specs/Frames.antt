@@ -1,7 +1,8 @@
 -- Which words a step left.
 use Rattle.std.specs.Prelude.{ℕ, ◌≡◌, ◌<◌}
 use Rattle.mako_shape.specs.declared.numbers.Numbers.{Numbers}
-use Rattle.mako_shape.specs.Places.{Place, phase, entry, home, top, leaving, region_word, mutator_gate, tablet_gate, turn}
+use Rattle.mako_shape.specs.Places.{Place, phase, entry, home, top, leaving, region_word, mutator_gate, tablet_gate}
+use Rattle.mako_shape.specs.Places.{turn}
 use Rattle.mako_gate.specs.Changes.{tablets_of, Sets, LeavesGates}
 use Rattle.mako_layout.specs.Layouts.{entries_of, regions_of}
 

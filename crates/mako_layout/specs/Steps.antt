@@ -1,5 +1,6 @@
 -- The kinds of step: what each does to words, views, heap and choice, and what it asks beside the invariant.
-use Rattle.std.specs.Prelude.{ℕ, false, ◌≡◌, ◌≢◌, ◌+◌, ◌-◌, ◌<◌, ◌≤◌, ◌^◌, ◌==◌, ◌⊎◌, List, [], length, replicate, slice_set, Some}
+use Rattle.std.specs.Prelude.{ℕ, false, ◌≡◌, ◌≢◌, ◌+◌, ◌-◌, ◌<◌, ◌≤◌, ◌^◌, ◌==◌, ◌⊎◌, List, [], length, replicate}
+use Rattle.std.specs.Prelude.{slice_set, Some}
 use Rattle.mako_words.specs.declared.name.Name.{Name}
 use Rattle.mako_words.specs.declared.value.Value.{Value}
 use Rattle.mako_words.specs.declared.value.Value.TheVariants.{Null}
@@ -14,14 +15,19 @@ use Rattle.mako_shape.specs.Belongings.{tablet_of_entry, server_of_tablet, serve
 use Rattle.mako_model.specs.Heaps.{Heap, fields_of}
 use Rattle.mako_gate.specs.Sums.{counted}
 use Rattle.mako_gate.specs.Changes.{tablets_of, Sets, LeavesGates}
-use Rattle.mako_gate.specs.Standings.{Standing, keeps_shut, has_drained, GateFacet, admitted, holds_turn, drained_by, writes, mutator_at, shutter_at}
+use Rattle.mako_gate.specs.Standings.{Standing, keeps_shut, has_drained, GateFacet, admitted, holds_turn, drained_by}
+use Rattle.mako_gate.specs.Standings.{writes, mutator_at, shutter_at}
 use Rattle.mako_gate.specs.GateActions.{GateAction}
 use Rattle.mako_layout.specs.Layouts.{entries_of, regions_of, gifts_at}
-use Rattle.mako_layout.specs.Facets.{stands, Work, idle, reads, uses, holds_home, moves, asks, tops, finds, fills, carries, raises, makes, counts, settled, owes_home, owes_top, Gift, rests_with, chooses, has_chosen, debt_of, gift_of, times_in, Paused}
-use Rattle.mako_layout.specs.Evacuations.{name_of, null_words, State, layout, slot_at, IsTaken, IsOfCycle, Seat, Evacuation}
+use Rattle.mako_layout.specs.Facets.{stands, Work, idle, reads, uses, holds_home, moves, asks, tops, finds, fills}
+use Rattle.mako_layout.specs.Facets.{carries, raises, makes, counts, settled, owes_home, owes_top, Gift, rests_with}
+use Rattle.mako_layout.specs.Facets.{chooses, has_chosen, debt_of, gift_of, times_in, Paused}
+use Rattle.mako_layout.specs.Evacuations.{name_of, null_words, State, layout, slot_at, IsTaken, IsOfCycle, Seat}
+use Rattle.mako_layout.specs.Evacuations.{Evacuation}
 use Rattle.mako_layout.specs.Beside.{IsWriting}
 use Rattle.mako_layout.specs.Frames.{LeavesLayout}
-use Rattle.mako_layout.specs.StepParts.{collector_seat, first_of, past_of, at_gate, at_work, OwesNothing, moved_entry, new_entry, AltersEntry}
+use Rattle.mako_layout.specs.StepParts.{collector_seat, first_of, past_of, at_gate, at_work, OwesNothing, moved_entry}
+use Rattle.mako_layout.specs.StepParts.{new_entry, AltersEntry}
 
 -- A step of a seat leads from s to a state. V are the words after it.
 pub data Step (n : Numbers) (s : State) : ℕ → State → Type 0 where

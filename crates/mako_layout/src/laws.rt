@@ -1,9 +1,14 @@
 //! Laws of layouts. The functions do nothing; what they ensure is for contracts and proofs.
 
 ghost use Rattle.mako_layout.specs.Actions.{HomesChangeInPauses, FreeWordsAreTheWriters};
-ghost use Rattle.mako_layout.specs.Claims.{PutKeeps, AlterKeeps, ChooseKeeps, ClearKeeps, FinishKeeps, CycleKeeps, SameKeeps, CopyFits, AllMoved, FreeAbove};
-ghost use Rattle.mako_layout.specs.Conclusions.{ServersCopyAlone, WritersMayWrite, OneWriter, UsedIsPresent, ReadIsPresent, FoundIsPresent, EachHasItsRecord, RecordsAreApart, AllAreHomeAtRest, BegunCopiesFit, WhatIsLeftFits, ClearedTopsAreExact, UsedIsMade};
-ghost use Rattle.mako_layout.specs.Found.{GatesAreFound, HomesAreFound, TopsAreFound, AddressesAreFound, RecordsAreFound};
+ghost use Rattle.mako_layout.specs.Claims.{PutKeeps, AlterKeeps, ChooseKeeps, ClearKeeps, FinishKeeps, CycleKeeps};
+ghost use Rattle.mako_layout.specs.Claims.{SameKeeps, CopyFits, AllMoved, FreeAbove};
+ghost use Rattle.mako_layout.specs.Conclusions.{ServersCopyAlone, WritersMayWrite, OneWriter, UsedIsPresent};
+ghost use Rattle.mako_layout.specs.Conclusions.{ReadIsPresent, FoundIsPresent, EachHasItsRecord, RecordsAreApart};
+ghost use Rattle.mako_layout.specs.Conclusions.{AllAreHomeAtRest, BegunCopiesFit, WhatIsLeftFits, ClearedTopsAreExact};
+ghost use Rattle.mako_layout.specs.Conclusions.{UsedIsMade};
+ghost use Rattle.mako_layout.specs.Found.{GatesAreFound, HomesAreFound, TopsAreFound, AddressesAreFound};
+ghost use Rattle.mako_layout.specs.Found.{RecordsAreFound};
 ghost use Rattle.mako_layout.specs.Frames.{PlacesAreApart};
 ghost use Rattle.mako_layout.specs.Openings.{OpeningHolds};
 ghost use Rattle.mako_layout.specs.Runs.{AllReachedHold, NewIsPublished, PutIsStored, OthersEnter};

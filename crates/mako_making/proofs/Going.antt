@@ -94,7 +94,7 @@ module _ (x : Trial) where
   phase_packed : IsPackedPhase (word_at x.n x.s.words phase)
   phase_packed =
       subst IsPackedPhase (sym x.joint.order.words_stand.phase_is)
-          (phase_words.packed (phase_during x.joint.order.part) fits)
+      (phase_words.packed (phase_during x.joint.order.part) fits)
 
   phase_low : cycle_of (phase_at (word_at x.n x.s.words phase)) ≤ x.n.cycles
   phase_low =
@@ -294,9 +294,9 @@ makings_can_go n w s m d j seen keeps searches few these = by d.progress.task re
         → CanStep (drivers.task_next d.caller t) s.words (drivers.TaskFits t)
     by (Attempting c) e here = subst (λ t. CanStep (drivers.task_next d.caller t) s.words (drivers.TaskFits t)) e
         (of_attempt n w s m d j is c e (λ d. CanStep (drivers.next_of d) s.words (drivers.Fits d))
-            (attempting (trial n w s m d j is c) c.stage here))
+        (attempting (trial n w s m d j is c) c.stage here))
     by (Awaiting c) e here = subst (λ t. CanStep (drivers.task_next d.caller t) s.words (drivers.TaskFits t)) e
         (of_wait n w s m d j is c e (λ d. CanStep (drivers.next_of d) s.words (drivers.Fits d))
-            (waiting (trial n w s m d j is c) c.stage))
+        (waiting (trial n w s m d j is c) c.stage))
     by Finishing e here = finishing
     by TaskEnded e here = tt

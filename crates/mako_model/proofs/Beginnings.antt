@@ -1,5 +1,6 @@
 -- To begin with a front is reflexive and transitive, and goes for the finished cycles too.
-use Rattle.std.proofs.Common.{◌≡◌, ℕ, suc, ◌+◌, ◌≤◌, List, [], ◌∷◌, ◌++◌, length, slice_get, Some, sym, ap, subst, refl, ◌∙◌, arith, append-nil, append_assoc}
+use Rattle.std.proofs.Common.{◌≡◌, ℕ, suc, ◌+◌, ◌≤◌, List, [], ◌∷◌, ◌++◌, length, slice_get, Some, sym, ap, subst, refl}
+use Rattle.std.proofs.Common.{◌∙◌, arith, append-nil, append_assoc}
 use Rattle.std.proofs.lemmas.Option.{slice_get_within}
 use Rattle.mako_words.specs.declared.name.Name.{Name}
 use Rattle.mako_model.specs.Legal.{Facts, IsLegal}
@@ -26,7 +27,8 @@ begins_with_front a b c x y =
 
 -- ---- the finished cycles
 
-lists_prefix : {A : Type 0} (xs ys : List A) → length xs ≤ length ys → ((i : ℕ) (x y : A) → slice_get xs i ≡ Some x → slice_get ys i ≡ Some y → x ≡ y) → IsPrefix xs ys
+lists_prefix : {A : Type 0} (xs ys : List A) → length xs ≤ length ys
+    → ((i : ℕ) (x y : A) → slice_get xs i ≡ Some x → slice_get ys i ≡ Some y → x ≡ y) → IsPrefix xs ys
 lists_prefix [] ys l same = (ys, refl)
 lists_prefix (x ∷ xs) [] l same = absurd (omega arith)
 lists_prefix (x ∷ xs) (y ∷ ys) l same =
@@ -35,15 +37,20 @@ lists_prefix (x ∷ xs) (y ∷ ys) l same =
     (rest.0, λ i. first i ∷ rest.1 i)
 
 -- what a cycle of the shorter front freed is what that cycle of the longer one freed
-same_freed : (w : Facts) (whole front : Seen) (i : ℕ) (names found : List Name) → IsLawfulFront w whole → IsLawfulFront w front → IsPrefix front.history whole.history
+same_freed : (w : Facts) (whole front : Seen) (i : ℕ) (names found : List Name) → IsLawfulFront w whole
+    → IsLawfulFront w front → IsPrefix front.history whole.history
     → slice_get front.finished i ≡ Some names → slice_get whole.finished i ≡ Some found → names ≡ found
 same_freed w whole front i names found whole_is front_is begins at there =
     let within = slice_get_within front.finished i names at in
     let begun = front_is.finished in
     let long = front.history ++ begins.0 in
-    let stays = freed_stays w front.history begins.0 (i + 1) names (subst (IsLegal w) (sym begins.1) whole_is.legal) (omega arith) (front_is.freed i names at) in
-    freed_once w whole.history (i + 1) names found (subst (λ h. AreFreed w h (i + 1) names) begins.1 stays) (whole_is.freed i found there)
+    let stays = freed_stays w front.history begins.0 (i + 1) names (subst (IsLegal w) (sym begins.1) whole_is.legal)
+    (omega arith) (front_is.freed i names at) in
+    freed_once w whole.history (i + 1) names found (subst (λ h. AreFreed w h (i + 1) names) begins.1 stays)
+    (whole_is.freed i found there)
 
-pub finished_begin : (w : Facts) (whole front : Seen) → IsLawfulFront w whole → IsLawfulFront w front → BeginsWith whole front → IsPrefix front.finished whole.finished
+pub finished_begin : (w : Facts) (whole front : Seen) → IsLawfulFront w whole → IsLawfulFront w front
+    → BeginsWith whole front → IsPrefix front.finished whole.finished
 finished_begin w whole front whole_is front_is begins =
-    lists_prefix front.finished whole.finished begins.finished (λ i names found at there. same_freed w whole front i names found whole_is front_is begins.history at there)
+    lists_prefix front.finished whole.finished begins.finished
+    (λ i names found at there. same_freed w whole front i names found whole_is front_is begins.history at there)

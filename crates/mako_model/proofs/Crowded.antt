@@ -1,5 +1,6 @@
 -- Objects that are in use leave no room.
-use Rattle.std.proofs.Common.{◌≡◌, ℕ, zero, suc, ◌<◌, inl, ⊎_elim, List, [], ◌∷◌, drop, slice_get, Contains, Some, subst, refl, arith}
+use Rattle.std.proofs.Common.{◌≡◌, ℕ, zero, suc, ◌<◌, inl, ⊎_elim, List, [], ◌∷◌, drop, slice_get, Contains, Some}
+use Rattle.std.proofs.Common.{subst, refl, arith}
 use Rattle.std.specs.FinMap as finite
 use Rattle.std.specs.List.Sorted.{IsStrictlySortedBy}
 use Rattle.std.proofs.lemmas.List.Elements.{Contains-push_cases}
@@ -19,7 +20,8 @@ use Rattle.mako_model.specs.Reachable.{IsReachable}
 use Rattle.mako_model.specs.Dead.{names_made, IsDead, AreFreed}
 use Rattle.mako_model.specs.Starved.{IsEntryUnavailable, IsStarved}
 use Rattle.mako_model.specs.Answering.{Answers, AnswersToEnd}
-use Rattle.mako_model.specs.Examples.{one, filling, crowded, before_crowded_snap, crowded_history, crowded_front, used_freed_front}
+use Rattle.mako_model.specs.Examples.{one, filling, crowded, before_crowded_snap, crowded_history, crowded_front}
+use Rattle.mako_model.specs.Examples.{used_freed_front}
 use Rattle.mako_model.proofs.Growth.{IsNext, IsStarvedIfFull, answers_push, answers_finish, answers_opening}
 use Rattle.mako_model.proofs.Following.{same_reply, no_snap_did, in_none, made_next, made_full, follows, lost_at_snap}
 
@@ -39,8 +41,10 @@ abbrev after_cycle : Seen
 after_cycle = with_cycle after_snap []
 
 answers_one : Answers crowded after_one
-answers_one = answers_push crowded opening_front (Did 0 (call.New 1 1) (reply.Made one)) (answers_opening crowded (record { entry = omega arith; generation = omega arith }))
-    (made_next crowded opening_front 0 1 1 1 ((value.Null, refl), finite.get-from_entries names_total at_opening one) (omega arith) (record { entry = omega arith; generation = omega arith }))
+answers_one = answers_push crowded opening_front (Did 0 (call.New 1 1) (reply.Made one))
+    (answers_opening crowded (record { entry = omega arith; generation = omega arith }))
+    (made_next crowded opening_front 0 1 1 1 ((value.Null, refl), finite.get-from_entries names_total at_opening one)
+    (omega arith) (record { entry = omega arith; generation = omega arith }))
     (made_full crowded opening_front 0 1 1 one) (follows filling after_one.history (drop 1 filling) refl)
 
 snap_next : IsNext crowded after_one (Snap 1)
@@ -53,7 +57,9 @@ snap_next = record {
 }
 
 answers_snap : Answers crowded after_snap
-answers_snap = answers_push crowded after_one (Snap 1) answers_one snap_next (λ m root fields e. absurd (no_snap_did 1 m (call.New root fields) reply.Full e)) (follows filling after_snap.history (drop 1 filling) refl)
+answers_snap = answers_push crowded after_one (Snap 1) answers_one snap_next
+    (λ m root fields e. absurd (no_snap_did 1 m (call.New root fields) reply.Full e))
+    (follows filling after_snap.history (drop 1 filling) refl)
 
 -- ---- what the cycle frees
 
@@ -69,14 +75,18 @@ one_reached = record { first = one; path = []; in_root = (0, 1, refl); leads = r
 made_are_reached : (x : Name) → Contains (names_made before_crowded_snap) x → IsReachable at_snap x
 made_are_reached x made =
     ⊎_elim
-    (λ s. ⊎_elim (λ n. absurd (in_none x n)) (λ is. subst (IsReachable at_snap) is board_reached) (Contains-push_cases [] board_name x s))
+    (λ s. ⊎_elim (λ n. absurd (in_none x n)) (λ is. subst (IsReachable at_snap) is board_reached)
+    (Contains-push_cases [] board_name x s))
     (λ is. subst (IsReachable at_snap) is one_reached) (Contains-push_cases (board_name ∷ []) one x made)
 
 none_dead : (x : Name) → IsDead crowded after_snap.history 1 x → ⊥
-none_dead x dead = let lost = lost_at_snap crowded before_crowded_snap [] x refl refl dead in lost.1 (made_are_reached x lost.0)
+none_dead x dead = let lost = lost_at_snap crowded before_crowded_snap [] x refl refl dead in
+    lost.1 (made_are_reached x lost.0)
 
 none_dead_at_end : (x : Name) → IsDead crowded crowded_history 1 x → ⊥
-none_dead_at_end x dead = let lost = lost_at_snap crowded before_crowded_snap (Did 0 (call.New 2 1) reply.Full ∷ []) x refl refl dead in lost.1 (made_are_reached x lost.0)
+none_dead_at_end x dead = let lost =
+    lost_at_snap crowded before_crowded_snap (Did 0 (call.New 2 1) reply.Full ∷ []) x refl refl dead in
+    lost.1 (made_are_reached x lost.0)
 
 none_freed : AreFreed crowded after_snap.history 1 []
 unfolding IsStrictlySortedBy
@@ -94,9 +104,11 @@ full_next : IsNext crowded after_cycle (Did 0 (call.New 2 1) reply.Full)
 full_next = record {
   lawful = (value.Null, refl);
   unfinished = omega arith;
-  waits = λ m c cycle e. absurd (let f = same_reply 0 m (call.New 2 1) c reply.Full (reply.Cycle cycle) e in (let g : ⊥ = cc in g));
+  waits = λ m c cycle e. absurd (let f = same_reply 0 m (call.New 2 1) c reply.Full (reply.Cycle cycle) e in
+      (let g : ⊥ = cc in g));
   names = λ x in_made. absurd (in_none x in_made);
-  reuses = λ m c entry generation e. absurd (let f = same_reply 0 m (call.New 2 1) c reply.Full (reply.Made _) e in (let g : ⊥ = cc in g));
+  reuses = λ m c entry generation e. absurd (let f = same_reply 0 m (call.New 2 1) c reply.Full (reply.Made _) e in
+      (let g : ⊥ = cc in g));
 }
 
 -- entry 0 has the board, and entry 1 the first object
@@ -116,12 +128,15 @@ full_starved : IsStarvedIfFull crowded after_cycle (Did 0 (call.New 2 1) reply.F
 full_starved m root fields e =
     let mutator : 0 ≡ m = cc in
     let number : 1 ≡ fields = cc in
-    subst (λ n. IsStarved crowded crowded_front after_cycle.history n fields) mutator (subst (λ n. IsStarved crowded crowded_front after_cycle.history 0 n) number starved)
+    subst (λ n. IsStarved crowded crowded_front after_cycle.history n fields) mutator
+    (subst (λ n. IsStarved crowded crowded_front after_cycle.history 0 n) number starved)
 
 answers_all : Answers crowded crowded_front
-answers_all = answers_push crowded after_cycle (Did 0 (call.New 2 1) reply.Full) answers_cycle full_next full_starved (follows filling crowded_history [] refl)
+answers_all = answers_push crowded after_cycle (Did 0 (call.New 2 1) reply.Full) answers_cycle full_next full_starved
+    (follows filling crowded_history [] refl)
 
-all_calls : (m : ℕ) (program : List Call) → slice_get (filling ∷ []) m ≡ Some program → calls_by m crowded_history ≡ program
+all_calls : (m : ℕ) (program : List Call) → slice_get (filling ∷ []) m ≡ Some program
+    → calls_by m crowded_history ≡ program
 all_calls zero program e = same_Some filling program e
 all_calls (suc m) program e = absurd (none-some program e)
 

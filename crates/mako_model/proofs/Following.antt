@@ -1,5 +1,6 @@
 -- Steps of worked examples: points that are plainly next, and what was lost at the first snapshot.
-use Rattle.std.proofs.Common.{◌≡◌, ℕ, zero, suc, ◌+◌, ◌<◌, ◌≤◌, ⊎_elim, List, [], ◌∷◌, ◌++◌, length, slice_get, get_or, Contains, Some, sym, ap, subst, refl, ◌∙◌, arith, append-nil}
+use Rattle.std.proofs.Common.{◌≡◌, ℕ, zero, suc, ◌+◌, ◌<◌, ◌≤◌, ⊎_elim, List, [], ◌∷◌, ◌++◌, length, slice_get, get_or}
+use Rattle.std.proofs.Common.{Contains, Some, sym, ap, subst, refl, ◌∙◌, arith, append-nil}
 use Rattle.std.proofs.lemmas.List.Elements.{Contains-push_cases}
 use Rattle.std.proofs.lemmas.Option.{same_Some, none-some}
 use Rattle.mako_words.specs.declared.name.Name.{Name}
@@ -35,27 +36,38 @@ pub in_none : (x : Name) → Contains [] x → ⊥
 in_none x c = let l : c.0 < 0 = c.1 in omega arith
 
 -- the next point, where it neither makes a name nor waits for a cycle
-pub plain_next : (w : Facts) (front : Seen) (m : ℕ) (c : Call) → IsLawful (state_of w front.history) (Did m c reply.Done) → (heap_after (state_of w front.history) (Did m c reply.Done)).snaps ≤ length front.finished + 1 → IsNext w front (Did m c reply.Done)
+pub plain_next : (w : Facts) (front : Seen) (m : ℕ) (c : Call)
+    → IsLawful (state_of w front.history) (Did m c reply.Done)
+    → (heap_after (state_of w front.history) (Did m c reply.Done)).snaps ≤ length front.finished + 1
+    → IsNext w front (Did m c reply.Done)
 plain_next w front m c lawful unfinished = record {
   lawful = lawful;
   unfinished = unfinished;
   waits = λ n d cycle e. absurd (let f = same_reply m n c d reply.Done (reply.Cycle cycle) e in (let g : ⊥ = cc in g));
   names = λ x in_made. absurd (in_none x in_made);
-  reuses = λ n d entry generation e. absurd (let f = same_reply m n c d reply.Done (reply.Made _) e in (let g : ⊥ = cc in g));
+  reuses = λ n d entry generation e. absurd (let f = same_reply m n c d reply.Done (reply.Made _) e in
+      (let g : ⊥ = cc in g));
 }
 
 pub plain_full : (w : Facts) (front : Seen) (m : ℕ) (c : Call) → IsStarvedIfFull w front (Did m c reply.Done)
-plain_full w front m c n root fields e = absurd (let f = same_reply m n c (call.New root fields) reply.Done reply.Full e in (let g : ⊥ = cc in g))
+plain_full w front m c n root fields e =
+    absurd (let f = same_reply m n c (call.New root fields) reply.Done reply.Full e in (let g : ⊥ = cc in g))
 
 -- the next point, where it makes a name of generation 0
-pub made_next : (w : Facts) (front : Seen) (m root fields entry : ℕ) → IsLawful (state_of w front.history) (Did m (call.New root fields) (reply.Made (record { entry = entry; generation = 0 })))
-    → (state_of w front.history).snaps ≤ length front.finished + 1 → IsInRange w (record { entry = entry; generation = 0 }) → IsNext w front (Did m (call.New root fields) (reply.Made (record { entry = entry; generation = 0 })))
+pub made_next : (w : Facts) (front : Seen) (m root fields entry : ℕ)
+    → IsLawful (state_of w front.history)
+    (Did m (call.New root fields) (reply.Made (record { entry = entry; generation = 0 })))
+    → (state_of w front.history).snaps ≤ length front.finished + 1
+    → IsInRange w (record { entry = entry; generation = 0 })
+    → IsNext w front (Did m (call.New root fields) (reply.Made (record { entry = entry; generation = 0 })))
 made_next w front m root fields entry lawful unfinished range =
     let x : Name = record { entry = entry; generation = 0 } in record {
       lawful = lawful;
       unfinished = unfinished;
-      waits = λ n d cycle e. absurd (let f = same_reply m n (call.New root fields) d (reply.Made x) (reply.Cycle cycle) e in (let g : ⊥ = cc in g));
-      names = λ y in_made. ⊎_elim (λ t. absurd (in_none y t)) (λ t. subst (IsInRange w) t range) (Contains-push_cases [] x y in_made);
+      waits = λ n d cycle e. absurd (let f =
+          same_reply m n (call.New root fields) d (reply.Made x) (reply.Cycle cycle) e in (let g : ⊥ = cc in g));
+      names = λ y in_made. ⊎_elim (λ t. absurd (in_none y t)) (λ t. subst (IsInRange w) t range)
+          (Contains-push_cases [] x y in_made);
       reuses = λ n d other generation e.
           let y : Name = record { entry = other; generation = generation + 1 } in
           let f = same_reply m n (call.New root fields) d (reply.Made x) (reply.Made y) e in
@@ -64,11 +76,15 @@ made_next w front m root fields entry lawful unfinished range =
           absurd (omega arith);
     }
 
-pub made_full : (w : Facts) (front : Seen) (m root fields : ℕ) (x : Name) → IsStarvedIfFull w front (Did m (call.New root fields) (reply.Made x))
-made_full w front m root fields x n q f e = absurd (let s = same_reply m n (call.New root fields) (call.New q f) (reply.Made x) reply.Full e in (let g : ⊥ = cc in g))
+pub made_full : (w : Facts) (front : Seen) (m root fields : ℕ) (x : Name)
+    → IsStarvedIfFull w front (Did m (call.New root fields) (reply.Made x))
+made_full w front m root fields x n q f e =
+    absurd (let s = same_reply m n (call.New root fields) (call.New q f) (reply.Made x) reply.Full e in
+    (let g : ⊥ = cc in g))
 
 -- the one program is followed, and the calls of the other mutators are none
-pub follows : (program : List Call) (history : List Point) (rest : List Call) → program ≡ calls_by 0 history ++ rest → FollowsPrograms (program ∷ []) history
+pub follows : (program : List Call) (history : List Point) (rest : List Call) → program ≡ calls_by 0 history ++ rest
+    → FollowsPrograms (program ∷ []) history
 follows program history rest is zero found e = (rest, sym is ∙ same_Some program found e)
 follows program history rest is (suc m) found e = absurd (none-some found e)
 
@@ -78,25 +94,29 @@ fewer : (p : Point) (points : List Point) → snaps_in (p ∷ points) ≡ 0 → 
 fewer (Did m c r) points e = e
 fewer (Snap cycle) points e = absurd (omega arith)
 
-pub no_snap_in : (n : ℕ) (ps before : List Point) (after : List Point) → snaps_in ps ≡ 0 → ps ≡ before ++ Snap n ∷ after → ⊥
+pub no_snap_in : (n : ℕ) (ps before : List Point) (after : List Point) → snaps_in ps ≡ 0 → ps ≡ before ++ Snap n ∷ after
+    → ⊥
 no_snap_in n ps [] after none e = let f = ap snaps_in e in omega arith
 no_snap_in n [] (p ∷ before) after none e = absurd (let f = ap length e in omega (arith, f))
 no_snap_in n (q ∷ ps) (p ∷ before) after none e =
     let rest : ps ≡ before ++ Snap n ∷ after = cc in
     no_snap_in n ps before after (fewer q ps none) rest
 
-only_snap : (before after there rest more : List Point) → snaps_in after ≡ 0 → there ≡ before ++ more → Snap 1 ∷ after ≡ more ++ Snap 1 ∷ rest → there ≡ before
+only_snap : (before after there rest more : List Point) → snaps_in after ≡ 0 → there ≡ before ++ more
+    → Snap 1 ∷ after ≡ more ++ Snap 1 ∷ rest → there ≡ before
 only_snap before after there rest [] none is e = is ∙ append-nil before
 only_snap before after there rest (p ∷ more) none is e =
     let tail : after ≡ more ++ Snap 1 ∷ rest = cc in
     absurd (no_snap_in 1 after more rest none tail)
 
 -- what is dead at the only snapshot was lost just before it
-pub lost_at_snap : (w : Facts) (before after : List Point) (x : Name) → snaps_in before ≡ 0 → snaps_in after ≡ 0 → IsDead w (before ++ Snap 1 ∷ after) 1 x → IsLost w before x
+pub lost_at_snap : (w : Facts) (before after : List Point) (x : Name) → snaps_in before ≡ 0 → snaps_in after ≡ 0
+    → IsDead w (before ++ Snap 1 ∷ after) 1 x → IsLost w before x
 lost_at_snap w before after x none_before none_after dead =
     ⊎_elim
     (λ t. absurd (no_snap_in 1 before dead.before t.0 none_before t.1))
-    (λ t. subst (λ ps. IsLost w ps x) (only_snap before after dead.before dead.after t.0 none_after t.1 t.2) (dead.made, dead.unreached))
+    (λ t. subst (λ ps. IsLost w ps x) (only_snap before after dead.before dead.after t.0 none_after t.1 t.2)
+    (dead.made, dead.unreached))
     (split_of_append before (Snap 1 ∷ after) dead.before (Snap 1) dead.after dead.split)
 
 -- ---- the board alone
@@ -106,7 +126,8 @@ abbrev pub lone_roots : List (List Value)
 lone_roots = (value.Ref board_name ∷ value.Null ∷ value.Null ∷ value.Null ∷ []) ∷ []
 
 lone_root : (m q : ℕ) (x : Name) → slice_get (get_or lone_roots m []) q ≡ Some (value.Ref x) → board_name ≡ x
-lone_root zero zero x e = let f : value.Ref board_name ≡ value.Ref x = same_Some (value.Ref board_name) (value.Ref x) e in cc
+lone_root zero zero x e = let f : value.Ref board_name ≡ value.Ref x =
+    same_Some (value.Ref board_name) (value.Ref x) e in cc
 lone_root zero (suc zero) x e = absurd (no_null_ref x (same_Some value.Null (value.Ref x) e))
 lone_root zero (suc (suc zero)) x e = absurd (no_null_ref x (same_Some value.Null (value.Ref x) e))
 lone_root zero (suc (suc (suc zero))) x e = absurd (no_null_ref x (same_Some value.Null (value.Ref x) e))
@@ -117,20 +138,30 @@ module _ (h : Heap) (roots : h.roots ≡ lone_roots) (board : fields_of h board_
   leads_nowhere : (x : Name) → StandsInField h board_name x → ⊥
   leads_nowhere x stands =
       let fields : value.Null ∷ [] ≡ stands.0 = same_Some (value.Null ∷ []) stands.0 (sym board ∙ stands.2) in
-      no_null_ref x (get_replicate 1 stands.1 value.Null (value.Ref x) (ap (λ (fs : List Value). slice_get fs stands.1) fields ∙ stands.3))
+      no_null_ref x (get_replicate 1 stands.1 value.Null (value.Ref x)
+      (ap (λ (fs : List Value). slice_get fs stands.1) fields ∙ stands.3))
 
   stays_there : (from x : Name) (path : List Name) → board_name ≡ from → LeadsTo h from path x → board_name ≡ x
   stays_there from x [] is leads = is ∙ leads
-  stays_there from x (next ∷ path) is leads = absurd (leads_nowhere next (subst (λ o. StandsInField h o next) (sym is) leads.0))
+  stays_there from x (next ∷ path) is leads =
+      absurd (leads_nowhere next (subst (λ o. StandsInField h o next) (sym is) leads.0))
 
   -- it alone is reached
   pub board_alone : (x : Name) → IsReachable h x → board_name ≡ x
   board_alone x reached =
       stays_there reached.first x reached.path
-      (lone_root reached.in_root.0 reached.in_root.1 reached.first (sym (ap (λ (rows : List (List Value)). slice_get (get_or rows reached.in_root.0 []) reached.in_root.1) roots) ∙ reached.in_root.2)) reached.leads
+      (lone_root reached.in_root.0 reached.in_root.1 reached.first
+      (sym (ap (λ (rows : List (List Value)). slice_get (get_or rows reached.in_root.0 []) reached.in_root.1) roots)
+      ∙ reached.in_root.2)) reached.leads
 
   pub board_reached : IsReachable h board_name
-  board_reached = record { first = board_name; path = []; in_root = (0, 0, ap (λ (rows : List (List Value)). slice_get (get_or rows 0 []) 0) roots); leads = refl }
+  board_reached = record {
+    first = board_name;
+    path = [];
+    in_root = (0, 0, ap (λ (rows : List (List Value)). slice_get (get_or rows 0 []) 0) roots);
+    leads = refl;
+  }
 
   pub other_not_reached : (x : Name) → 0 < x.entry → IsReachable h x → ⊥
-  other_not_reached x l reached = let e : 0 ≡ x.entry = ap (λ (n : Name). n.entry) (board_alone x reached) in omega arith
+  other_not_reached x l reached = let e : 0 ≡ x.entry = ap (λ (n : Name). n.entry) (board_alone x reached) in
+      omega arith

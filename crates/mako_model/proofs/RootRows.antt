@@ -1,5 +1,6 @@
 -- Each mutator has each of its roots in each legal history.
-use Rattle.std.proofs.Common.{◌≡◌, ℕ, zero, suc, ◌-◌, ◌<◌, ⊎_elim, List, length, replicate, Some, sym, subst, refl, ◌∙◌, arith, length-set}
+use Rattle.std.proofs.Common.{◌≡◌, ℕ, zero, suc, ◌-◌, ◌<◌, ⊎_elim, List, length, replicate, Some, sym, subst, refl, ◌∙◌}
+use Rattle.std.proofs.Common.{arith, length-set}
 use Rattle.std.proofs.lemmas.Bool.{cases_eq}
 use Rattle.std.proofs.lemmas.List.{length-replicate}
 use Rattle.mako_words.specs.declared.name.Name.{Name}

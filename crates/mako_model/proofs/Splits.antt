@@ -4,7 +4,8 @@ use Rattle.std.proofs.Common.{◌≡◌, ◌⊎◌, inl, inr, ⊎_elim, List, []
 module _ {A : Type 0} where
   -- it stands in the first list, or in the second
   pub split_of_append : (xs ys before : List A) (x : A) (after : List A) → xs ++ ys ≡ before ++ x ∷ after
-      → ((more : List A) × (xs ≡ before ++ x ∷ more) × (after ≡ more ++ ys)) ⊎ ((more : List A) × (before ≡ xs ++ more) × (ys ≡ more ++ x ∷ after))
+      → ((more : List A) × (xs ≡ before ++ x ∷ more) × (after ≡ more ++ ys))
+      ⊎ ((more : List A) × (before ≡ xs ++ more) × (ys ≡ more ++ x ∷ after))
   split_of_append [] ys before x after e = inr (before, refl, e)
   split_of_append (a ∷ xs) ys [] x after e =
       let head : a ≡ x = cc in let tail : after ≡ xs ++ ys = cc in

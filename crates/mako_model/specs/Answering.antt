@@ -24,4 +24,5 @@ pub record Answers (w : Facts) (front : Seen) : Type 0 where
 -- it answers each call of each program
 pub record AnswersToEnd (w : Facts) (front : Seen) : Type 0 where
   pub answers : Answers w front
-  pub all : (mutator : ℕ) (program : List Call) → slice_get w.programs mutator ≡ Some program → calls_by mutator front.history ≡ program
+  pub all : (mutator : ℕ) (program : List Call) → slice_get w.programs mutator ≡ Some program
+      → calls_by mutator front.history ≡ program

@@ -22,7 +22,11 @@ start_of start (end ∷ ends) (suc i) = start_of end ends i
 
 -- the lists of names and the room, from how they are stored
 abbrev pub lists_of : Inside → Lists
-lists_of c = record { lists = pieces c.names.items 0 c.ends.items; names_room = c.names_room; cycles_room = c.cycles_room }
+lists_of c = record {
+  lists = pieces c.names.items 0 c.ends.items;
+  names_room = c.names_room;
+  cycles_room = c.cycles_room;
+}
 
 -- the ends rise from the start, and the last of them is the end
 abbrev pub RiseTo : ℕ → List ℕ → ℕ → Type 0

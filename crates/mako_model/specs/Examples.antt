@@ -26,17 +26,28 @@ tying = New 1 1 ∷ New 2 1 ∷ Put 1 0 2 ∷ Put 2 0 1 ∷ DropRoot 1 ∷ DropR
 
 -- there are two tablets of two entries
 abbrev pub tied : Facts
-tied = record { roots = 4; board = 1; tablets = 2; entries = 2; words = 16; cycles = 10; generations = 8; programs = tying ∷ [] }
+tied = record {
+  roots = 4;
+  board = 1;
+  tablets = 2;
+  entries = 2;
+  words = 16;
+  cycles = 10;
+  generations = 8;
+  programs = tying ∷ [];
+}
 
 -- what it did before the snapshot
 abbrev pub before_tied_snap : List Point
 before_tied_snap =
-    Did 0 (New 1 1) (Made one) ∷ Did 0 (New 2 1) (Made two) ∷ Did 0 (Put 1 0 2) Done ∷ Did 0 (Put 2 0 1) Done ∷ Did 0 (DropRoot 1) Done ∷ Did 0 (DropRoot 2) Done ∷ []
+    Did 0 (New 1 1) (Made one) ∷ Did 0 (New 2 1) (Made two) ∷ Did 0 (Put 1 0 2) Done ∷ Did 0 (Put 2 0 1) Done ∷
+    Did 0 (DropRoot 1) Done ∷ Did 0 (DropRoot 2) Done ∷ []
 
 -- what happened
 abbrev pub tied_history : List Point
 tied_history =
-    Did 0 (New 1 1) (Made one) ∷ Did 0 (New 2 1) (Made two) ∷ Did 0 (Put 1 0 2) Done ∷ Did 0 (Put 2 0 1) Done ∷ Did 0 (DropRoot 1) Done ∷ Did 0 (DropRoot 2) Done
+    Did 0 (New 1 1) (Made one) ∷ Did 0 (New 2 1) (Made two) ∷ Did 0 (Put 1 0 2) Done ∷ Did 0 (Put 2 0 1) Done ∷
+    Did 0 (DropRoot 1) Done ∷ Did 0 (DropRoot 2) Done
     ∷ Snap 1 ∷ Did 0 Collect (Cycle 1) ∷ []
 
 -- the cycle frees both
@@ -53,7 +64,16 @@ remaking = New 1 0 ∷ DropRoot 1 ∷ New 2 0 ∷ []
 
 -- there is one entry beside the board's, for one object in all
 abbrev pub retiring : Facts
-retiring = record { roots = 4; board = 1; tablets = 1; entries = 2; words = 16; cycles = 10; generations = 1; programs = remaking ∷ [] }
+retiring = record {
+  roots = 4;
+  board = 1;
+  tablets = 1;
+  entries = 2;
+  words = 16;
+  cycles = 10;
+  generations = 1;
+  programs = remaking ∷ [];
+}
 
 -- what it did before the snapshot
 abbrev pub before_retiring_snap : List Point
@@ -81,7 +101,16 @@ reusing = New 1 6 ∷ New 2 5 ∷ DropRoot 1 ∷ New 3 6 ∷ Show 2 ∷ []
 
 -- there are three entries beside the board's, and 16 words
 abbrev pub roomy : Facts
-roomy = record { roots = 4; board = 1; tablets = 1; entries = 4; words = 16; cycles = 10; generations = 8; programs = reusing ∷ [] }
+roomy = record {
+  roots = 4;
+  board = 1;
+  tablets = 1;
+  entries = 4;
+  words = 16;
+  cycles = 10;
+  generations = 8;
+  programs = reusing ∷ [];
+}
 
 -- what it did before the snapshot
 abbrev pub before_reuse_snap : List Point
@@ -90,7 +119,8 @@ before_reuse_snap = Did 0 (New 1 6) (Made one) ∷ Did 0 (New 2 5) (Made two) �
 -- what happened
 abbrev pub reuse_history : List Point
 reuse_history =
-    Did 0 (New 1 6) (Made one) ∷ Did 0 (New 2 5) (Made two) ∷ Did 0 (DropRoot 1) Done ∷ Snap 1 ∷ Did 0 (New 3 6) (Made one_again)
+    Did 0 (New 1 6) (Made one) ∷ Did 0 (New 2 5) (Made two) ∷ Did 0 (DropRoot 1) Done ∷ Snap 1 ∷
+    Did 0 (New 3 6) (Made one_again)
     ∷ Did 0 (Show 2) (Value (Ref two)) ∷ []
 
 -- the entry of the dropped object is used again, under its next generation
@@ -107,7 +137,16 @@ filling = New 1 1 ∷ New 2 1 ∷ []
 
 -- there is one entry beside the board's
 abbrev pub crowded : Facts
-crowded = record { roots = 4; board = 1; tablets = 1; entries = 2; words = 16; cycles = 10; generations = 8; programs = filling ∷ [] }
+crowded = record {
+  roots = 4;
+  board = 1;
+  tablets = 1;
+  entries = 2;
+  words = 16;
+  cycles = 10;
+  generations = 8;
+  programs = filling ∷ [];
+}
 
 -- what it did before the snapshot
 abbrev pub before_crowded_snap : List Point
@@ -131,7 +170,16 @@ looping = New 1 1 ∷ Put 1 0 1 ∷ DropRoot 1 ∷ Collect ∷ Collect ∷ []
 
 -- there is room enough
 abbrev pub looped : Facts
-looped = record { roots = 4; board = 1; tablets = 1; entries = 4; words = 16; cycles = 10; generations = 8; programs = looping ∷ [] }
+looped = record {
+  roots = 4;
+  board = 1;
+  tablets = 1;
+  entries = 4;
+  words = 16;
+  cycles = 10;
+  generations = 8;
+  programs = looping ∷ [];
+}
 
 -- what it did before the first snapshot
 abbrev pub before_looped_snap : List Point

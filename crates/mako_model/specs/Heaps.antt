@@ -28,7 +28,8 @@ root_of h mutator root = slice_get (roots_of h mutator) root
 
 -- the root of the mutator becomes the value
 abbrev pub with_root : Heap → ℕ → ℕ → Value → Heap
-with_root h mutator root value = record h { roots = slice_set h.roots mutator (slice_set (roots_of h mutator) root value) }
+with_root h mutator root value =
+    record h { roots = slice_set h.roots mutator (slice_set (roots_of h mutator) root value) }
 
 -- the object with this name has these fields
 abbrev pub with_fields : Heap → Name → List Value → Heap

@@ -33,7 +33,8 @@ Parts = FieldMap × (RootTable × (ℕ × ℕ))
 -- a heap is stored as its parts
 abbrev pub coded_heap : Coded FieldMap → Coded RootTable → Coded Heap
 coded_heap objects roots =
-    code_by Parts (coded× objects (coded× roots (coded× coded_ℕ coded_ℕ))) (λ h. (h.objects, (h.roots, (h.snaps, h.cycles))))
+    code_by Parts (coded× objects (coded× roots (coded× coded_ℕ coded_ℕ)))
+    (λ h. (h.objects, (h.roots, (h.snaps, h.cycles))))
     (λ p. record { objects = p.0; roots = p.1.0; snaps = p.1.1.0; cycles = p.1.1.1 }) (λ _. refl)
 
 -- the fields of the object that the value names

@@ -39,7 +39,8 @@ HasField h mutator root field v =
 
 -- null or a number, or what stands in a root or in a field of an object that a root names
 abbrev pub IsAtHand : Heap → Value → Type 0
-IsAtHand h v = IsNoRef v ⊎ ((m : ℕ) × (q : ℕ) × (root_of h m q ≡ Some v)) ⊎ ((m : ℕ) × (q : ℕ) × (i : ℕ) × HasField h m q i v)
+IsAtHand h v = IsNoRef v ⊎ ((m : ℕ) × (q : ℕ) × (root_of h m q ≡ Some v))
+    ⊎ ((m : ℕ) × (q : ℕ) × (i : ℕ) × HasField h m q i v)
 
 -- the root names an object with more fields than that
 abbrev pub HasMoreFields : Heap → ℕ → ℕ → ℕ → Type 0
@@ -76,12 +77,14 @@ IsLawful h (Snap cycle) = (cycle ≡ h.snaps + 1) × (cycle ≤ h.cycles)
 
 -- the field of the object that the first value names becomes the second
 abbrev pub with_field : Heap → Option Value → ℕ → Option Value → Heap
-with_field h (Some (value.Ref name)) field (Some v) = with_fields h name (slice_set (unwrap_or (fields_of h name) []) field v)
+with_field h (Some (value.Ref name)) field (Some v) =
+    with_fields h name (slice_set (unwrap_or (fields_of h name) []) field v)
 with_field h object field v = h
 
 -- what the call leaves, with this reply
 abbrev pub heap_replied : Heap → ℕ → Call → Reply → Heap
-heap_replied h m (call.New root fields) (reply.Made name) = with_root (with_fields h name (replicate fields value.Null)) m root (value.Ref name)
+heap_replied h m (call.New root fields) (reply.Made name) =
+    with_root (with_fields h name (replicate fields value.Null)) m root (value.Ref name)
 heap_replied h m (call.Num root x) (reply.Value v) = with_root h m root v
 heap_replied h m (call.CopyRoot to from) (reply.Value v) = with_root h m to v
 heap_replied h m (call.DropRoot root) reply.Done = with_root h m root value.Null

@@ -1,5 +1,6 @@
 -- Lawful fronts.
-use Rattle.std.specs.Prelude.{ℕ, ◌≡◌, ◌+◌, ◌*◌, ◌<◌, ◌≤◌, ◌==◌, List, [], ◌∷◌, ◌++◌, length, slice_get, Some, if◌then◌else◌}
+use Rattle.std.specs.Prelude.{ℕ, ◌≡◌, ◌+◌, ◌*◌, ◌<◌, ◌≤◌, ◌==◌, List, [], ◌∷◌, ◌++◌, length, slice_get, Some}
+use Rattle.std.specs.Prelude.{if◌then◌else◌}
 use Rattle.std.specs.List.{fold, Contains}
 use Rattle.mako_words.specs.declared.name.Name.{Name}
 use Rattle.mako_model.specs.declared.call.Call.{Call}
@@ -44,7 +45,8 @@ pub record IsLawfulFront (w : Facts) (front : Seen) : Type 0 where
   pub legal : IsLegal w front.history
   pub finished : length front.finished ≤ (state_of w front.history).snaps
   pub unfinished : (state_of w front.history).snaps ≤ length front.finished + 1
-  pub freed : (i : ℕ) (names : List Name) → slice_get front.finished i ≡ Some names → AreFreed w front.history (i + 1) names
+  pub freed : (i : ℕ) (names : List Name) → slice_get front.finished i ≡ Some names
+      → AreFreed w front.history (i + 1) names
   pub waits : AnsweredWaitsAreOver front
   pub names : (name : Name) → Contains (names_made front.history) name → IsInRange w name
   pub reuses : ReusesAreOfDead w front.history

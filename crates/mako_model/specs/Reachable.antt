@@ -12,7 +12,8 @@ StandsInRoot h name = (mutator : ℕ) × (root : ℕ) × (root_of h mutator root
 -- some field of the first object holds the second name
 abbrev pub StandsInField : Heap → Name → Name → Type 0
 StandsInField h object name =
-    (fields : List Value) × (field : ℕ) × (fields_of h object ≡ Some fields) × (slice_get fields field ≡ Some (Ref name))
+    (fields : List Value) × (field : ℕ) × (fields_of h object ≡ Some fields)
+    × (slice_get fields field ≡ Some (Ref name))
 
 -- each name of the path stands in a field of the one before, and the last one is the name
 abbrev pub LeadsTo : Heap → Name → List Name → Name → Type 0

@@ -27,12 +27,14 @@ expanded h order object = fold added order (unwrap_or (fields_of h object) [])
 -- the names in the roots of the first mutators were found
 abbrev pub AreRootsFound : Heap → ℕ → List Name → Type 0
 AreRootsFound h mutators order =
-    (mutator root : ℕ) (name : Name) → mutator < mutators → root_of h mutator root ≡ Some (Ref name) → Contains order name
+    (mutator root : ℕ) (name : Name) → mutator < mutators → root_of h mutator root ≡ Some (Ref name)
+    → Contains order name
 
 -- the names in the fields of the first objects found were found
 abbrev pub AreFieldsFound : Heap → ℕ → List Name → Type 0
 AreFieldsFound h done order =
-    (i : ℕ) (object name : Name) → i < done → slice_get order i ≡ Some object → StandsInField h object name → Contains order name
+    (i : ℕ) (object name : Name) → i < done → slice_get order i ≡ Some object → StandsInField h object name
+    → Contains order name
 
 -- each name found is reachable
 abbrev pub AreReachable : Heap → List Name → Type 0

@@ -1,6 +1,7 @@
 //! The finished cycles of a run, in room that was set aside.
 
-ghost use Rattle.std.specs.Prelude.{◌≡◌, ◌<◌, ◌≤◌, ◌+◌, ◌-◌, ◌++◌, ◌∷◌, [], length, slice_get, slice_index, sum_by, IfOk, Some};
+ghost use Rattle.std.specs.Prelude.{◌≡◌, ◌<◌, ◌≤◌, ◌+◌, ◌-◌, ◌++◌, ◌∷◌, [], length, slice_get, slice_index, sum_by};
+ghost use Rattle.std.specs.Prelude.{IfOk, Some};
 ghost use Rattle.mako_model.specs.CycleLists.{pieces, start_of, RiseTo};
 
 use mako_words::{Memory, Name};

@@ -3,7 +3,9 @@
 //! names itself.
 
 ghost use Rattle.mako_model.specs.Answering.{Answers, AnswersToEnd};
-ghost use Rattle.mako_model.specs.Examples.{tied, tied_front, half_freed_front, retiring, retired_front, hasty_front, roomy, reused_front, reused_too_soon, crowded, crowded_front, used_freed_front, looped, looped_front, twice_freed_front};
+ghost use Rattle.mako_model.specs.Examples.{tied, tied_front, half_freed_front, retiring, retired_front, hasty_front};
+ghost use Rattle.mako_model.specs.Examples.{roomy, reused_front, reused_too_soon, crowded, crowded_front};
+ghost use Rattle.mako_model.specs.Examples.{used_freed_front, looped, looped_front, twice_freed_front};
 
 /// The front in which the cycle frees both answers the script to its end.
 pub fn objects_that_name_each_other_are_freed()

@@ -1,10 +1,12 @@
 //! The heap in which nothing moves or is freed.
 
-ghost use Rattle.std.specs.Prelude.{◌≡◌, ◌<◌, ◌↔◌, ℕ, List, length, replicate, slice_get, slice_set, if◌then◌else◌, IfOk, OnOk, OnErr, IsTrue, Some, is_some};
+ghost use Rattle.std.specs.Prelude.{◌≡◌, ◌<◌, ◌↔◌, ℕ, List, length, replicate, slice_get, slice_set, if◌then◌else◌};
+ghost use Rattle.std.specs.Prelude.{IfOk, OnOk, OnErr, IsTrue, Some, is_some};
 ghost use Rattle.std.specs.Option.{option_map};
 ghost use Rattle.mako_words.specs.declared.value.Value.TheVariants.{Null, Ref};
 ghost use Rattle.mako_model.specs.Heaps.{Heap, fields_of, roots_of, root_of, with_root, with_fields, opening};
-ghost use Rattle.mako_model.specs.Lawful.{HasRoot, IsAtHand, HoldsNoRef, HasField, HasMoreFields, HasNoMoreFields, IsLawful, IsLawfulReply, heap_after, heap_replied, with_field};
+ghost use Rattle.mako_model.specs.Lawful.{HasRoot, IsAtHand, HoldsNoRef, HasField, HasMoreFields, HasNoMoreFields};
+ghost use Rattle.mako_model.specs.Lawful.{IsLawful, IsLawfulReply, heap_after, heap_replied, with_field};
 ghost use Rattle.mako_model.specs.Immortals.{fields_named};
 
 use crate::call::Call;
@@ -37,11 +39,17 @@ impl Model for Immortal {
 
     ghost Value = { Heap };
 
-    ghost coded = { coded_heap (finite.code coded_name (coded_list stored.the_row.coded)) (coded_list (coded_list stored.the_row.coded)) };
+    ghost coded = { coded_heap (finite.code coded_name (coded_list stored.the_row.coded))
+        (coded_list (coded_list stored.the_row.coded)) };
 
     ghost view = { λ i. record { objects = i.objects; roots = i.roots; snaps = i.snaps; cycles = i.cycles } };
 
-    ghost invariant = { λ i. IsClosed (record { objects = i.objects; roots = i.roots; snaps = i.snaps; cycles = i.cycles }) };
+    ghost invariant = { λ i. IsClosed (record {
+      objects = i.objects;
+      roots = i.roots;
+      snaps = i.snaps;
+      cycles = i.cycles;
+    }) };
 }
 
 impl Immortal {
@@ -303,7 +311,8 @@ impl Immortal {
 
     fn make(&mut self, mutator: u8, root: u8, fields: u8, name: Name) -> Result<(), Memory>
         requires { HasRoot self.old mutator root }
-        ensures ok { OnOk result (self.new ≡ with_root (with_fields self.old name (replicate fields Null)) mutator root (Ref name)) }
+        ensures ok { OnOk result
+            (self.new ≡ with_root (with_fields self.old name (replicate fields Null)) mutator root (Ref name)) }
         ensures err { OnErr result (self.new ≡ self.old) }
     {
         let fields = nulls(self.alloc, fields)?;

@@ -11,16 +11,19 @@ ghost use Rattle.mako_model.specs.Lawful.{IsLawful};
 ghost use Rattle.mako_model.specs.Legal.{Facts, state_of, IsLegal};
 ghost use Rattle.mako_model.specs.Dead.{names_made, IsDead, AreFreed};
 ghost use Rattle.mako_model.specs.LawfulFronts.{IsLawfulFront};
-ghost use Rattle.mako_model.specs.Laws.{HasObject, IsClosed, DeadStandApart, HasRoots, ProgramsFit, NamesFit, ValuesFit, RootsFit};
+ghost use Rattle.mako_model.specs.Laws.{HasObject, IsClosed, DeadStandApart, HasRoots, ProgramsFit, NamesFit};
+ghost use Rattle.mako_model.specs.Laws.{ValuesFit, RootsFit};
 
 /// What was made stays made.
 pub fn made_names_stay()
-    ensures { (start rest : List Point) (name : Name) → Contains (names_made start) name → Contains (names_made (start ++ rest)) name }
+    ensures { (start rest : List Point) (name : Name) → Contains (names_made start) name
+        → Contains (names_made (start ++ rest)) name }
 {}
 
 /// The names made are those of the objects.
 pub fn made_names_are_objects()
-    ensures { (w : Facts) (history : List Point) (name : Name) → IsLegal w history → Contains (names_made history) name ↔ HasObject (state_of w history) name }
+    ensures { (w : Facts) (history : List Point) (name : Name) → IsLegal w history
+        → Contains (names_made history) name ↔ HasObject (state_of w history) name }
 {}
 
 /// A prefix of a legal history is legal.
@@ -30,7 +33,8 @@ pub fn legal_histories_have_legal_prefixes()
 
 /// A legal history with one lawful point more is legal.
 pub fn legal_histories_grow()
-    ensures { (w : Facts) (history : List Point) (point : Point) → IsLegal w history → IsLawful (state_of w history) point → IsLegal w (history ++ point ∷ []) }
+    ensures { (w : Facts) (history : List Point) (point : Point) → IsLegal w history
+        → IsLawful (state_of w history) point → IsLegal w (history ++ point ∷ []) }
 {}
 
 /// Each name that stands in a root or a field is that of an object.
@@ -50,12 +54,14 @@ pub fn fronts_begin_transitively()
 
 /// Of two lawful fronts of which one begins with the other, the finished cycles do too.
 pub fn finished_cycles_begin_with_those_before()
-    ensures { (w : Facts) (whole front : Seen) → IsLawfulFront w whole → IsLawfulFront w front → BeginsWith whole front → IsPrefix front.finished whole.finished }
+    ensures { (w : Facts) (whole front : Seen) → IsLawfulFront w whole → IsLawfulFront w front → BeginsWith whole front
+        → IsPrefix front.finished whole.finished }
 {}
 
 /// A name that is dead in a cycle is dead in each later one that has begun.
 pub fn dead_names_stay_dead()
-    ensures { (w : Facts) (history : List Point) (cycle later : ℕ) (name : Name) → IsLegal w history → cycle ≤ later → later ≤ (state_of w history).snaps
+    ensures { (w : Facts) (history : List Point) (cycle later : ℕ) (name : Name) → IsLegal w history → cycle ≤ later
+        → later ≤ (state_of w history).snaps
         → IsDead w history cycle name → IsDead w history later name }
 {}
 
@@ -66,7 +72,8 @@ pub fn dead_names_stand_apart()
 
 /// The names that a cycle freed are one list.
 pub fn freed_names_are_one_list()
-    ensures { (w : Facts) (history : List Point) (cycle : ℕ) (a b : List Name) → AreFreed w history cycle a → AreFreed w history cycle b → a ≡ b }
+    ensures { (w : Facts) (history : List Point) (cycle : ℕ) (a b : List Name) → AreFreed w history cycle a
+        → AreFreed w history cycle b → a ≡ b }
 {}
 
 /// Each mutator keeps its roots, and no more snapshots are taken than there may be cycles.
@@ -78,5 +85,6 @@ pub fn heaps_keep_their_shape()
 /// Each value in a root or a field fits its word, where the numbers of the programs and all names do.
 pub fn values_fit()
     ensures { (w : Facts) (front : Seen) → ProgramsFit w.programs → NamesFit w → IsLawfulFront w front
-        → FollowsPrograms w.programs front.history → ValuesFit (state_of w front.history) × RootsFit (state_of w front.history) }
+        → FollowsPrograms w.programs front.history → ValuesFit (state_of w front.history)
+        × RootsFit (state_of w front.history) }
 {}

@@ -64,7 +64,8 @@ impl Objects {
     /// The field of the object becomes the value.
     pub fn write(&mut self, name: Name, field: usize, value: Value)
         requires { (fields : List Value) × (finite.get self.old name ≡ Some fields) × (field < length fields) }
-        ensures { self.new ≡ finite.insert self.old name (slice_set (unwrap_or (finite.get self.old name) []) field value) }
+        ensures { self.new ≡ finite.insert self.old name
+            (slice_set (unwrap_or (finite.get self.old name) []) field value) }
     {
         if let Some(fields) = self.fields.get_mut(&name) {
             fields[field] = value;

@@ -1,6 +1,7 @@
 //! The roots of an immortal heap.
 
-ghost use Rattle.std.specs.Prelude.{◌≡◌, ◌<◌, ◌-◌, [], length, replicate, slice_get, slice_index_or, slice_set, IfOk, Some};
+ghost use Rattle.std.specs.Prelude.{◌≡◌, ◌<◌, ◌-◌, [], length, replicate, slice_get, slice_index_or, slice_set, IfOk};
+ghost use Rattle.std.specs.Prelude.{Some};
 ghost use Rattle.mako_model.specs.Heaps.{opening_roots};
 
 use mako_words::{Memory, Name, Value};

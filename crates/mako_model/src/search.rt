@@ -23,7 +23,8 @@ struct Search {
 /// The names that are reachable from the roots, by paths through the fields of objects. It looks at
 /// each object once.
 pub fn reach(alloc: Global, state: &Immortal) -> Result<BTreeSet<Name>, Memory>
-    ensures { IfOk result (λ found. (name : Name) → IsTrue (contains name_cmp found name) ↔ IsReachable state.now name) }
+    ensures { IfOk result (λ found. (name : Name)
+        → IsTrue (contains name_cmp found name) ↔ IsReachable state.now name) }
 {
     let search = from_roots(alloc, state)?;
     let search = follow(state, search)?;

@@ -114,73 +114,84 @@ module _ (k : Caller) (calls : List Call) (p : Progress) (after : Calling) (repl
       → replies ≡ p.done + ahead (decided after.stage) →
       Leads k calls replies r (is_some o) (attempt_on k calls p after o)
   attempt_leads None is at are =
-      record { known = record { few = few; task = record { known = known; same = same; call = at; open_ = is } };
-      replies_are = are; lower = lower }
+      record {
+        known = record { few = few; task = record { known = known; same = same; call = at; open_ = is } };
+        replies_are = are;
+        lower = lower;
+      }
   attempt_leads (Some (Answer reply)) is at are =
       let inside = slice_get_within calls p.done after.call at in
       let one : ahead (decided after.stage) ≡ 1 = ap ahead (ended_decided after.stage (Answer reply) is) in
       begins_leads k calls (p.done + 1) replies r false _ few
       (task_begins k calls (p.done + 1) (slice_get calls (p.done + 1)) false (kept after (Answer reply)) caller fitting
-          (keep_fits k after (Answer reply) known same is) refl (omega (arith, inside)))
+      (keep_fits k after (Answer reply) known same is) refl (omega (arith, inside)))
       (omega (arith, are, one)) (omega (arith, lower))
   attempt_leads (Some Full) is at are =
       let inside = slice_get_within calls p.done after.call at in
       let none : ahead (decided after.stage) ≡ 0 = ap ahead (ended_decided after.stage Full is) in
       begins_leads k calls p.done replies r true _ few
-          (wait_begins k calls p.done (kept after Full) caller (keep_fits k after Full known same is) inside)
+      (wait_begins k calls p.done (kept after Full) caller (keep_fits k after Full known same is) inside)
       (omega (arith, are, none)) (omega (arith, lower))
   attempt_leads (Some (Paused pause)) is at are =
       let inside = slice_get_within calls p.done after.call at in
       let none : ahead (decided after.stage) ≡ 0 = ap ahead (ended_decided after.stage (Paused pause) is) in
       begins_leads k calls p.done replies r true _ few
       (task_begins k calls p.done (Some after.call) after.last (kept after (Paused pause)) caller fitting
-          (keep_fits k after (Paused pause) known same is) at (omega (arith, inside)))
+      (keep_fits k after (Paused pause) known same is) at (omega (arith, inside)))
       (omega (arith, are, none)) (omega (arith, lower))
 
   wait_leads : (o : Option Attempt) → outcome_in after.stage ≡ o → after.call ≡ Collect → p.done < length calls
       → replies ≡ p.done → Leads k calls replies r (is_some o) (wait_on k calls p after o)
   wait_leads None is collects below are =
-      record { known = record { few = few;
-      task = record { known = known; same = same; collects = collects; below = below; open_ = is } };
-      replies_are = omega (arith, are); lower = lower }
+      record {
+        known = record {
+          few = few;
+          task = record { known = known; same = same; collects = collects; below = below; open_ = is };
+        };
+        replies_are = omega (arith, are);
+        lower = lower;
+      }
   wait_leads (Some (Answer reply)) is collects below are =
       begins_leads k calls p.done replies r true _ few
       (task_begins k calls p.done (slice_get calls p.done) true (kept after (Answer reply)) caller fitting
-          (keep_fits k after (Answer reply) known same is) refl (omega (arith, below)))
+      (keep_fits k after (Answer reply) known same is) refl (omega (arith, below)))
       are (omega (arith, lower))
   wait_leads (Some Full) is collects below are =
       begins_leads k calls p.done replies r true _ few
-          (wait_begins k calls p.done (kept after Full) caller (keep_fits k after Full known same is) below) are
-          (omega (arith, lower))
+      (wait_begins k calls p.done (kept after Full) caller (keep_fits k after Full known same is) below) are
+      (omega (arith, lower))
   wait_leads (Some (Paused pause)) is collects below are =
       begins_leads k calls p.done replies r true _ few
-          (wait_begins k calls p.done (kept after (Paused pause)) caller
-          (keep_fits k after (Paused pause) known same is) below) are (omega (arith, lower))
+      (wait_begins k calls p.done (kept after (Paused pause)) caller
+      (keep_fits k after (Paused pause) known same is) below) are (omega (arith, lower))
 
 -- a task that has an act leads on
 task_leads : (d : Driving) (w : ℕ) (task : Task) → IsCaller d.caller → AreFitting d.caller.shape d.calls
     → length d.calls ≤ 1048576 → TaskIsKnown d.caller d.calls d.progress.done task →
     length d.replies ≡ d.progress.done + replied task → TaskFits task w → IsAct (task_next d.caller task) →
     Leads d.caller d.calls (length d.replies + length (told_reply (task_event task w))) (task_rank task)
-        (task_renewed task w) (task_fed d.caller d.calls d.progress task w)
+    (task_renewed task w) (task_fed d.caller d.calls d.progress task w)
 task_leads d w (Attempting m) caller fitting few known are fits acts =
     let told = told_count m w in
     attempt_leads d.caller d.calls d.progress (calling.fed m w)
-        (length d.replies + length (told_reply (calling.event_of m w))) (calling.rank m) caller fitting few
+    (length d.replies + length (told_reply (calling.event_of m w))) (calling.rank m) caller fitting few
     (call_known m w known.known fits acts) known.same (call_goes m w known.known fits acts).lower
     (outcome_in (calling.fed m w).stage) refl known.call (omega (arith, told, are))
 task_leads d w (Awaiting m) caller fitting few known are fits acts =
     wait_leads d.caller d.calls d.progress (calling.fed m w) (length d.replies + length {A = Reply} [])
-        (calling.rank m) caller fitting few
+    (calling.rank m) caller fitting few
     (call_known m w known.known fits acts) known.same (call_goes m w known.known fits acts).lower
     (outcome_in (calling.fed m w).stage) refl known.collects known.below (omega (arith, are))
-task_leads d w Finishing caller fitting few known are fits acts = record { known = record { few = few; task = known };
-    replies_are = omega (arith, are); lower = omega arith }
+task_leads d w Finishing caller fitting few known are fits acts = record {
+  known = record { few = few; task = known };
+  replies_are = omega (arith, are);
+  lower = omega arith;
+}
 task_leads d w AtEnd caller fitting few known are fits acts = absurd acts
 
 pub driver_leads : (d : Driving) (w : ℕ) → IsKnown d → Fits d w → IsAct (next_of d) →
     Leads d.caller d.calls (length d.replies + length (told_reply (event_of d w))) (rank d) (is_renewed d w)
-        (progress_fed d.caller d.calls d.progress w)
+    (progress_fed d.caller d.calls d.progress w)
 driver_leads d w known fits acts =
     task_leads d w d.progress.task known.caller known.calls known.progress.few known.progress.task known.replies fits
     acts
@@ -203,7 +214,7 @@ pub opening_known : (k : Caller) (calls : List Call) → IsCaller k → AreFitti
 opening_known k calls caller fitting few =
     let ring = caller.shape.in_range.each in
     let b = task_begins k calls 0 (slice_get calls 0) false (record { asked = None; barrier_at = 0 }) caller fitting
-        (record { asked = tt; barrier = omega (arith, ring) }) refl (omega arith) in
+    (record { asked = tt; barrier = omega (arith, ring) }) refl (omega arith) in
     let none = b.replies in record {
       caller = caller;
       calls = fitting;
@@ -238,11 +249,15 @@ room_for_reply d w known fits acts =
 pub put_together : (d : Driving) (w : ℕ) (replies : List Reply) (p : Progress) → IsKnown d → Fits d w
     → IsAct (next_of d) → replies ≡ d.replies ++ told_reply (event_of d w) →
     p ≡ progress_fed d.caller d.calls d.progress w
-        → IsKnown (record { caller = d.caller; calls = d.calls; replies = replies; progress = p })
+    → IsKnown (record { caller = d.caller; calls = d.calls; replies = replies; progress = p })
 put_together d w replies p known fits acts replies_are p_is =
     let Replies : List Reply
-        → Type 0 = λ rs. IsKnown (record { caller = d.caller; calls = d.calls; replies = rs; progress = p }) in
+    → Type 0 = λ rs. IsKnown (record { caller = d.caller; calls = d.calls; replies = rs; progress = p }) in
     let At : Progress → Type 0 =
-        λ q. IsKnown (record { caller = d.caller; calls = d.calls; replies = d.replies ++ told_reply (event_of d w);
-        progress = q }) in
+    λ q. IsKnown (record {
+      caller = d.caller;
+      calls = d.calls;
+      replies = d.replies ++ told_reply (event_of d w);
+      progress = q;
+    }) in
     subst Replies (sym replies_are) (subst At (sym p_is) (driver_known d w known fits acts))

@@ -49,7 +49,7 @@ calls_fit n d names [] are few i call at = absurd (none-some call at)
 calls_fit n d names (c ∷ calls) are few zero call at =
     let P : Call → Type 0 = CallFits n in
     subst P (same_Some c call at)
-        (call_fits n d names c are.0 (defined_within (defined_after d c) names calls are.1) few)
+    (call_fits n d names c are.0 (defined_within (defined_after d c) names calls are.1) few)
 calls_fit n d names (c ∷ calls) are few (suc i) call at =
     calls_fit n (defined_after d c) names calls are.1 few i call at
 

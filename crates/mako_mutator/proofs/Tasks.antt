@@ -26,8 +26,11 @@ pub wait_by_done : (k : Caller) (calls : List Call) (p q : Progress) (m : Callin
     → p.done ≡ q.done → wait_on k calls p m o ≡ wait_on k calls q m o
 wait_by_done k calls p q m None same = ap (λ (d : ℕ). record { done = d; within = true; task = Awaiting m }) same
 wait_by_done k calls p q m (Some (Answer reply)) same =
-    ap (λ (d : ℕ). record { done = d; within = true;
-        task = task_for k (slice_get calls d) true (kept m (Answer reply)) }) same
+    ap (λ (d : ℕ). record {
+      done = d;
+      within = true;
+      task = task_for k (slice_get calls d) true (kept m (Answer reply));
+    }) same
 wait_by_done k calls p q m (Some Full) same =
     ap (λ (d : ℕ). record { done = d; within = true; task = awaiting k (kept m Full) }) same
 wait_by_done k calls p q m (Some (Paused pause)) same =

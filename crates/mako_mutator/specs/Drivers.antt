@@ -45,8 +45,11 @@ awaiting k keep = Awaiting (calling.opening k Collect false keep.asked keep.barr
 
 -- before the first call, with nothing asked and no name in the barrier ring
 abbrev pub begun : Caller → List Call → Progress
-begun k calls = record { done = 0; within = false;
-    task = task_for k (slice_get calls 0) false (record { asked = None; barrier_at = 0 }) }
+begun k calls = record {
+  done = 0;
+  within = false;
+  task = task_for k (slice_get calls 0) false (record { asked = None; barrier_at = 0 });
+}
 
 abbrev pub opening : Caller → List Call → Driving
 opening k calls = record { caller = k; calls = calls; replies = []; progress = begun k calls }
@@ -66,8 +69,11 @@ within p task = record { done = p.done; within = true; task = task }
 
 -- before the call behind the next one
 abbrev pub moved_on : Caller → List Call → Progress → Keep → Progress
-moved_on k calls p keep = record { done = p.done + 1; within = false;
-    task = task_for k (slice_get calls (p.done + 1)) false keep }
+moved_on k calls p keep = record {
+  done = p.done + 1;
+  within = false;
+  task = task_for k (slice_get calls (p.done + 1)) false keep;
+}
 
 -- after an answer it goes on to the next call; after a finding of no room it waits for a cycle; after a pause it
 -- attempts again
@@ -129,8 +135,12 @@ told_reply (Snapped cycle) = []
 told_reply (Finished cycle) = []
 
 abbrev pub fed : Driving → ℕ → Driving
-fed d w = record { caller = d.caller; calls = d.calls; replies = d.replies ++ told_reply (event_of d w);
-    progress = progress_fed d.caller d.calls d.progress w }
+fed d w = record {
+  caller = d.caller;
+  calls = d.calls;
+  replies = d.replies ++ told_reply (event_of d w);
+  progress = progress_fed d.caller d.calls d.progress w;
+}
 
 abbrev pub TaskFits : Task → ℕ → Type 0
 TaskFits (Attempting m) w = calling.Fits m w

@@ -45,8 +45,10 @@ impl Driver {
     pub fn new(alloc: Global, script: &Script, mutator: u32) -> Result<Driver, Memory>
         requires { mutator < length script.now.programs }
         ensures { (program : ProgramView) → slice_get script.now.programs mutator ≡ Some program →
-            IfOk result (λ d. d ≡ drivers.opening (record { shape = script.now.numbers;
-                mutator = mutator }) program.calls) }
+            IfOk result (λ d. d ≡ drivers.opening (record {
+              shape = script.now.numbers;
+              mutator = mutator;
+            }) program.calls) }
     {
         let program = &script.programs[mutator as usize];
         let Ok(calls) = Vec::from_slice(alloc, program.calls.as_slice()) else {

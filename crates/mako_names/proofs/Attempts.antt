@@ -1,5 +1,6 @@
 -- The steps of waiting and of last attempts, from the words that they find.
-use Rattle.std.proofs.Common.{◌≡◌, ℕ, ◌+◌, ◌*◌, ◌<◌, ◌≤◌, ◌^◌, ◌⊎◌, ⊎_elim, true, false, List, ◌∷◌, length, set, slice_get, Some, sym, subst, refl, ◌∙◌, arith}
+use Rattle.std.proofs.Common.{◌≡◌, ℕ, ◌+◌, ◌*◌, ◌<◌, ◌≤◌, ◌^◌, ◌⊎◌, ⊎_elim, true, false, List, ◌∷◌, length, set}
+use Rattle.std.proofs.Common.{slice_get, Some, sym, subst, refl, ◌∙◌, arith}
 use Rattle.mako_words.specs.Phases.{cycle_of}
 use Rattle.mako_shape.specs.declared.numbers.Numbers.{Numbers}
 use Rattle.mako_shape.specs.Limits.{all_entries}
@@ -16,7 +17,8 @@ use Rattle.mako_model.specs.LawfulFronts.{IsLawfulFront}
 use Rattle.mako_model.proofs.CycleCounts.{cycles_stay}
 use Rattle.mako_model.proofs.Histories.{legal_push}
 use Rattle.mako_names.specs.Counts.{name_of}
-use Rattle.mako_names.specs.Tables.{IsWorkloadOf, EntryStands, TableStands, SameTable, entry_of, phase_of, settled_of, running_of}
+use Rattle.mako_names.specs.Tables.{IsWorkloadOf, EntryStands, TableStands, SameTable, entry_of, phase_of, settled_of}
+use Rattle.mako_names.specs.Tables.{running_of}
 use Rattle.mako_names.specs.Uses.{SameSlots}
 use Rattle.mako_names.specs.Trying as trying
 use Rattle.mako_names.specs.Trying.{Trying, TryingStands, tablet_at}
@@ -26,7 +28,9 @@ use Rattle.mako_names.proofs.Entries.{held_is_made}
 use Rattle.mako_names.proofs.Holding.{hold_tries, hold_decides}
 use Rattle.mako_names.proofs.Next.{plain_next, cycle_next, not_full}
 use Rattle.mako_model.proofs.RootRows.{has_roots}
-use Rattle.mako_names.proofs.TryingKinds.{trying_asks, trying_awaited, trying_spent, trying_notes, trying_entry, trying_entries, trying_words, trying_full, trying_answered, taken_seen, retired_seen}
+use Rattle.mako_names.proofs.TryingKinds.{trying_asks, trying_awaited, trying_spent, trying_notes, trying_entry}
+use Rattle.mako_names.proofs.TryingKinds.{trying_entries, trying_words, trying_full, trying_answered, taken_seen}
+use Rattle.mako_names.proofs.TryingKinds.{retired_seen}
 
 module _ (n : Numbers) (w : Facts) where
   -- the load of the phase asks for the cycle after the present one

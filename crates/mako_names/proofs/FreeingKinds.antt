@@ -1,5 +1,7 @@
 -- What servers have freed in the present cycle, at each kind of step, and what a finished cycle has freed.
-use Rattle.std.proofs.Common.{◌≡◌, ℕ, ◌+◌, ◌-◌, ◌*◌, ◌/◌, ◌%◌, ◌<◌, ◌≤◌, ⊎_elim, Bool, true, false, List, [], ◌∷◌, ◌++◌, length, flat_map, set, slice_get, Contains, Some, sym, ap, subst, refl, ◌∙◌, arith, length-set}
+use Rattle.std.proofs.Common.{◌≡◌, ℕ, ◌+◌, ◌-◌, ◌*◌, ◌/◌, ◌%◌, ◌<◌, ◌≤◌, ⊎_elim, Bool, true, false, List, [], ◌∷◌, ◌++◌}
+use Rattle.std.proofs.Common.{length, flat_map, set, slice_get, Contains, Some, sym, ap, subst, refl, ◌∙◌, arith}
+use Rattle.std.proofs.Common.{length-set}
 use Rattle.std.proofs.Math.Nat.{mul_comm, mul_assoc, mod-add-div', mod-lt}
 use Rattle.std.proofs.lemmas.Bool.{cases_eq, cases_lt}
 use Rattle.std.proofs.lemmas.Nat.{mul-add-lt, mul-le, div-mul-add, mod-mul-add}
@@ -22,7 +24,8 @@ use Rattle.mako_model.proofs.Growth.{dead_stays, dead_was}
 use Rattle.mako_model.proofs.Lists.{get_set_cases}
 use Rattle.mako_names.specs.Counts.{name_of}
 use Rattle.mako_names.specs.Tables.{IsWorkloadOf, TableStands, entry_of, phase_of, settled_of}
-use Rattle.mako_names.specs.Freeing.{Freeing, IsFreedIn, AreFreedOf, own_entries, entry_by, IsLeftIn, IsPast, FreeingStands, IsMarked, EpochsStand}
+use Rattle.mako_names.specs.Freeing.{Freeing, IsFreedIn, AreFreedOf, own_entries, entry_by, IsLeftIn, IsPast}
+use Rattle.mako_names.specs.Freeing.{FreeingStands, IsMarked, EpochsStand}
 use Rattle.mako_names.proofs.Counts.{names_none}
 use Rattle.mako_names.proofs.Entries.{dead_made, no_bool}
 use Rattle.mako_names.proofs.FreedRuns.{freed_none, freed_passes, freed_push, freed_joined}

@@ -1,5 +1,6 @@
 -- Freed names on their way, at each kind of step.
-use Rattle.std.proofs.Common.{◌≡◌, ◌≢◌, ℕ, zero, suc, ◌+◌, ◌<◌, ◌≤◌, ◌^◌, ◌⊎◌, true, false, List, [], ◌∷◌, ◌++◌, length, map, set, slice_get, Contains, Some, sym, ap, subst, refl, ◌∙◌, arith}
+use Rattle.std.proofs.Common.{◌≡◌, ◌≢◌, ℕ, zero, suc, ◌+◌, ◌<◌, ◌≤◌, ◌^◌, ◌⊎◌, true, false, List, [], ◌∷◌, ◌++◌, length}
+use Rattle.std.proofs.Common.{map, set, slice_get, Contains, Some, sym, ap, subst, refl, ◌∙◌, arith}
 use Rattle.std.proofs.lemmas.List.{map-set}
 use Rattle.std.proofs.lemmas.Option.{same_Some, none-some}
 use Rattle.mako_words.specs.declared.name.Name.{Name}
@@ -24,7 +25,8 @@ use Rattle.mako_names.specs.Tables.{IsWorkloadOf, entry_of, phase_of}
 use Rattle.mako_names.specs.Uses.{IsUseSlot}
 use Rattle.mako_names.proofs.FreeingKinds.{owned_within, has_server}
 use Rattle.mako_names.proofs.Holding.{hold_snaps, hold_evacuates, hold_stops, hold_passes, hold_frees, hold_finishes}
-use Rattle.mako_names.proofs.NoticeKinds.{notices_pass, notices_free, notices_get, notices_end, notices_all, notices_start}
+use Rattle.mako_names.proofs.NoticeKinds.{notices_pass, notices_free, notices_get, notices_end, notices_all}
+use Rattle.mako_names.proofs.NoticeKinds.{notices_start}
 use Rattle.mako_names.proofs.Words.{phase_else, phase_stored}
 
 pub map_get : {A B : Type 0} (f : A → B) (xs : List A) (i : ℕ) (y : B) → slice_get (map f xs) i ≡ Some y → (x : A)

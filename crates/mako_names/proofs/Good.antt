@@ -1,5 +1,6 @@
 -- A name that is not dead is that of a taken entry; those that stand in a heap are not dead.
-use Rattle.std.proofs.Common.{◌≡◌, ℕ, ◌+◌, ◌-◌, ◌*◌, ◌<◌, ◌≤◌, ◌⊎◌, inl, inr, ⊎_elim, Bool, true, false, List, [], ◌∷◌, ◌++◌, length, flat_map, Contains, Some, ap, subst, sym, refl, ◌∙◌, arith}
+use Rattle.std.proofs.Common.{◌≡◌, ℕ, ◌+◌, ◌-◌, ◌*◌, ◌<◌, ◌≤◌, ◌⊎◌, inl, inr, ⊎_elim, Bool, true, false, List, [], ◌∷◌}
+use Rattle.std.proofs.Common.{◌++◌, length, flat_map, Contains, Some, ap, subst, sym, refl, ◌∙◌, arith}
 use Rattle.std.proofs.lemmas.Bool.{cases_lt}
 use Rattle.std.proofs.lemmas.List.Elements.{Contains-append_cases, Contains-push_cases}
 use Rattle.mako_words.specs.declared.name.Name.{Name}
@@ -23,7 +24,8 @@ use Rattle.mako_model.proofs.Closed.{made_are_objects, closed_heap}
 use Rattle.mako_model.proofs.DeadApart.{dead_later, dead_stand_apart}
 use Rattle.mako_model.proofs.Growth.{snaps_stay}
 use Rattle.mako_names.specs.Counts.{name_of, made_of}
-use Rattle.mako_names.specs.Tables.{IsWorkloadOf, one_if, EntryTells, EntryStands, TableStands, IsTaken, entry_of, phase_of, settled_of}
+use Rattle.mako_names.specs.Tables.{IsWorkloadOf, one_if, EntryTells, EntryStands, TableStands, IsTaken, entry_of}
+use Rattle.mako_names.specs.Tables.{phase_of, settled_of}
 use Rattle.mako_names.specs.Uses.{IsGood}
 use Rattle.mako_names.proofs.Counts.{made_cases, names_in_order}
 

@@ -1,5 +1,7 @@
 -- All that ties entries and names to the front, at each kind of step.
-use Rattle.std.proofs.Common.{◌≡◌, ◌≢◌, ℕ, ◌+◌, ◌-◌, ◌*◌, ◌<◌, ◌≤◌, ◌^◌, ◌⊎◌, inl, inr, ⊎_elim, true, false, List, [], ◌∷◌, ◌++◌, length, flat_map, set, slice_get, Contains, Some, sym, ap, subst, refl, ◌∙◌, arith, append-nil, length-set}
+use Rattle.std.proofs.Common.{◌≡◌, ◌≢◌, ℕ, ◌+◌, ◌-◌, ◌*◌, ◌<◌, ◌≤◌, ◌^◌, ◌⊎◌, inl, inr, ⊎_elim, true, false, List, []}
+use Rattle.std.proofs.Common.{◌∷◌, ◌++◌, length, flat_map, set, slice_get, Contains, Some, sym, ap, subst, refl, ◌∙◌}
+use Rattle.std.proofs.Common.{arith, append-nil, length-set}
 use Rattle.std.proofs.lemmas.Bool.{cases_eq}
 use Rattle.std.proofs.lemmas.Bool.Decides.{nat_tests}
 use Rattle.std.proofs.lemmas.List.Elements.{Contains-append_cases, Contains-push_cases}
@@ -30,23 +32,31 @@ use Rattle.mako_model.proofs.CycleCounts.{cycles_stay}
 use Rattle.mako_model.proofs.Growth.{IsNext, IsStarvedIfFull, answers_push, answers_finish, answers_opening}
 use Rattle.mako_model.proofs.Histories.{legal_push}
 use Rattle.mako_names.specs.Counts.{name_of, one_of}
-use Rattle.mako_names.specs.Tables.{IsWorkloadOf, published, EntryStands, TableStands, SameTable, entry_of, phase_of, settled_of, running_of}
+use Rattle.mako_names.specs.Tables.{IsWorkloadOf, published, EntryStands, TableStands, SameTable, entry_of, phase_of}
+use Rattle.mako_names.specs.Tables.{settled_of, running_of}
 use Rattle.mako_names.specs.Uses.{IsGood, IsUseSlot, UsesStand, SameSlots}
 use Rattle.mako_names.specs.Trying as trying
 use Rattle.mako_names.specs.Trying.{Trying, TryingStands}
-use Rattle.mako_names.specs.Freeing.{Freeing, IsFreedIn, own_entries, entry_by, FreeingStands, FreeingFits, IsMarked, EpochsStand, EpochsFit, AllMarked, since_snap}
+use Rattle.mako_names.specs.Freeing.{Freeing, IsFreedIn, own_entries, entry_by, FreeingStands, FreeingFits, IsMarked}
+use Rattle.mako_names.specs.Freeing.{EpochsStand, EpochsFit, AllMarked, since_snap}
 use Rattle.mako_names.specs.Holding.{NameFacets, NamesHoldWith}
 use Rattle.mako_names.proofs.Counts.{names_in_order, made_opening}
 use Rattle.mako_names.proofs.Entries.{held_is_made, free_is_new, no_bool}
-use Rattle.mako_names.proofs.Fits.{same_history, freeing_fits, epochs_fit, freeing_fits_published, epochs_fit_stored, epochs_fit_touched, all_point, all_snap, all_finish, all_tries}
-use Rattle.mako_names.proofs.FreeingKinds.{same_dead, freeing_stays, freeing_snaps, freeing_passes, freeing_frees, freeing_done, freeing_lists, owned_within, has_server, passes_free, passes_good, made_marked, epochs_stay, epochs_store}
+use Rattle.mako_names.proofs.Fits.{same_history, freeing_fits, epochs_fit, freeing_fits_published, epochs_fit_stored}
+use Rattle.mako_names.proofs.Fits.{epochs_fit_touched, all_point, all_snap, all_finish, all_tries}
+use Rattle.mako_names.proofs.FreeingKinds.{same_dead, freeing_stays, freeing_snaps, freeing_passes, freeing_frees}
+use Rattle.mako_names.proofs.FreeingKinds.{freeing_done, freeing_lists, owned_within, has_server, passes_free}
+use Rattle.mako_names.proofs.FreeingKinds.{passes_good, made_marked, epochs_stay, epochs_store}
 use Rattle.mako_names.proofs.Good.{no_name, settled_begun}
-use Rattle.mako_names.proofs.Next.{publish_next, snap_next, not_full, snap_not_full, follows_push, follows_snap, all_left_point, all_left_snap}
+use Rattle.mako_names.proofs.Next.{publish_next, snap_next, not_full, snap_not_full, follows_push, follows_snap}
+use Rattle.mako_names.proofs.Next.{all_left_point, all_left_snap}
 use Rattle.mako_model.proofs.RootRows.{has_roots}
-use Rattle.mako_names.proofs.TableKinds.{table_stays, table_point, table_publishes, table_touches, table_snaps, table_evacuates, table_stops, table_frees, table_finishes}
+use Rattle.mako_names.proofs.TableKinds.{table_stays, table_point, table_publishes, table_touches, table_snaps}
+use Rattle.mako_names.proofs.TableKinds.{table_evacuates, table_stops, table_frees, table_finishes}
 use Rattle.mako_names.proofs.TraceKinds.{young_push, trace_snaps, trace_stores, trace_ends, all_have_epoch}
 use Rattle.mako_names.proofs.UseKinds.{uses_point, uses_stay, uses_hold, uses_put, uses_snap, good_made}
-use Rattle.mako_names.proofs.Words.{entry_same, phase_same, entry_stored, entry_else, phase_else, phase_stored, entries_else, table_frame}
+use Rattle.mako_names.proofs.Words.{entry_same, phase_same, entry_stored, entry_else, phase_else, phase_stored}
+use Rattle.mako_names.proofs.Words.{entries_else, table_frame}
 
 -- a store at a place that is no slot in use leaves the slots as they are
 pub slots_frame : (n : Numbers) (ws : List ℕ) (p : Place) (v : ℕ) → Within n p → (IsUseSlot p → ⊥)
@@ -73,7 +83,8 @@ module _ (n : Numbers) (w : Facts) where
 
   -- other words are stored than those of the table
   elsewhere : (ws us : List ℕ) (front : Seen) (facets : NameFacets) → length us ≡ total n → SameTable n ws us
-      → UsesStand n us w front.history facets.held → NamesHoldWith n w ws front facets → NamesHoldWith n w us front facets
+      → UsesStand n us w front.history facets.held → NamesHoldWith n w ws front facets
+      → NamesHoldWith n w us front facets
   elsewhere ws us front facets size same uses hold =
       let is = phase_same n ws us same.phase in
       let before = same_history w front.history (cycle_of (phase_of n ws)) in

@@ -1,5 +1,7 @@
 -- Points that may come next.
-use Rattle.std.proofs.Common.{◌≡◌, ℕ, ◌+◌, ◌≤◌, ⊎_elim, false, List, [], ◌∷◌, ◌++◌, length, map, set, slice_get, Contains, Option, Some, None, sym, ap, subst, refl, ◌∙◌, arith, append-nil, append_assoc, eq-eqb, ne_eqb}
+use Rattle.std.proofs.Common.{◌≡◌, ℕ, ◌+◌, ◌≤◌, ⊎_elim, false, List, [], ◌∷◌, ◌++◌, length, map, set, slice_get}
+use Rattle.std.proofs.Common.{Contains, Option, Some, None, sym, ap, subst, refl, ◌∙◌, arith, append-nil, append_assoc}
+use Rattle.std.proofs.Common.{eq-eqb, ne_eqb}
 use Rattle.std.proofs.lemmas.List.{map-append}
 use Rattle.std.proofs.lemmas.Bool.{cases_eq}
 use Rattle.std.proofs.lemmas.List.Elements.{Contains-push_cases}

@@ -1,5 +1,6 @@
 -- The points since a mutator's last one, and the snapshots among them.
-use Rattle.std.proofs.Common.{◌≡◌, ℕ, ◌+◌, ◌<◌, ◌≤◌, ⊎_elim, List, [], ◌∷◌, ◌++◌, Contains, Some, sym, ap, subst, refl, ◌∙◌, arith, append-nil, append_assoc, eq-eqb, ne_eqb}
+use Rattle.std.proofs.Common.{◌≡◌, ℕ, ◌+◌, ◌<◌, ◌≤◌, ⊎_elim, List, [], ◌∷◌, ◌++◌, Contains, Some, sym, ap, subst, refl}
+use Rattle.std.proofs.Common.{◌∙◌, arith, append-nil, append_assoc, eq-eqb, ne_eqb}
 use Rattle.std.specs.List.{fold}
 use Rattle.std.proofs.lemmas.Bool.{cases_eq}
 use Rattle.std.proofs.lemmas.List.Elements.{Contains-append_right}

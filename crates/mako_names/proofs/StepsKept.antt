@@ -1,5 +1,6 @@
 -- Each kind of step keeps the ties of names, and so do all runs.
-use Rattle.std.proofs.Common.{◌+◌, ◌≡◌, ◌≢◌, ℕ, ◌*◌, ◌<◌, ◌≤◌, inl, inr, ⊎_elim, List, [], ◌∷◌, length, set, slice_get, Some, sym, ap, subst, refl, ◌∙◌, arith, length-set}
+use Rattle.std.proofs.Common.{◌+◌, ◌≡◌, ◌≢◌, ℕ, ◌*◌, ◌<◌, ◌≤◌, inl, inr, ⊎_elim, List, [], ◌∷◌, length, set, slice_get}
+use Rattle.std.proofs.Common.{Some, sym, ap, subst, refl, ◌∙◌, arith, length-set}
 use Rattle.std.proofs.Math.Nat.{mod-lt, mul_comm}
 use Rattle.std.proofs.lemmas.Bool.{cases_lt}
 use Rattle.std.proofs.lemmas.Nat.{mul-add-lt}
@@ -26,15 +27,23 @@ use Rattle.mako_model.proofs.CycleCounts.{few_snaps}
 use Rattle.mako_names.specs.Freeing.{Freeing}
 use Rattle.mako_names.specs.Going.{GatheringFits, NamesHold, with_freed}
 use Rattle.mako_names.specs.Holding.{NamesHoldWith}
-use Rattle.mako_names.specs.Steps.{NameScene, NamesHoldIn, LeavesNames, stored, looked_at, AttemptStep, Asks, Waited, FindsNoneLeft, Sees, GoesOver, Lacks, Notes, Forgets, IsPlain, Decision, Plain, Starves, Collects, Spends, answered, Publication, MayPublish, name_made, NameStep, Stores, Puts, Holds, Tries, Decides, Publishes, Marks, Moves, Snaps, Evacuates, Finishes, Stops, Passes, Frees, Gets, ReadsOn, IsNameOpening, Reached, Opened, Stepped}
+use Rattle.mako_names.specs.Steps.{NameScene, NamesHoldIn, LeavesNames, stored, looked_at, AttemptStep, Asks, Waited}
+use Rattle.mako_names.specs.Steps.{FindsNoneLeft, Sees, GoesOver, Lacks, Notes, Forgets, IsPlain, Decision, Plain}
+use Rattle.mako_names.specs.Steps.{Starves, Collects, Spends, answered, Publication, MayPublish, name_made, NameStep}
+use Rattle.mako_names.specs.Steps.{Stores, Puts, Holds, Tries, Decides, Publishes, Marks, Moves, Snaps, Evacuates}
+use Rattle.mako_names.specs.Steps.{Finishes, Stops, Passes, Frees, Gets, ReadsOn, IsNameOpening, Reached, Opened}
+use Rattle.mako_names.specs.Steps.{Stepped}
 use Rattle.mako_names.specs.Tables.{IsWorkloadOf, TableStands, SameTable, published, entry_of, phase_of}
 use Rattle.mako_names.specs.Trying as trying
 use Rattle.mako_names.specs.Trying.{Trying, tablet_at}
 use Rattle.mako_names.specs.Uses.{IsUseSlot, IsNamePlace, SameSlots}
-use Rattle.mako_names.proofs.Attempts.{hold_asks, hold_begins_awaited, hold_begins_spent, hold_notes, hold_sees, hold_goes_over, hold_lacks, hold_full, hold_answers, hold_spent, some_generation}
-use Rattle.mako_names.proofs.Going.{go_on, go_snaps, go_evacuates, go_stops, go_passes, go_frees, go_gets, go_ends, go_finishes}
+use Rattle.mako_names.proofs.Attempts.{hold_asks, hold_begins_awaited, hold_begins_spent, hold_notes, hold_sees}
+use Rattle.mako_names.proofs.Attempts.{hold_goes_over, hold_lacks, hold_full, hold_answers, hold_spent, some_generation}
+use Rattle.mako_names.proofs.Going.{go_on, go_snaps, go_evacuates, go_stops, go_passes, go_frees, go_gets, go_ends}
+use Rattle.mako_names.proofs.Going.{go_finishes}
 use Rattle.mako_names.proofs.Good.{in_table}
-use Rattle.mako_names.proofs.Holding.{hold_opening, hold_stores, hold_holds, hold_tries, hold_puts, hold_decides, hold_publishes, hold_touches}
+use Rattle.mako_names.proofs.Holding.{hold_opening, hold_stores, hold_holds, hold_tries, hold_puts, hold_decides}
+use Rattle.mako_names.proofs.Holding.{hold_publishes, hold_touches}
 use Rattle.mako_names.proofs.Next.{plain_next, not_full, to_the_end}
 use Rattle.mako_names.proofs.Since.{asked_above}
 use Rattle.mako_names.proofs.Words.{phase_same, phase_else, table_frame}

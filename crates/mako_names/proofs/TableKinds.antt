@@ -1,5 +1,6 @@
 -- The table at each kind of step.
-use Rattle.std.proofs.Common.{◌≡◌, ◌≢◌, ℕ, ◌+◌, ◌-◌, ◌<◌, ◌^◌, ⊎_elim, true, false, List, [], ◌∷◌, ◌++◌, length, set, sym, ap, subst, refl, ◌∙◌, arith, length-append}
+use Rattle.std.proofs.Common.{◌≡◌, ◌≢◌, ℕ, ◌+◌, ◌-◌, ◌<◌, ◌^◌, ⊎_elim, true, false, List, [], ◌∷◌, ◌++◌, length, set}
+use Rattle.std.proofs.Common.{sym, ap, subst, refl, ◌∙◌, arith, length-append}
 use Rattle.std.proofs.lemmas.Bool.{cases_eq}
 use Rattle.mako_words.specs.declared.name.Name.{Name}
 use Rattle.mako_words.specs.declared.entry_word.EntryWord.{EntryWord}
@@ -21,10 +22,12 @@ use Rattle.mako_model.specs.LawfulFronts.{IsLawfulFront}
 use Rattle.mako_model.proofs.DeadApart.{snaps_replied}
 use Rattle.mako_model.proofs.Histories.{state_push}
 use Rattle.mako_names.specs.Counts.{name_of, made_of}
-use Rattle.mako_names.specs.Tables.{published, EntryStands, EachStands, TableStands, SameTable, entry_of, phase_of, settled_of, running_of}
+use Rattle.mako_names.specs.Tables.{published, EntryStands, EachStands, TableStands, SameTable, entry_of, phase_of}
+use Rattle.mako_names.specs.Tables.{settled_of, running_of}
 use Rattle.mako_names.proofs.Counts.{made_none, made_push, one_other, names_in_order}
 use Rattle.mako_names.proofs.Entries.{entry_grows, entry_published, entry_freed, entry_settles, entry_finishes}
-use Rattle.mako_names.proofs.Words.{entry_same, phase_same, entry_stored, entry_else, phase_else, phase_stored, entries_else}
+use Rattle.mako_names.proofs.Words.{entry_same, phase_same, entry_stored, entry_else, phase_else, phase_stored}
+use Rattle.mako_names.proofs.Words.{entries_else}
 
 -- one entry word is stored, and the other entries stand as they did
 stored_each : (n : Numbers) (ws : List ℕ) (w : Facts) (front : Seen) (settled x : ℕ) (e : EntryWord)

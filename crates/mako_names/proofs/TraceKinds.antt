@@ -1,5 +1,6 @@
 -- Epochs while servers trace, from the snapshot to the store of Evac.
-use Rattle.std.proofs.Common.{◌≡◌, ℕ, ◌+◌, ◌<◌, ◌≤◌, ◌⊎◌, ⊎_elim, true, List, [], ◌∷◌, ◌++◌, length, flat_map, set, slice_get, Contains, Some, sym, ap, subst, refl, ◌∙◌, arith, append-nil, append_assoc}
+use Rattle.std.proofs.Common.{◌≡◌, ℕ, ◌+◌, ◌<◌, ◌≤◌, ◌⊎◌, ⊎_elim, true, List, [], ◌∷◌, ◌++◌, length, flat_map, set}
+use Rattle.std.proofs.Common.{slice_get, Contains, Some, sym, ap, subst, refl, ◌∙◌, arith, append-nil, append_assoc}
 use Rattle.std.proofs.lemmas.Bool.{cases_eq}
 use Rattle.std.proofs.lemmas.List.Concat.{flat_map-append}
 use Rattle.std.proofs.lemmas.List.Elements.{Contains-append_cases}
@@ -23,7 +24,8 @@ use Rattle.mako_model.proofs.DeadApart.{snaps_replied, reached_next}
 use Rattle.mako_model.proofs.Histories.{state_push, legal_prefix, legal_at, names_append}
 use Rattle.mako_names.specs.Counts.{name_of}
 use Rattle.mako_names.specs.Tables.{entry_of}
-use Rattle.mako_names.specs.Freeing.{EpochsStand, after_next, since_snap, TraceStands, AllMarked, Freeing, FreeingStands, own_entries, entry_by}
+use Rattle.mako_names.specs.Freeing.{EpochsStand, after_next, since_snap, TraceStands, AllMarked, Freeing}
+use Rattle.mako_names.specs.Freeing.{FreeingStands, own_entries, entry_by}
 use Rattle.mako_names.proofs.FreeingKinds.{SameDead, owned_within, has_server}
 use Rattle.mako_names.proofs.Since.{grow}
 use Rattle.mako_names.proofs.Words.{entry_stored, entry_else}

@@ -1,5 +1,6 @@
 -- What a mutator knows of its last attempt, at each kind of step, and that its `Full` is starved.
-use Rattle.std.proofs.Common.{◌≡◌, ℕ, ◌+◌, ◌-◌, ◌*◌, ◌/◌, ◌%◌, ◌<◌, ◌≤◌, ◌⊎◌, inl, inr, ⊎_elim, true, false, List, [], ◌∷◌, ◌++◌, length, Contains, sym, ap, subst, refl, ◌∙◌, arith, length-append}
+use Rattle.std.proofs.Common.{◌≡◌, ℕ, ◌+◌, ◌-◌, ◌*◌, ◌/◌, ◌%◌, ◌<◌, ◌≤◌, ◌⊎◌, inl, inr, ⊎_elim, true, false, List, []}
+use Rattle.std.proofs.Common.{◌∷◌, ◌++◌, length, Contains, sym, ap, subst, refl, ◌∙◌, arith, length-append}
 use Rattle.std.proofs.lemmas.Bool.{cases_eq, cases_lt}
 use Rattle.std.proofs.lemmas.List.Sums.{sum_by-append}
 use Rattle.std.proofs.Math.Nat.{mod-add-div', mod-lt, add-mod_right}
@@ -14,7 +15,8 @@ use Rattle.mako_model.specs.Heaps.{Heap}
 use Rattle.mako_model.specs.Legal.{Facts, state_of, IsLegal}
 use Rattle.mako_model.specs.Dead.{IsDead}
 use Rattle.mako_model.specs.LawfulFronts.{since, IsLawfulFront}
-use Rattle.mako_model.specs.Starved.{first_snap, IsAwaited, AreSpent, IsEntryUnavailable, IsTabletFull, IsStarved, words_by, words_made, snaps_in}
+use Rattle.mako_model.specs.Starved.{first_snap, IsAwaited, AreSpent, IsEntryUnavailable, IsTabletFull, IsStarved}
+use Rattle.mako_model.specs.Starved.{words_by, words_made, snaps_in}
 use Rattle.mako_model.proofs.CycleCounts.{cycles_stay}
 use Rattle.mako_model.proofs.DeadApart.{dead_later, snaps_replied}
 use Rattle.mako_model.proofs.Growth.{entry_stays, IsStarvedIfFull}

@@ -1,5 +1,6 @@
 -- Names in use at each kind of step.
-use Rattle.std.proofs.Common.{◌≡◌, ℕ, ⊎_elim, List, [], ◌∷◌, ◌++◌, length, set, replicate, slice_get, Contains, Some, sym, ap, subst, ◌∙◌, arith}
+use Rattle.std.proofs.Common.{◌≡◌, ℕ, ⊎_elim, List, [], ◌∷◌, ◌++◌, length, set, replicate, slice_get, Contains, Some}
+use Rattle.std.proofs.Common.{sym, ap, subst, ◌∙◌, arith}
 use Rattle.std.proofs.lemmas.Bool.{cases_eq}
 use Rattle.mako_words.specs.declared.name.Name.{Name}
 use Rattle.mako_words.specs.declared.value.Value.TheVariants.{Null, Ref}

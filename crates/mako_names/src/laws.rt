@@ -1,7 +1,10 @@
 //! What ties the table's entries and the names in use to the front, and what follows from it. The functions do
 //! nothing; what they ensure is for contracts and proofs.
 
-ghost use Rattle.mako_names.specs.Telling.{StepsKeepNames, StoresElsewhereAreSteps, OpeningsHaveNames, ReachedHaveNames, ReachedAnswer, ReachedAnswerToEnd, NamesAreInOrder, EntriesTell, GoodNamesAreTaken, SlotNamesAreTaken, HeldNamesAreTaken, RootsAreGood, FieldsAreGood, MarksReach, PassedHaveEpoch, ListsAreFreed};
+ghost use Rattle.mako_names.specs.Telling.{StepsKeepNames, StoresElsewhereAreSteps, OpeningsHaveNames};
+ghost use Rattle.mako_names.specs.Telling.{ReachedHaveNames, ReachedAnswer, ReachedAnswerToEnd, NamesAreInOrder};
+ghost use Rattle.mako_names.specs.Telling.{EntriesTell, GoodNamesAreTaken, SlotNamesAreTaken, HeldNamesAreTaken};
+ghost use Rattle.mako_names.specs.Telling.{RootsAreGood, FieldsAreGood, MarksReach, PassedHaveEpoch, ListsAreFreed};
 
 /// Each kind of step keeps the ties of names, and a store at a place of which they say nothing is one of them.
 pub fn names_are_kept()

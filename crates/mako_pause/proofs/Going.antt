@@ -119,8 +119,15 @@ barriers_stand k m count runs h =
 told_stands : (k : Holdings) → IsShape k.shape → Runs k → Stands (told k)
 told_stands k shape runs =
     either_way k.gates_shut _ _
-    (λ _. (runs, record { server = first_server k shape; place = first_tablet k shape; used = refl;
-        chosen = omega arith }))
+    (λ _. (
+      runs,
+      record {
+        server = first_server k shape;
+        place = first_tablet k shape;
+        used = refl;
+        chosen = omega arith;
+      },
+    ))
     (λ _. (runs, first_mutator k shape))
 
 polled_stands : (k : Holdings) (s : PollStage) → IsShape k.shape → Runs k → Stands (polled_at k s)
@@ -141,7 +148,7 @@ paused_stands k Choice shape runs = (runs, first_mutator k shape)
 idle_stands : (k : Holdings) (s : IdleStage) (w : ℕ) → IsShape k.shape → IdleFits k s w → Stands (idle_fed k s w)
 idle_stands k LoadingDemand w shape fits =
     either_way (nat_lt k.cycle w) _ _ (λ e. let more = is_below k.cycle w e in
-        (omega (arith, more, fits), first_mutator k shape)) (λ _. tt)
+    (omega (arith, more, fits), first_mutator k shape)) (λ _. tt)
 idle_stands k LookingFinished w shape fits = either_way (w == k.shape.mutators) _ _ (λ _. tt) (λ _. tt)
 idle_stands k StoringStop w shape fits = tt
 
@@ -151,7 +158,7 @@ root_stands k m q pending h shape = rows (nat_lt (q + 1) k.shape.roots) refl (na
   where
     rows : (a : Bool) → nat_lt (q + 1) k.shape.roots ≡ a → (b : Bool) → nat_lt (m + 1) k.shape.mutators ≡ b →
         PauseIsKnown (record k { pending = pending })
-            (cond a (LoadingRoot m (q + 1)) (cond b (LoadingRoot (m + 1) 0) StoringTrace))
+        (cond a (LoadingRoot m (q + 1)) (cond b (LoadingRoot (m + 1) 0) StoringTrace))
     rows true e b f = (h, is_below (q + 1) k.shape.roots e)
     rows false e true f = (is_below (m + 1) k.shape.mutators f, first_root k shape)
     rows false e false f = tt
@@ -160,27 +167,31 @@ pause_stands : (k : Holdings) (s : PauseStage) (w : ℕ) → IsKeptKnown k → R
     → Stands (pause_fed k s w)
 pause_stands k (Shutting pause m) w known runs h =
     either_way (m + 1 == k.shape.mutators) _ _ (λ _. (runs, first_mutator k known.shape))
-        (λ e. (runs, next_below m k.shape.mutators h e))
+    (λ e. (runs, next_below m k.shape.mutators h e))
 pause_stands k (Draining pause m) w known runs h =
     either_way (nat_lt 0 (count_of w)) _ _ (λ _. (runs, h))
     (λ _. either_way (m + 1 == k.shape.mutators) _ _ (λ _. paused_stands k pause known.shape runs)
-        (λ e. (runs, next_below m k.shape.mutators h e)))
+    (λ e. (runs, next_below m k.shape.mutators h e)))
 pause_stands k (LoadingRoot m q) w known runs h =
     (runs, root_stands k m q (k.pending ++ names_of (value_at w)) h.0 known.shape)
 pause_stands k StoringTrace w known runs h = (runs, first_mutator k known.shape)
 pause_stands k (Opening m) w known runs h =
     either_way (m + 1 == k.shape.mutators) _ _ (λ _. forward_stands k k.pending known.shape runs known.pending)
-        (λ e. (runs, next_below m k.shape.mutators h e))
+    (λ e. (runs, next_below m k.shape.mutators h e))
 
 -- the window after a look that found room has room
 has_room : (size : ℕ) (w : Window) → IsWindow size w → (found_room size w).head < (found_room size w).tail + size
 has_room size w ok = full (w.head == w.tail + size) refl (w.tail + 1 == size) refl
   where
     full : (a : Bool) → (w.head == w.tail + size) ≡ a → (b : Bool) → (w.tail + 1 == size) ≡ b →
-        (cond a (cond b (record { head = w.head - size; tail = 0 }) (record { head = w.head;
-            tail = w.tail + 1 })) w).head
-        < (cond a (cond b (record { head = w.head - size; tail = 0 }) (record { head = w.head;
-            tail = w.tail + 1 })) w).tail + size
+        (cond a (cond b (record { head = w.head - size; tail = 0 }) (record {
+          head = w.head;
+          tail = w.tail + 1;
+        })) w).head
+        < (cond a (cond b (record { head = w.head - size; tail = 0 }) (record {
+          head = w.head;
+          tail = w.tail + 1;
+        })) w).tail + size
     full true e true f = let below = ok.tail_below in
         let same : w.head ≡ w.tail + size = is_same w.head (w.tail + size) e in omega (arith, below, same)
     full true e false f = let same : w.head ≡ w.tail + size = is_same w.head (w.tail + size) e in omega (arith, same)
@@ -191,12 +202,12 @@ forward_goes : (k : Holdings) (s : ForwardStage) (w : ℕ) → IsKeptKnown k →
 forward_goes k (Looking x) w known runs h =
     let s = owner k.shape x in
     let below : s < length k.windows = (let b = owner_in_range k.shape x h.0 in let count = known.windows_count in
-        omega (arith, b, count)) in
+    omega (arith, b, count)) in
     let v = found_room k.shape.ring (window_of k s) in
     let here : window_of (set_window k s v) s ≡ v = set_here k.windows s v no_window below in
     let room = has_room k.shape.ring (window_of k s) (known.windows s no_window below) in
     either_way (w == 0) _ _ (λ _. (runs, (h, subst (λ (u : Window). u.head < u.tail + k.shape.ring) (sym here) room)))
-        (λ _. (runs, h))
+    (λ _. (runs, h))
 forward_goes k (Storing x) w known runs h =
     forward_stands (set_window k (owner k.shape x) (head_up (window_of k (owner k.shape x)))) k.pending known.shape runs
     known.pending
@@ -212,7 +223,7 @@ emptied_stands : (k : Holdings) (s w : ℕ) → IsKeptKnown k → Runs k → Emp
 emptied_stands k s w known runs h =
     let v = tail_up k.shape.ring (window_of k s) in
     either_way (w == 0) _ _ (λ _. empty_stands (set_window k s v) (length-set k.windows s v ∙ known.windows_count) runs)
-        (λ _. (runs, h))
+    (λ _. (runs, h))
 
 -- the region that a server has to give is one
 spare_below : (roles : List Role) (cycle first count region : ℕ) → spare_between roles cycle first count ≡ Some region
@@ -233,7 +244,7 @@ spare_below roles cycle first count region is =
 gift_stands : (k : Holdings) (i former : ℕ) → Runs k → i < length k.chosen → former < all_regions k
     → k.shape.servers * (k.shape.tablets + k.shape.spare) ≡ all_regions k →
     (chosen_tablet k i < k.shape.servers * k.shape.tablets)
-        → Stands (gift_of k i former (spare_for k (chosen_tablet k i)))
+    → Stands (gift_of k i former (spare_for k (chosen_tablet k i)))
 gift_stands k i former runs h fits same tablet = go (spare_for k (chosen_tablet k i)) refl
   where
     go : (o : Option ℕ) → spare_for k (chosen_tablet k i) ≡ o → Stands (gift_of k i former o)
@@ -241,7 +252,7 @@ gift_stands k i former runs h fits same tablet = go (spare_for k (chosen_tablet 
     go (Some region) e =
         let low = spare_below k.roles (k.cycle + 1) _ (k.shape.tablets + k.shape.spare) region e in
         let row = row_within _ k.shape.servers (k.shape.tablets + k.shape.spare)
-            (belongings_in_range.tablet k.shape (chosen_tablet k i) tablet) in
+        (belongings_in_range.tablet k.shape (chosen_tablet k i) tablet) in
         (runs, (h, fits, omega (arith, low, row)))
 
 loaded_stands : (k : Holdings) (s p : ℕ) → IsShape k.shape → Runs k → s < k.shape.servers → p < k.shape.tablets
@@ -249,10 +260,24 @@ loaded_stands : (k : Holdings) (s p : ℕ) → IsShape k.shape → Runs k → s 
 loaded_stands k s p shape runs server place used chosen =
     either_way (p + 1 == k.shape.tablets) _ _
     (λ _. either_way (s + 1 == k.shape.servers) _ _ (λ _. gifts_stand (server_chosen k s) 0 runs)
-    (λ e. (runs, record { server = next_below s k.shape.servers server e; place = first_tablet k shape; used = refl;
-        chosen = more })))
-    (λ e. (runs, record { server = server; place = next_below p k.shape.tablets place e; used = used;
-        chosen = chosen }))
+    (λ e. (
+      runs,
+      record {
+        server = next_below s k.shape.servers server e;
+        place = first_tablet k shape;
+        used = refl;
+        chosen = more;
+      },
+    )))
+    (λ e. (
+      runs,
+      record {
+        server = server;
+        place = next_below p k.shape.tablets place e;
+        used = used;
+        chosen = chosen;
+      },
+    ))
   where
     more : length (k.chosen ++ map (λ place. s * k.shape.tablets + place) (choice k.used k.shape.spare)) ≤ (s + 1)
         * k.shape.spare
@@ -276,7 +301,7 @@ choice_stands k (StoringTop i) w known runs h fits = gifts_stand k (i + 1) runs
 choice_stands k StoringEvac w known runs h fits = (runs, first_mutator k known.shape)
 choice_stands k (Reopening m) w known runs h fits =
     either_way (m + 1 == k.shape.mutators) _ _ (λ _. (runs, first_server k known.shape))
-        (λ e. (runs, next_below m k.shape.mutators h e))
+    (λ e. (runs, next_below m k.shape.mutators h e))
 
 noticed_stands : (k : Holdings) (s : ℕ) (told : NoticeWord) → Runs k → s < k.shape.servers → Stands (noticed k s told)
 noticed_stands k s (Freed x) runs h = (runs, h)

@@ -210,8 +210,10 @@ gift_of k i former None = at k (Choosing StoringEvac)
 
 -- the tablets of a server are loaded: those chosen go behind the others
 abbrev pub server_chosen : Holdings → ℕ → Holdings
-server_chosen k s = record k { used = [];
-    chosen = k.chosen ++ map (λ place. s * k.shape.tablets + place) (choice k.used k.shape.spare) }
+server_chosen k s = record k {
+  used = [];
+  chosen = k.chosen ++ map (λ place. s * k.shape.tablets + place) (choice k.used k.shape.spare);
+}
 
 abbrev pub servers_from : Holdings → ℕ → Collecting
 servers_from k s = if s == k.shape.servers then gifts_from k 0 else at k (Choosing (LoadingLive s 0))
@@ -258,7 +260,7 @@ pause_fed k (Opening m) w = if m + 1 == k.shape.mutators then forward k else at 
 abbrev pub forward_fed : Holdings → ForwardStage → ℕ → Collecting
 forward_fed k (Looking x) w =
     if w == 0 then at (set_window k (owner k.shape x) (found_room k.shape.ring (window_of k (owner k.shape x))))
-        (Forwarding (Storing x))
+    (Forwarding (Storing x))
     else at k (Forwarding (Looking x))
 forward_fed k (Storing x) w = forward (set_window k (owner k.shape x) (head_up (window_of k (owner k.shape x))))
 
@@ -284,7 +286,7 @@ choice_fed k (StoringLeaving i gift) w = at k (Choosing (StoringHome i gift))
 -- the former region may be given out from the next cycle on
 choice_fed k (StoringHome i gift) w =
     at (record k { roles = slice_set (slice_set k.roles gift.region Home) gift.former (Spare (running k + 1)) })
-        (Choosing (StoringTop i))
+    (Choosing (StoringTop i))
 choice_fed k (StoringTop i) w = gifts_from k (i + 1)
 choice_fed k StoringEvac w = at (record k { gates_shut = false }) (Choosing (Reopening 0))
 choice_fed k (Reopening m) w =
@@ -298,8 +300,11 @@ noticed k s Done = if s + 1 == k.shape.servers then at k (Noticing StoringIdle) 
 
 -- the running cycle is finished
 abbrev pub finish : Holdings → Holdings
-finish k = record k { cycle = running k; freed = [];
-    cycles = record k.cycles { lists = k.cycles.lists ++ k.freed ∷ [] } }
+finish k = record k {
+  cycle = running k;
+  freed = [];
+  cycles = record k.cycles { lists = k.cycles.lists ++ k.freed ∷ [] };
+}
 
 abbrev pub notice_fed : Holdings → NoticeStage → ℕ → Collecting
 notice_fed k (NoticeLook s) w =

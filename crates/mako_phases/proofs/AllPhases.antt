@@ -2,10 +2,16 @@
 use Rattle.std.proofs.Common.{sym, subst}
 use Rattle.mako_shape.specs.declared.numbers.Numbers.{Numbers}
 use Rattle.mako_phases.specs.Orders.{PhaseOrder, AreDrained}
-use Rattle.mako_phases.specs.Steps.{PhaseScene, PhaseStep, Unseen, Looks, Forgets, Lowers, Enters, Leaves, Keeps, Asks, Demands, StoresRoot, Shades, Publishes, Moves, Turns, Returns, Finds, Works, MovesName, Marks, Passes, Meets, Shuts, Clears, Reopens, Frees, Notes, Ends, Begins, Drains, LoadsRoot, Snaps, Carries, Told, Chooses, Evacuates, Hears, Finishes, Stops}
-use Rattle.mako_phases.proofs.Seats.{unseen, forgets, lowers, enters, leaves, keeps, asks, demands, stores_root, shades, publishes, moves, frees, turns, returns, finds, works, moves_name, marks, passes, meets, shuts, clears, reopens}
+use Rattle.mako_phases.specs.Steps.{PhaseScene, PhaseStep, Unseen, Looks, Forgets, Lowers, Enters, Leaves, Keeps, Asks}
+use Rattle.mako_phases.specs.Steps.{Demands, StoresRoot, Shades, Publishes, Moves, Turns, Returns, Finds, Works}
+use Rattle.mako_phases.specs.Steps.{MovesName, Marks, Passes, Meets, Shuts, Clears, Reopens, Frees, Notes, Ends, Begins}
+use Rattle.mako_phases.specs.Steps.{Drains, LoadsRoot, Snaps, Carries, Told, Chooses, Evacuates, Hears, Finishes, Stops}
+use Rattle.mako_phases.proofs.Seats.{unseen, forgets, lowers, enters, leaves, keeps, asks, demands, stores_root, shades}
+use Rattle.mako_phases.proofs.Seats.{publishes, moves, frees, turns, returns, finds, works, moves_name, marks, passes}
+use Rattle.mako_phases.proofs.Seats.{meets, shuts, clears, reopens}
 use Rattle.mako_phases.proofs.Notices.{notes, ends}
-use Rattle.mako_phases.proofs.Collector.{begins, drains, loads_root, snaps, carries, told, chooses, evacuates, hears, finishes, stops}
+use Rattle.mako_phases.proofs.Collector.{begins, drains, loads_root, snaps, carries, told, chooses, evacuates, hears}
+use Rattle.mako_phases.proofs.Collector.{finishes, stops}
 
 module _ (n : Numbers) (s after : PhaseScene) (o : PhaseOrder n s.words s.facets) (d : AreDrained s.facets) where
   abbrev Kept : PhaseScene → Type 0

@@ -1,5 +1,6 @@
 -- The steps of the collector keep the order of the phases.
-use Rattle.std.proofs.Common.{◌≡◌, ℕ, ◌+◌, ◌*◌, ◌/◌, ◌%◌, ◌<◌, ◌≤◌, ◌⊎◌, inl, inr, ⊎_elim, List, [], ◌∷◌, ◌++◌, Contains, set, slice_get, Some, Bool, false, sym, ap, subst, refl, ◌∙◌, arith, add-one}
+use Rattle.std.proofs.Common.{◌≡◌, ℕ, ◌+◌, ◌*◌, ◌/◌, ◌%◌, ◌<◌, ◌≤◌, ◌⊎◌, inl, inr, ⊎_elim, List, [], ◌∷◌, ◌++◌}
+use Rattle.std.proofs.Common.{Contains, set, slice_get, Some, Bool, false, sym, ap, subst, refl, ◌∙◌, arith, add-one}
 use Rattle.std.proofs.lemmas.Bool.{cases_lt}
 use Rattle.std.proofs.lemmas.List.Elements.{Contains-push, Contains-append_left, Contains-append_right}
 use Rattle.mako_words.specs.declared.name.Name.{Name}
@@ -12,13 +13,20 @@ use Rattle.mako_shape.specs.Belongings.{server_of_tablet}
 use Rattle.mako_shape.proofs.PlaceLaws.{word_same}
 use Rattle.mako_shape.proofs.Rows.{div-below}
 use Rattle.mako_phases.proofs.Frames.{written}
-use Rattle.mako_phases.specs.Facets.{Part, idle, pausing, rooting, tracing, choosing, evacuating, stopped, ServerStage, resting, Admission, PhaseFacet, mutating, serving, collecting, role_of, mutator, server, collector, phase_during, cycle_during, IsRestful, IsInPause, IsNotAdmitted}
+use Rattle.mako_phases.specs.Facets.{Part, idle, pausing, rooting, tracing, choosing, evacuating, stopped, ServerStage}
+use Rattle.mako_phases.specs.Facets.{resting, Admission, PhaseFacet, mutating, serving, collecting, role_of, mutator}
+use Rattle.mako_phases.specs.Facets.{server, collector, phase_during, cycle_during, IsRestful, IsInPause, IsNotAdmitted}
 use Rattle.mako_names.specs.Uses.{IsUseSlot}
-use Rattle.mako_phases.specs.Orders.{BoundFits, names_in, loaded_names, PendingFits, MayLeave, MayTell, WordsStand, IsResting, IsParting, ServerStands, SeatStands, PhaseOrder, AreDrained}
-use Rattle.mako_phases.proofs.Frames.{get_unmap, agree_else, IsDemand, IsNotice, IsLeaving, IsEntry, IsServerWord, asked_on, slots_on, once_on, epochs_on, at_within, server_on, seat_on, the_words, the_seats, collector_moves}
-use Rattle.mako_phases.proofs.Writes.{slot_only, IsRooting, pends_free, size_after, write_slot, write_leaving, write_notice}
+use Rattle.mako_phases.specs.Orders.{BoundFits, names_in, loaded_names, PendingFits, MayLeave, MayTell, WordsStand}
+use Rattle.mako_phases.specs.Orders.{IsResting, IsParting, ServerStands, SeatStands, PhaseOrder, AreDrained}
+use Rattle.mako_phases.proofs.Frames.{get_unmap, agree_else, IsDemand, IsNotice, IsLeaving, IsEntry, IsServerWord}
+use Rattle.mako_phases.proofs.Frames.{asked_on, slots_on, once_on, epochs_on, at_within, server_on, seat_on, the_words}
+use Rattle.mako_phases.proofs.Frames.{the_seats, collector_moves}
+use Rattle.mako_phases.proofs.Writes.{slot_only, IsRooting, pends_free, size_after, write_slot, write_leaving}
+use Rattle.mako_phases.proofs.Writes.{write_notice}
 use Rattle.mako_phases.proofs.Parts.{server_part}
-use Rattle.mako_phases.proofs.PartChanges.{standing_part, outside_part, seat_part, rest_no_pass, rest_no_leaving, rest_traces, trace_no_pass, trace_no_leaving, trace_evacuates, ended_rests}
+use Rattle.mako_phases.proofs.PartChanges.{standing_part, outside_part, seat_part, rest_no_pass, rest_no_leaving}
+use Rattle.mako_phases.proofs.PartChanges.{rest_traces, trace_no_pass, trace_no_leaving, trace_evacuates, ended_rests}
 
 none_loaded : (n : Numbers) (words : List ℕ) (pending : List Name) → pending ≡ [] → pending ≡ loaded_names n words 0
 unfolding loaded_names

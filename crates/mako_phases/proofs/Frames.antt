@@ -1,5 +1,6 @@
 -- What the order of the phases says of words that a step leaves, and of seats that it leaves.
-use Rattle.std.proofs.Common.{◌≡◌, ◌≢◌, ℕ, zero, suc, ◌*◌, ◌/◌, ◌%◌, ◌<◌, ◌≤◌, ◌⊎◌, inl, inr, ⊎_elim, List, [], ◌∷◌, ◌++◌, length, map, set, slice_get, Some, Bool, sym, ap, subst, refl, ◌∙◌, arith}
+use Rattle.std.proofs.Common.{◌≡◌, ◌≢◌, ℕ, zero, suc, ◌*◌, ◌/◌, ◌%◌, ◌<◌, ◌≤◌, ◌⊎◌, inl, inr, ⊎_elim, List, [], ◌∷◌}
+use Rattle.std.proofs.Common.{◌++◌, length, map, set, slice_get, Some, Bool, sym, ap, subst, refl, ◌∙◌, arith}
 use Rattle.std.proofs.lemmas.Bool.{cases_eq}
 use Rattle.std.proofs.lemmas.Option.{same_Some, none-some}
 use Rattle.mako_words.specs.declared.name.Name.{Name}
@@ -7,15 +8,19 @@ use Rattle.mako_words.specs.Entries.{entry_at}
 use Rattle.mako_words.specs.Phases.{phase_word}
 use Rattle.mako_words.specs.Values.{value_at}
 use Rattle.mako_shape.specs.declared.numbers.Numbers.{Numbers}
-use Rattle.mako_shape.specs.Places.{Place, phase, demand, root, barrier, work, ghost, notice, leaving, entry, index, total, Within, word_at}
+use Rattle.mako_shape.specs.Places.{Place, phase, demand, root, barrier, work, ghost, notice, leaving, entry, index}
+use Rattle.mako_shape.specs.Places.{total, Within, word_at}
 use Rattle.mako_shape.specs.Belongings.{server_of_tablet}
 use Rattle.mako_shape.proofs.PlaceLaws.{one_place, word_same, word_other}
 use Rattle.mako_shape.proofs.Rows.{div-below, mod-below}
 use Rattle.mako_model.proofs.Lists.{get_set_same, get_set_other, get_set_cases}
 use Rattle.mako_names.specs.Tables.{entry_of}
-use Rattle.mako_phases.specs.Facets.{Part, idle, pausing, rooting, tracing, choosing, evacuating, stopped, ServerStage, clearing, PhaseFacet, mutating, serving, collecting, role_of, phase_during, cycle_during, IsRestful}
+use Rattle.mako_phases.specs.Facets.{Part, idle, pausing, rooting, tracing, choosing, evacuating, stopped, ServerStage}
+use Rattle.mako_phases.specs.Facets.{clearing, PhaseFacet, mutating, serving, collecting, role_of, phase_during}
+use Rattle.mako_phases.specs.Facets.{cycle_during, IsRestful}
 use Rattle.mako_names.specs.Uses.{IsUseSlot}
-use Rattle.mako_phases.specs.Orders.{BoundFits, names_in, loaded_names, PendingFits, MayLeave, MayTell, WordsStand, IsAtLeaving, IsAtOwn, ServerStands, SeatStands, AreSeated, PhaseOrder}
+use Rattle.mako_phases.specs.Orders.{BoundFits, names_in, loaded_names, PendingFits, MayLeave, MayTell, WordsStand}
+use Rattle.mako_phases.specs.Orders.{IsAtLeaving, IsAtOwn, ServerStands, SeatStands, AreSeated, PhaseOrder}
 use Rattle.mako_phases.specs.Steps.{IsPhaseWord}
 
 -- ---- lists

@@ -1,5 +1,6 @@
 -- Live counts from cycle to cycle, and what they tell.
-use Rattle.std.proofs.Common.{◌≡◌, ℕ, ◌+◌, ◌<◌, ◌≤◌, List, [], ◌∷◌, Contains, length, map, slice_get, Option, Some, None, sym, ap, subst, refl, ◌∙◌, arith}
+use Rattle.std.proofs.Common.{◌≡◌, ℕ, ◌+◌, ◌<◌, ◌≤◌, List, [], ◌∷◌, Contains, length, map, slice_get, Option, Some}
+use Rattle.std.proofs.Common.{None, sym, ap, subst, refl, ◌∙◌, arith}
 use Rattle.mako_words.specs.declared.name.Name.{Name}
 use Rattle.mako_words.specs.Lives.{live_at}
 use Rattle.mako_shape.specs.declared.numbers.Numbers.{Numbers}
@@ -13,7 +14,8 @@ use Rattle.mako_model.specs.Reachable.{StandsInRoot, StandsInField, LeadsTo, IsR
 use Rattle.mako_model.specs.Dead.{names_made}
 use Rattle.mako_model.proofs.Closed.{closed_heap, made_are_objects}
 use Rattle.mako_phases.specs.Marked.{IsMarked}
-use Rattle.mako_phases.specs.Lives.{LiveFacet, elsewhere, counting, counter_of, live_count, own_count, owed_to, IsCounted, IsSum, CounterStands, CountFits, AreCounted, ArePast}
+use Rattle.mako_phases.specs.Lives.{LiveFacet, elsewhere, counting, counter_of, live_count, own_count, owed_to}
+use Rattle.mako_phases.specs.Lives.{IsCounted, IsSum, CounterStands, CountFits, AreCounted, ArePast}
 use Rattle.mako_phases.specs.LiveSteps.{AgreeOnLives, MarksAreTheReached, CountsReached}
 use Rattle.mako_phases.proofs.Members.{no_member}
 use Rattle.mako_phases.proofs.Lives.{sum_to, count_past, live_past}

@@ -1,9 +1,12 @@
 -- Live counts are kept, and count what was reachable at the snapshot.
-use Rattle.std.proofs.Common.{◌≡◌, ◌≢◌, ℕ, zero, suc, ◌+◌, ◌*◌, ◌/◌, ◌%◌, ◌<◌, ◌≤◌, ◌^◌, ◌⊎◌, inl, inr, ⊎_elim, ◌↔◌, List, [], ◌∷◌, ◌++◌, Contains, length, map, set, replicate, get_or, slice_get, slice_index, Option, Some, None, Bool, cond, sym, ap, subst, refl, ◌∙◌, arith}
+use Rattle.std.proofs.Common.{◌≡◌, ◌≢◌, ℕ, zero, suc, ◌+◌, ◌*◌, ◌/◌, ◌%◌, ◌<◌, ◌≤◌, ◌^◌, ◌⊎◌, inl, inr, ⊎_elim, ◌↔◌}
+use Rattle.std.proofs.Common.{List, [], ◌∷◌, ◌++◌, Contains, length, map, set, replicate, get_or, slice_get}
+use Rattle.std.proofs.Common.{slice_index, Option, Some, None, Bool, cond, sym, ap, subst, refl, ◌∙◌, arith}
 use Rattle.std.proofs.lemmas.Bool.{cases_eq, eq-eqb, ne_eqb}
 use Rattle.std.proofs.lemmas.List.{length-set, get_or-set_same, get_or-set_other, length-replicate}
 use Rattle.std.proofs.lemmas.List.Sums.{sum_by_push}
-use Rattle.std.proofs.lemmas.List.Elements.{Contains-push_cases, Contains-append_left, Contains-append_right, Contains-push}
+use Rattle.std.proofs.lemmas.List.Elements.{Contains-push_cases, Contains-append_left, Contains-append_right}
+use Rattle.std.proofs.lemmas.List.Elements.{Contains-push}
 use Rattle.mako_words.specs.declared.name.Name.{Name}
 use Rattle.mako_words.specs.declared.live_word.LiveWord.{LiveWord}
 use Rattle.mako_words.specs.Lives.{live_word, live_at}
@@ -17,8 +20,10 @@ use Rattle.mako_model.specs.Dead.{names_made}
 use Rattle.mako_model.proofs.Lists.{get_set_cases}
 use Rattle.mako_phases.specs.Marked.{IsMarked}
 use Rattle.mako_phases.proofs.MarkSteps.{marked_same as marked_stays}
-use Rattle.mako_phases.specs.Lives.{LiveFacet, elsewhere, counting, counter_of, record_size, live_in, own_count, owed_to, AreOnce, IsCounted, IsSum, CounterStands, CountFits, AreCounted}
-use Rattle.mako_phases.specs.LiveSteps.{LiveScene, CountsStandIn, AgreeOnLives, OldMarksStay, OldMarksAdd, LiveStep, Unseen, Begins, Marks, Counts}
+use Rattle.mako_phases.specs.Lives.{LiveFacet, elsewhere, counting, counter_of, record_size, live_in, own_count}
+use Rattle.mako_phases.specs.Lives.{owed_to, AreOnce, IsCounted, IsSum, CounterStands, CountFits, AreCounted}
+use Rattle.mako_phases.specs.LiveSteps.{LiveScene, CountsStandIn, AgreeOnLives, OldMarksStay, OldMarksAdd, LiveStep}
+use Rattle.mako_phases.specs.LiveSteps.{Unseen, Begins, Marks, Counts}
 use Rattle.mako_phases.proofs.Members.{no_member}
 use Rattle.mako_phases.proofs.Frames.{get_map, map_frame, agree_else, written, IsEntry}
 

@@ -1,5 +1,6 @@
 -- What entry words do to the marks of old names.
-use Rattle.std.proofs.Common.{◌≡◌, ◌≢◌, ℕ, ◌⊎◌, inl, inr, ⊎_elim, List, Contains, length, set, true, false, sym, ap, subst, refl, ◌∙◌}
+use Rattle.std.proofs.Common.{◌≡◌, ◌≢◌, ℕ, ◌⊎◌, inl, inr, ⊎_elim, List, Contains, length, set, true, false, sym, ap}
+use Rattle.std.proofs.Common.{subst, refl, ◌∙◌}
 use Rattle.mako_words.specs.declared.name.Name.{Name}
 use Rattle.mako_words.specs.declared.entry_word.EntryWord.{EntryWord}
 use Rattle.mako_words.specs.Entries.{entry_at}

@@ -4,7 +4,8 @@ use Rattle.std.proofs.lemmas.Bool.{cases_lt}
 use Rattle.mako_shape.specs.declared.numbers.Numbers.{Numbers}
 use Rattle.mako_shape.specs.Places.{notice, leaving, index, Within}
 use Rattle.mako_phases.proofs.Frames.{written}
-use Rattle.mako_phases.specs.Facets.{Part, idle, pausing, rooting, tracing, choosing, evacuating, stopped, resting, freeing, PhaseFacet, mutating, serving, collecting, cycle_during}
+use Rattle.mako_phases.specs.Facets.{Part, idle, pausing, rooting, tracing, choosing, evacuating, stopped, resting}
+use Rattle.mako_phases.specs.Facets.{freeing, PhaseFacet, mutating, serving, collecting, cycle_during}
 use Rattle.mako_phases.specs.Orders.{MayTell, ServerFits, ServerStands, SeatStands, PhaseOrder, AreDrained}
 use Rattle.mako_phases.proofs.Frames.{agree_else, IsLeaving, at_within, stays, seat_moves}
 use Rattle.mako_phases.proofs.Writes.{write_notice}

@@ -1,8 +1,11 @@
 -- Seats where the collector comes to another part of a cycle.
 use Rattle.std.proofs.Common.{◌≡◌, ℕ, ◌+◌, inr, ◌↔◌, List, Some, None, sym, ◌∙◌, arith}
 use Rattle.mako_shape.specs.declared.numbers.Numbers.{Numbers}
-use Rattle.mako_phases.specs.Facets.{Part, ServerStage, resting, working, clearing, freeing, gone, Admission, outside, asking, inside, PhaseFacet, mutating, serving, collecting, phase_during, cycle_during, IsRestful, IsNotAdmitted}
-use Rattle.mako_phases.specs.Orders.{IsTracePhase, AdmissionFits, IsResting, TracesIn, EvacuatesIn, ServerFits, StagePassed, IsAtLeaving, SeatStands}
+use Rattle.mako_phases.specs.Facets.{Part, ServerStage, resting, working, clearing, freeing, gone, Admission, outside}
+use Rattle.mako_phases.specs.Facets.{asking, inside, PhaseFacet, mutating, serving, collecting, phase_during}
+use Rattle.mako_phases.specs.Facets.{cycle_during, IsRestful, IsNotAdmitted}
+use Rattle.mako_phases.specs.Orders.{IsTracePhase, AdmissionFits, IsResting, TracesIn, EvacuatesIn, ServerFits}
+use Rattle.mako_phases.specs.Orders.{StagePassed, IsAtLeaving, SeatStands}
 use Rattle.mako_phases.proofs.Parts.{server_part}
 
 -- a mutator, where the phase is of the same cycle and as much Trace as before

@@ -1,5 +1,6 @@
 -- What the parts of the collector say of servers and of kept phases.
-use Rattle.std.proofs.Common.{◌≡◌, ◌≢◌, ℕ, ◌+◌, ◌-◌, ◌*◌, ◌/◌, ◌%◌, ◌<◌, ◌≤◌, ◌^◌, inl, inr, ⊎_elim, List, Bool, false, eqb, sym, ap, subst, refl, ◌∙◌, arith}
+use Rattle.std.proofs.Common.{◌≡◌, ◌≢◌, ℕ, ◌+◌, ◌-◌, ◌*◌, ◌/◌, ◌%◌, ◌<◌, ◌≤◌, ◌^◌, inl, inr, ⊎_elim, List, Bool, false}
+use Rattle.std.proofs.Common.{eqb, sym, ap, subst, refl, ◌∙◌, arith}
 use Rattle.std.proofs.lemmas.Bool.{cond_both, eqb-true, eqb-false}
 use Rattle.std.proofs.lemmas.Nat.{div-mul-add}
 use Rattle.std.proofs.Math.Nat.{mul-add, mul-le-mul_left}
@@ -10,7 +11,9 @@ use Rattle.mako_shape.specs.declared.numbers.Numbers.{Numbers}
 use Rattle.mako_shape.specs.Limits.{IsShape}
 use Rattle.mako_shape.specs.Places.{phase, leaving, Within, word_at}
 use Rattle.mako_shape.specs.Belongings.{server_of_tablet}
-use Rattle.mako_phases.specs.Facets.{Part, idle, pausing, rooting, tracing, choosing, evacuating, stopped, TabletStage, looking, ServerStage, resting, working, clearing, freeing, gone, phase_during, cycle_during, IsRestful, IsInPause}
+use Rattle.mako_phases.specs.Facets.{Part, idle, pausing, rooting, tracing, choosing, evacuating, stopped, TabletStage}
+use Rattle.mako_phases.specs.Facets.{looking, ServerStage, resting, working, clearing, freeing, gone, phase_during}
+use Rattle.mako_phases.specs.Facets.{cycle_during, IsRestful, IsInPause}
 use Rattle.mako_phases.specs.Orders.{BoundFits, WordsStand, IsTracePhase, ServerFits, HasPassed, ServerStands}
 use Rattle.mako_phases.specs.Steps.{next_tablet, stage_turned}
 

@@ -1,13 +1,16 @@
 -- Openings are in order, and so is what steps lead to from there.
-use Rattle.std.proofs.Common.{◌≡◌, ◌≢◌, ℕ, inl, ⊎_elim, List, [], length, map, slice_get, Some, sym, ap, subst, refl, ◌∙◌, arith}
+use Rattle.std.proofs.Common.{◌≡◌, ◌≢◌, ℕ, inl, ⊎_elim, List, [], length, map, slice_get, Some, sym, ap, subst, refl}
+use Rattle.std.proofs.Common.{◌∙◌, arith}
 use Rattle.std.proofs.lemmas.Bool.{cases_eq}
 use Rattle.std.proofs.lemmas.Option.{same_Some}
 use Rattle.mako_shape.specs.declared.numbers.Numbers.{Numbers}
 use Rattle.mako_shape.specs.Limits.{IsShape}
-use Rattle.mako_shape.specs.Places.{Place, phase, demand, barrier, work, ghost, notice, leaving, entry, Within, word_at, total}
+use Rattle.mako_shape.specs.Places.{Place, phase, demand, barrier, work, ghost, notice, leaving, entry, Within, word_at}
+use Rattle.mako_shape.specs.Places.{total}
 use Rattle.mako_names.specs.Tables.{entry_of}
 use Rattle.mako_names.specs.Uses.{IsUseSlot}
-use Rattle.mako_phases.specs.Facets.{idle, ServerStage, resting, Admission, PhaseFacet, mutating, serving, collecting, role_of}
+use Rattle.mako_phases.specs.Facets.{idle, ServerStage, resting, Admission, PhaseFacet, mutating, serving, collecting}
+use Rattle.mako_phases.specs.Facets.{role_of}
 use Rattle.mako_phases.specs.Orders.{IsResting, IsAtOwn, IsAtLeaving, SeatStands, AreSeated, PhaseOrder}
 use Rattle.mako_phases.specs.Steps.{PhaseScene, PhaseOrderIn, IsPhaseWord}
 use Rattle.mako_phases.specs.Reaching.{IsOpeningFacet, IsRootOrEntry, IsPhaseOpening, PhaseReached, Opens, Goes}

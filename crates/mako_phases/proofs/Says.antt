@@ -1,7 +1,9 @@
 -- What the order of the phases tells.
-use Rattle.std.proofs.Common.{◌≡◌, ℕ, zero, suc, ◌+◌, ◌*◌, ◌/◌, ◌%◌, ◌<◌, ◌≤◌, inl, ⊎_elim, List, [], Contains, slice_get, Some, Bool, sym, ap, subst, refl, ◌∙◌, arith}
+use Rattle.std.proofs.Common.{◌≡◌, ℕ, zero, suc, ◌+◌, ◌*◌, ◌/◌, ◌%◌, ◌<◌, ◌≤◌, inl, ⊎_elim, List, [], Contains}
+use Rattle.std.proofs.Common.{slice_get, Some, Bool, sym, ap, subst, refl, ◌∙◌, arith}
 use Rattle.std.proofs.lemmas.Bool.{cases_eq}
-use Rattle.std.proofs.lemmas.List.Elements.{Contains-append_cases, Contains-append_left, Contains-append_right, Contains-push, Contains-push_cases}
+use Rattle.std.proofs.lemmas.List.Elements.{Contains-append_cases, Contains-append_left, Contains-append_right}
+use Rattle.std.proofs.lemmas.List.Elements.{Contains-push, Contains-push_cases}
 use Rattle.mako_words.specs.declared.name.Name.{Name}
 use Rattle.mako_words.specs.declared.value.Value.{Value}
 use Rattle.mako_words.specs.declared.value.Value.TheVariants.{Null, Num, Ref}
@@ -12,8 +14,11 @@ use Rattle.mako_shape.specs.declared.numbers.Numbers.{Numbers}
 use Rattle.mako_shape.specs.Places.{root, leaving, entry, Within, word_at}
 use Rattle.mako_shape.specs.Belongings.{server_of_tablet}
 use Rattle.mako_names.specs.Tables.{entry_of, phase_of}
-use Rattle.mako_phases.specs.Facets.{Part, idle, pausing, rooting, tracing, choosing, evacuating, stopped, TabletStage, ServerStage, clearing, PhaseFacet, serving, collecting, phase_during, cycle_during, IsRestful}
-use Rattle.mako_phases.specs.Orders.{names_in, loaded_names, MayLeave, ServerFits, ServerStands, PhaseOrder, AreDrained, AreUnladen}
+use Rattle.mako_phases.specs.Facets.{Part, idle, pausing, rooting, tracing, choosing, evacuating, stopped, TabletStage}
+use Rattle.mako_phases.specs.Facets.{ServerStage, clearing, PhaseFacet, serving, collecting, phase_during, cycle_during}
+use Rattle.mako_phases.specs.Facets.{IsRestful}
+use Rattle.mako_phases.specs.Orders.{names_in, loaded_names, MayLeave, ServerFits, ServerStands, PhaseOrder, AreDrained}
+use Rattle.mako_phases.specs.Orders.{AreUnladen}
 use Rattle.mako_phases.specs.Laws.{SlotsAreEmpty, IsStill, IsStaying, IsReadyForSnapshot}
 use Rattle.mako_phases.proofs.Members.{no_member}
 use Rattle.mako_phases.proofs.Frames.{root_within, the_words, the_seats}

@@ -1,5 +1,6 @@
 -- The steps of mutators and servers keep the order of the phases.
-use Rattle.std.proofs.Common.{◌≡◌, ◌≢◌, ℕ, ◌+◌, ◌≤◌, inl, inr, ⊎_elim, List, map, set, slice_get, Option, Some, None, Bool, true, false, max, sym, ap, subst, refl, ◌∙◌, arith}
+use Rattle.std.proofs.Common.{◌≡◌, ◌≢◌, ℕ, ◌+◌, ◌≤◌, inl, inr, ⊎_elim, List, map, set, slice_get, Option, Some, None}
+use Rattle.std.proofs.Common.{Bool, true, false, max, sym, ap, subst, refl, ◌∙◌, arith}
 use Rattle.std.proofs.lemmas.Bool.{cases_lt}
 use Rattle.std.proofs.Math.Nat.{max-le}
 use Rattle.mako_words.specs.declared.phase_word.PhaseWord.{PhaseWord}
@@ -11,13 +12,18 @@ use Rattle.mako_shape.specs.Places.{Place, phase, demand, root, barrier, notice,
 use Rattle.mako_shape.specs.Belongings.{server_of_tablet}
 use Rattle.mako_names.specs.Tables.{entry_of}
 use Rattle.mako_phases.proofs.Frames.{written}
-use Rattle.mako_phases.specs.Facets.{Part, rooting, looking, found, shut, cleared, ServerStage, resting, working, clearing, outside, asking, inside, PhaseFacet, mutating, serving, collecting, role_of, server, phase_during, cycle_during, IsRestful, IsInPause}
+use Rattle.mako_phases.specs.Facets.{Part, rooting, looking, found, shut, cleared, ServerStage, resting, working}
+use Rattle.mako_phases.specs.Facets.{clearing, outside, asking, inside, PhaseFacet, mutating, serving, collecting}
+use Rattle.mako_phases.specs.Facets.{role_of, server, phase_during, cycle_during, IsRestful, IsInPause}
 use Rattle.mako_names.specs.Uses.{IsUseSlot}
 use Rattle.mako_phases.specs.Orders.{KeptFits, ServerStands, SeatStands, PhaseOrder, AreDrained}
 use Rattle.mako_phases.specs.Steps.{IsPhaseWord, next_tablet, stage_turned}
-use Rattle.mako_phases.proofs.Frames.{get_map, agree_else, IsServerWord, IsNotice, IsOther, at_within, at_own, seat_on, server_on, SeatsStand, stays, seat_moves}
-use Rattle.mako_phases.proofs.Writes.{slot_only, unseen_server, IsRooting, write_unseen, write_slot, write_demand, write_root, write_entry, write_leaving}
-use Rattle.mako_phases.proofs.Parts.{tablets_some, bound_cycle, phase_found, goes_on, turn_stands, back_stands, work_cycle, clear_fits, free_fits, shading_part}
+use Rattle.mako_phases.proofs.Frames.{get_map, agree_else, IsServerWord, IsNotice, IsOther, at_within, at_own, seat_on}
+use Rattle.mako_phases.proofs.Frames.{server_on, SeatsStand, stays, seat_moves}
+use Rattle.mako_phases.proofs.Writes.{slot_only, unseen_server, IsRooting, write_unseen, write_slot, write_demand}
+use Rattle.mako_phases.proofs.Writes.{write_root, write_entry, write_leaving}
+use Rattle.mako_phases.proofs.Parts.{tablets_some, bound_cycle, phase_found, goes_on, turn_stands, back_stands}
+use Rattle.mako_phases.proofs.Parts.{work_cycle, clear_fits, free_fits, shading_part}
 
 no_true : true ≡ false → ⊥
 no_true e = cc

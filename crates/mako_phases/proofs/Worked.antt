@@ -1,17 +1,21 @@
 -- The worked examples.
-use Rattle.std.proofs.Common.{◌≡◌, ◌≢◌, ℕ, zero, suc, ◌+◌, ◌^◌, ◌<◌, ⊎_elim, List, [], ◌∷◌, map, slice_get, Some, false, sym, ap, subst, refl, ◌∙◌, arith}
+use Rattle.std.proofs.Common.{◌≡◌, ◌≢◌, ℕ, zero, suc, ◌+◌, ◌^◌, ◌<◌, ⊎_elim, List, [], ◌∷◌, map, slice_get, Some, false}
+use Rattle.std.proofs.Common.{sym, ap, subst, refl, ◌∙◌, arith}
 use Rattle.std.proofs.lemmas.Option.{same_Some, none-some}
 use Rattle.mako_shape.specs.Limits.{IsShape}
-use Rattle.mako_shape.specs.Places.{Place, phase, demand, root, barrier, work, ghost, notice, leaving, entry, Within, word_at, total, index}
+use Rattle.mako_shape.specs.Places.{Place, phase, demand, root, barrier, work, ghost, notice, leaving, entry, Within}
+use Rattle.mako_shape.specs.Places.{word_at, total, index}
 use Rattle.mako_names.specs.Examples.{small}
 use Rattle.mako_names.specs.Tables.{entry_of}
 use Rattle.mako_choice.specs.Choices.{candidates_from, put_in, in_order, choice}
 use Rattle.mako_phases.specs.Choosing.{used_upto, chosen_upto}
-use Rattle.mako_phases.specs.Facets.{idle, resting, outside, PhaseFacet, mutating, serving, mutator, server, collector, role_of}
+use Rattle.mako_phases.specs.Facets.{idle, resting, outside, PhaseFacet, mutating, serving, mutator, server, collector}
+use Rattle.mako_phases.specs.Facets.{role_of}
 use Rattle.mako_phases.specs.Orders.{WordsStand, ServerStands, AreSeated, PhaseOrder}
 use Rattle.mako_phases.specs.Steps.{IsPhaseWord, PhaseOrderIn}
 use Rattle.mako_phases.specs.Reaching.{IsOpeningFacet, IsRootOrEntry, IsPhaseOpening}
-use Rattle.mako_phases.specs.Examples.{idle_facets, opened, traced_too_soon, shaded_too_soon, leaving_too_soon, told_too_soon, ended_too_soon, all_live}
+use Rattle.mako_phases.specs.Examples.{idle_facets, opened, traced_too_soon, shaded_too_soon, leaving_too_soon}
+use Rattle.mako_phases.specs.Examples.{told_too_soon, ended_too_soon, all_live}
 use Rattle.mako_phases.proofs.Frames.{the_words, the_seats}
 use Rattle.mako_phases.proofs.Reaching.{opening_order}
 

@@ -4,15 +4,19 @@ use Rattle.std.proofs.lemmas.List.{length-set}
 use Rattle.mako_words.specs.declared.name.Name.{Name}
 use Rattle.mako_words.specs.Entries.{entry_at}
 use Rattle.mako_shape.specs.declared.numbers.Numbers.{Numbers}
-use Rattle.mako_shape.specs.Places.{Place, demand, root, barrier, work, ghost, notice, leaving, entry, index, total, Within, word_at}
+use Rattle.mako_shape.specs.Places.{Place, demand, root, barrier, work, ghost, notice, leaving, entry, index, total}
+use Rattle.mako_shape.specs.Places.{Within, word_at}
 use Rattle.mako_names.specs.Tables.{entry_of}
 use Rattle.mako_shape.proofs.PlaceLaws.{word_same}
 use Rattle.mako_phases.proofs.Frames.{written}
-use Rattle.mako_phases.specs.Facets.{Part, idle, pausing, rooting, tracing, choosing, evacuating, stopped, cycle_during, IsRestful}
+use Rattle.mako_phases.specs.Facets.{Part, idle, pausing, rooting, tracing, choosing, evacuating, stopped, cycle_during}
+use Rattle.mako_phases.specs.Facets.{IsRestful}
 use Rattle.mako_names.specs.Uses.{IsUseSlot}
 use Rattle.mako_phases.specs.Orders.{PendingFits, MayLeave, MayTell, WordsStand}
 use Rattle.mako_phases.specs.Steps.{IsPhaseWord}
-use Rattle.mako_phases.proofs.Frames.{agree_else, IsPhase, IsDemand, IsRoot, IsNotice, IsLeaving, IsEntry, IsServerWord, phase_on, asked_on, slots_on, pends_on, leavings_on, tellers_on, once_on, epochs_on, words_on}
+use Rattle.mako_phases.proofs.Frames.{agree_else, IsPhase, IsDemand, IsRoot, IsNotice, IsLeaving, IsEntry, IsServerWord}
+use Rattle.mako_phases.proofs.Frames.{phase_on, asked_on, slots_on, pends_on, leavings_on, tellers_on, once_on}
+use Rattle.mako_phases.proofs.Frames.{epochs_on, words_on}
 
 -- a name slot is no other word that the order reads
 pub record IsSlotOnly (p : Place) : Type 0 where

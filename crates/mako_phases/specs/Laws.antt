@@ -11,7 +11,9 @@ use Rattle.mako_shape.specs.Places.{Place, root, leaving, entry, Within, word_at
 use Rattle.mako_shape.specs.Belongings.{server_of_tablet}
 use Rattle.mako_names.specs.Tables.{entry_of, phase_of}
 use Rattle.mako_phases.specs.Marked.{IsMarked}
-use Rattle.mako_phases.specs.Facets.{Part, rooting, choosing, evacuating, TabletStage, ServerStage, clearing, Admission, PhaseFacet, mutating, serving, collecting, phase_during, cycle_during, IsRestful, IsNotAdmitted}
+use Rattle.mako_phases.specs.Facets.{Part, rooting, choosing, evacuating, TabletStage, ServerStage, clearing, Admission}
+use Rattle.mako_phases.specs.Facets.{PhaseFacet, mutating, serving, collecting, phase_during, cycle_during, IsRestful}
+use Rattle.mako_phases.specs.Facets.{IsNotAdmitted}
 use Rattle.mako_names.specs.Uses.{IsUseSlot}
 use Rattle.mako_phases.specs.Orders.{TracesIn, PhaseOrder, AreDrained, AreUnladen}
 

@@ -1,5 +1,6 @@
 -- The kinds of step, as far as live counts read them, and what is true of live counts.
-use Rattle.std.specs.Prelude.{ℕ, ◌≡◌, ◌≢◌, ◌+◌, ◌%◌, ◌<◌, ◌^◌, ◌⊎◌, ◌↔◌, List, ◌++◌, length, replicate, slice_get, slice_set, slice_index, Option, Some, None, true, false}
+use Rattle.std.specs.Prelude.{ℕ, ◌≡◌, ◌≢◌, ◌+◌, ◌%◌, ◌<◌, ◌^◌, ◌⊎◌, ◌↔◌, List, ◌++◌, length, replicate, slice_get}
+use Rattle.std.specs.Prelude.{slice_set, slice_index, Option, Some, None, true, false}
 use Rattle.std.specs.List.{Contains, sum_by}
 use Rattle.mako_words.specs.declared.name.Name.{Name}
 use Rattle.mako_words.specs.Entries.{entry_at}
@@ -13,7 +14,8 @@ use Rattle.mako_model.specs.Reachable.{IsReachable}
 use Rattle.mako_model.specs.Dead.{names_made}
 use Rattle.mako_names.specs.Tables.{entry_of}
 use Rattle.mako_phases.specs.Marked.{IsMarked}
-use Rattle.mako_phases.specs.Lives.{LiveFacet, counting, record_size, live_count, AreOnce, IsSum, IsCounted, AreCounted, ArePast}
+use Rattle.mako_phases.specs.Lives.{LiveFacet, counting, record_size, live_count, AreOnce, IsSum, IsCounted, AreCounted}
+use Rattle.mako_phases.specs.Lives.{ArePast}
 
 -- what live counts read of a state
 pub record LiveScene : Type 0 where

@@ -1,5 +1,6 @@
 -- The order of the phases.
-use Rattle.std.specs.Prelude.{ℕ, zero, suc, ◌≡◌, ◌≢◌, ◌+◌, ◌*◌, ◌/◌, ◌%◌, ◌<◌, ◌≤◌, ◌⊎◌, ◌↔◌, List, [], ◌∷◌, ◌++◌, length, map, slice_get, Some, None, Bool, false}
+use Rattle.std.specs.Prelude.{ℕ, zero, suc, ◌≡◌, ◌≢◌, ◌+◌, ◌*◌, ◌/◌, ◌%◌, ◌<◌, ◌≤◌, ◌⊎◌, ◌↔◌, List, [], ◌∷◌, ◌++◌}
+use Rattle.std.specs.Prelude.{length, map, slice_get, Some, None, Bool, false}
 use Rattle.std.specs.List.{Contains}
 use Rattle.std.specs.declared.option.Option.{Option}
 use Rattle.mako_words.specs.declared.name.Name.{Name}
@@ -15,7 +16,11 @@ use Rattle.mako_shape.specs.Places.{Place, phase, demand, root, notice, leaving,
 use Rattle.mako_shape.specs.Belongings.{server_of_tablet}
 use Rattle.mako_names.specs.Tables.{entry_of}
 use Rattle.mako_names.specs.Uses.{IsUseSlot}
-use Rattle.mako_phases.specs.Facets.{Part, idle, pausing, rooting, tracing, choosing, evacuating, stopped, TabletStage, found, shut, cleared, ServerStage, resting, working, clearing, freeing, gone, Admission, outside, asking, inside, PhaseFacet, mutating, serving, collecting, SeatRole, server, collector, role_of, phase_during, cycle_during, IsRestful, IsInPause, IsNotAdmitted}
+use Rattle.mako_phases.specs.Facets.{Part, idle, pausing, rooting, tracing, choosing, evacuating, stopped, TabletStage}
+use Rattle.mako_phases.specs.Facets.{found, shut, cleared, ServerStage, resting, working, clearing, freeing, gone}
+use Rattle.mako_phases.specs.Facets.{Admission, outside, asking, inside, PhaseFacet, mutating, serving, collecting}
+use Rattle.mako_phases.specs.Facets.{SeatRole, server, collector, role_of, phase_during, cycle_during, IsRestful}
+use Rattle.mako_phases.specs.Facets.{IsInPause, IsNotAdmitted}
 
 -- the numbers of the part are in range
 abbrev pub BoundFits : Numbers → Part → Type 0

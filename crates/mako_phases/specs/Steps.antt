@@ -1,14 +1,18 @@
 -- The kinds of step, as far as the order of the phases reads them.
-use Rattle.std.specs.Prelude.{ℕ, ◌≡◌, ◌≢◌, ◌+◌, ◌*◌, ◌<◌, ◌==◌, List, [], ◌∷◌, ◌++◌, slice_get, slice_set, Some, None, Bool, true, Option, if◌then◌else◌, max}
+use Rattle.std.specs.Prelude.{ℕ, ◌≡◌, ◌≢◌, ◌+◌, ◌*◌, ◌<◌, ◌==◌, List, [], ◌∷◌, ◌++◌, slice_get, slice_set, Some, None}
+use Rattle.std.specs.Prelude.{Bool, true, Option, if◌then◌else◌, max}
 use Rattle.mako_words.specs.declared.name.Name.{Name}
 use Rattle.mako_words.specs.declared.phase_word.PhaseWord.{PhaseWord}
 use Rattle.mako_words.specs.declared.phase_word.PhaseWord.TheVariants.{Idle, Trace, Evac, Stop}
 use Rattle.mako_words.specs.Phases.{phase_word, phase_at, cycle_of}
 use Rattle.mako_words.specs.Entries.{entry_at}
 use Rattle.mako_shape.specs.declared.numbers.Numbers.{Numbers}
-use Rattle.mako_shape.specs.Places.{Place, phase, demand, root, barrier, work, ghost, notice, leaving, entry, index, Within, word_at}
+use Rattle.mako_shape.specs.Places.{Place, phase, demand, root, barrier, work, ghost, notice, leaving, entry, index}
+use Rattle.mako_shape.specs.Places.{Within, word_at}
 use Rattle.mako_names.specs.Tables.{entry_of}
-use Rattle.mako_phases.specs.Facets.{idle, pausing, rooting, tracing, choosing, evacuating, stopped, looking, found, shut, cleared, ServerStage, resting, working, clearing, freeing, gone, outside, asking, inside, PhaseFacet, mutating, serving, collecting}
+use Rattle.mako_phases.specs.Facets.{idle, pausing, rooting, tracing, choosing, evacuating, stopped, looking, found}
+use Rattle.mako_phases.specs.Facets.{shut, cleared, ServerStage, resting, working, clearing, freeing, gone, outside}
+use Rattle.mako_phases.specs.Facets.{asking, inside, PhaseFacet, mutating, serving, collecting}
 use Rattle.mako_names.specs.Uses.{IsUseSlot}
 use Rattle.mako_phases.specs.Orders.{root_names, AreUnladen, PhaseOrder}
 

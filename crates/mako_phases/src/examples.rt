@@ -4,7 +4,8 @@
 ghost use Rattle.std.specs.Prelude.{◌≡◌, [], ◌∷◌};
 ghost use Rattle.mako_names.specs.Examples.{small};
 ghost use Rattle.mako_phases.specs.Choosing.{chosen_upto};
-ghost use Rattle.mako_phases.specs.Examples.{opened, traced_too_soon, shaded_too_soon, leaving_too_soon, told_too_soon, ended_too_soon, all_live};
+ghost use Rattle.mako_phases.specs.Examples.{opened, traced_too_soon, shaded_too_soon, leaving_too_soon, told_too_soon};
+ghost use Rattle.mako_phases.specs.Examples.{ended_too_soon, all_live};
 ghost use Rattle.mako_phases.specs.Steps.{PhaseOrderIn};
 
 /// The opening is in order.

@@ -1,9 +1,14 @@
 //! Laws of the order of the phases and of live counts. The functions do nothing; what they ensure is for contracts and
 //! proofs.
 
-ghost use Rattle.mako_phases.specs.Choosing.{FindingsAreChosenOf, FindingsBegin, FindingsGoOn, FindingsStay, TabletsAreChosenOnce};
-ghost use Rattle.mako_phases.specs.Laws.{ChoosingIsStill, CyclesEndLast, EndedHaveNoLeaving, EpochsAreNotAhead, NamesRest, PhasesAreOfParts, SnapshotsAreReady, TabletsAreClearedInEvac, TabletsStay, WaitingAreNotLeaving};
-ghost use Rattle.mako_phases.specs.LiveSteps.{CountsEnd, EntryWordsMark, LivesAreCounted, LivesCountTheReached, PastCountsBegin, PastCountsStay, SizesAreThose, StepsKeepCounts, SumsAreOne};
+ghost use Rattle.mako_phases.specs.Choosing.{FindingsAreChosenOf, FindingsBegin, FindingsGoOn, FindingsStay};
+ghost use Rattle.mako_phases.specs.Choosing.{TabletsAreChosenOnce};
+ghost use Rattle.mako_phases.specs.Laws.{ChoosingIsStill, CyclesEndLast, EndedHaveNoLeaving, EpochsAreNotAhead};
+ghost use Rattle.mako_phases.specs.Laws.{NamesRest, PhasesAreOfParts, SnapshotsAreReady, TabletsAreClearedInEvac};
+ghost use Rattle.mako_phases.specs.Laws.{TabletsStay, WaitingAreNotLeaving};
+ghost use Rattle.mako_phases.specs.LiveSteps.{CountsEnd, EntryWordsMark, LivesAreCounted, LivesCountTheReached};
+ghost use Rattle.mako_phases.specs.LiveSteps.{PastCountsBegin, PastCountsStay, SizesAreThose, StepsKeepCounts};
+ghost use Rattle.mako_phases.specs.LiveSteps.{SumsAreOne};
 ghost use Rattle.mako_phases.specs.Reaching.{OpeningsAreInOrder, ReachedAreInOrder, StepsKeepPhaseOrder};
 ghost use Rattle.mako_phases.specs.Snapshots.{SnapshotsAreOne};
 

@@ -23,17 +23,21 @@ module _ (n : Numbers) (words after : List ℕ) where
   untouched_same e p is within = ap (λ (ws : List ℕ). word_at n ws p) e
 
   -- a load changes nothing
-  pub untouched_load : (a : ℕ) → after ≡ words_stepped (does a Load) words → Untouched n (word_at n words) (word_at n after)
+  pub untouched_load : (a : ℕ) → after ≡ words_stepped (does a Load) words
+      → Untouched n (word_at n words) (word_at n after)
   untouched_load a e = untouched_same (e ∙ set-get_or words a 0)
 
   -- an operation on the word at a place writes there
-  pub wrote_at : length words ≡ total n → (p : Place) (op : Op) → Within n p → after ≡ words_stepped (does (index n p) op) words
+  pub wrote_at : length words ≡ total n → (p : Place) (op : Op) → Within n p
+      → after ≡ words_stepped (does (index n p) op) words
       → Wrote n (word_at n words) (word_at n after) p (after_op op (word_at n words p))
   wrote_at size p op within e =
       subst (λ (ws : List ℕ). Wrote n (word_at n words) (word_at n ws) p (after_op op (word_at n words p))) (sym e)
       (writes_are_one n words p (after_op op (word_at n words p)) size within)
 
   -- and of a place that polls do not read it is no change
-  pub untouched_at : length words ≡ total n → (p : Place) (op : Op) → Within n p → (¬ IsPolled p) → after ≡ words_stepped (does (index n p) op) words
+  pub untouched_at : length words ≡ total n → (p : Place) (op : Op) → Within n p → (¬ IsPolled p)
+      → after ≡ words_stepped (does (index n p) op) words
       → Untouched n (word_at n words) (word_at n after)
-  untouched_at size p op within none e q is in_q = (wrote_at size p op within e).else q is in_q (λ same. none (subst IsPolled same is))
+  untouched_at size p op within none e q is in_q =
+      (wrote_at size p op within e).else q is in_q (λ same. none (subst IsPolled same is))

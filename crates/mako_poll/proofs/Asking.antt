@@ -1,5 +1,6 @@
 -- The acts of a poll are steps of the polling invariant.
-use Rattle.std.proofs.Common.{◌≡◌, ℕ, ◌+◌, ◌<◌, ◌==◌, if◌then◌else◌, Bool, true, false, List, length, ap, subst, refl, arith}
+use Rattle.std.proofs.Common.{◌≡◌, ℕ, ◌+◌, ◌<◌, ◌==◌, if◌then◌else◌, Bool, true, false, List, length, ap, subst, refl}
+use Rattle.std.proofs.Common.{arith}
 use Rattle.std.proofs.lemmas.Bool.{or_parts}
 use Rattle.std.proofs.lemmas.Bool.Decides.{nat_tests}
 use Rattle.mako_words.specs.Words.{all_but}
@@ -19,13 +20,18 @@ use Rattle.mako_poll.specs.declared.poller.PollStage.TheVariants.{Asking, Readin
 use Rattle.mako_poll.proofs.Acting.{untouched_load, wrote_at}
 use Rattle.mako_poll.proofs.AllSteps.{steps_hold}
 
-module _ (n : Numbers) (words after : List ℕ) (server : ℕ → Serving) (c : CollectorView) (some : 0 < n.servers) (size : length words ≡ total n) where
+module _ (n : Numbers) (words after : List ℕ) (server : ℕ
+    → Serving) (c : CollectorView) (some : 0 < n.servers) (size : length words ≡ total n) where
   abbrev at : PollStage → CollectorView
   at stage = record c { stage = polls stage }
 
   -- the polling invariant with the words before, and with those after
   abbrev pub Before : PollStage → Type 0
-  Before stage = PollingStands n (record { word = word_at n words; server = server; collector = collecting_of n (at stage) })
+  Before stage = PollingStands n (record {
+    word = word_at n words;
+    server = server;
+    collector = collecting_of n (at stage);
+  })
 
   abbrev AfterBy : Collecting → Type 0
   AfterBy d = PollingStands n (record { word = word_at n after; server = server; collector = d })
@@ -33,23 +39,33 @@ module _ (n : Numbers) (words after : List ℕ) (server : ℕ → Serving) (c : 
   abbrev pub After : PollStage → Type 0
   After stage = AfterBy (collecting_of n (at stage)) × CollectorStands n (polls stage)
 
-  by_kind : (stage : PollStage) (d : Collecting) → Before stage → CollectorStep n (word_at n words) (word_at n after) (collecting_of n (at stage)) d → AfterBy d
-  by_kind stage d stands step = steps_hold n _ _ stands (Collected d (record { here = refl; servers = λ j lt. refl }) step)
+  by_kind : (stage : PollStage) (d : Collecting) → Before stage
+      → CollectorStep n (word_at n words) (word_at n after) (collecting_of n (at stage)) d → AfterBy d
+  by_kind stage d stands step =
+      steps_hold n _ _ stands (Collected d (record { here = refl; servers = λ j lt. refl }) step)
 
   -- past a clean server
-  asked_on : (k : ℕ) → k < n.servers → AfterBy (record (collecting_of n (at (Asking k))) { poll = polling (k + 1) }) → (b : Bool) → (k + 1 == n.servers) ≡ b → After (if b then Reading 0 else Asking (k + 1))
+  asked_on : (k : ℕ) → k < n.servers → AfterBy (record (collecting_of n (at (Asking k))) { poll = polling (k + 1) })
+      → (b : Bool) → (k + 1 == n.servers) ≡ b → After (if b then Reading 0 else Asking (k + 1))
   asked_on k lt stands true e =
       let all : k + 1 ≡ n.servers = grind (arith, nat_tests) in (
-        steps_hold n _ (record { word = word_at n after; server = server; collector = collecting_of n (at (Reading 0)) }) stands
-            (Collected (collecting_of n (at (Reading 0))) (record { here = refl; servers = λ j lt. refl }) (TurnsToRead (λ p is within. refl) (ap polling all) refl)),
+        steps_hold n _ (record {
+          word = word_at n after;
+          server = server;
+          collector = collecting_of n (at (Reading 0));
+        }) stands
+            (Collected (collecting_of n (at (Reading 0))) (record { here = refl; servers = λ j lt. refl })
+            (TurnsToRead (λ p is within. refl) (ap polling all) refl)),
         some,
       )
   asked_on k lt stands false e = (stands, grind (arith, nat_tests))
 
-  ask : (k : ℕ) → k < n.servers → Before (Asking k) → after ≡ words_stepped (stage_next n (Asking k)) words → (b : Bool) → has_work (word_at n words (flags k)) ≡ b
+  ask : (k : ℕ) → k < n.servers → Before (Asking k) → after ≡ words_stepped (stage_next n (Asking k)) words → (b : Bool)
+      → has_work (word_at n words (flags k)) ≡ b
       → After (if b then Ended (NotYet k (word_at n words (flags k))) else asking_from n (k + 1))
   ask k lt stands d true e = (
-    by_kind (Asking k) (collecting_of n (at (Ended (NotYet k (word_at n words (flags k)))))) stands (FindsWork k lt (wrote_at n words after size (flags k) (And (all_but 4)) lt d) (λ r lr. refl) refl),
+    by_kind (Asking k) (collecting_of n (at (Ended (NotYet k (word_at n words (flags k)))))) stands
+        (FindsWork k lt (wrote_at n words after size (flags k) (And (all_but 4)) lt d) (λ r lr. refl) refl),
     tt,
   )
   ask k lt stands d false e =
@@ -60,25 +76,30 @@ module _ (n : Numbers) (words after : List ℕ) (server : ℕ → Serving) (c : 
       (k + 1 == n.servers) refl
 
   -- past a server whose flags are 0
-  read_on : (k : ℕ) → k < n.servers → AfterBy (record (collecting_of n (at (Reading k))) { poll = reading (k + 1) }) → (b : Bool) → (k + 1 == n.servers) ≡ b → After (if b then Ended Told else Reading (k + 1))
+  read_on : (k : ℕ) → k < n.servers → AfterBy (record (collecting_of n (at (Reading k))) { poll = reading (k + 1) })
+      → (b : Bool) → (k + 1 == n.servers) ≡ b → After (if b then Ended Told else Reading (k + 1))
   read_on k lt stands true e =
       let all : k + 1 ≡ n.servers = grind (arith, nat_tests) in
       (subst (λ (j : ℕ). AfterBy (record (collecting_of n (at (Reading k))) { poll = reading j })) all stands, tt)
   read_on k lt stands false e = (stands, grind (arith, nat_tests))
 
-  read : (k : ℕ) → k < n.servers → Before (Reading k) → after ≡ words_stepped (stage_next n (Reading k)) words → (b : Bool) → (word_at n words (flags k) == 0) ≡ b
+  read : (k : ℕ) → k < n.servers → Before (Reading k) → after ≡ words_stepped (stage_next n (Reading k)) words
+      → (b : Bool) → (word_at n words (flags k) == 0) ≡ b
       → After (if b then reading_from n (k + 1) else Ended (NotYet k (word_at n words (flags k))))
   read k lt stands d true e =
       let zero_is : word_at n words (flags k) ≡ 0 = grind (arith, nat_tests) in
       read_on k lt
-      (by_kind (Reading k) (record (collecting_of n (at (Reading k))) { poll = reading (k + 1) }) stands (ReadsZero k (untouched_load n words after _ d) refl zero_is refl))
+      (by_kind (Reading k) (record (collecting_of n (at (Reading k))) { poll = reading (k + 1) }) stands
+      (ReadsZero k (untouched_load n words after _ d) refl zero_is refl))
       (k + 1 == n.servers) refl
   read k lt stands d false e = (
-    by_kind (Reading k) (collecting_of n (at (Ended (NotYet k (word_at n words (flags k)))))) stands (Leaves (untouched_load n words after _ d) (λ r lr. refl) refl),
+    by_kind (Reading k) (collecting_of n (at (Ended (NotYet k (word_at n words (flags k)))))) stands
+        (Leaves (untouched_load n words after _ d) (λ r lr. refl) refl),
     tt,
   )
 
-  pub poll_goes : (stage : PollStage) → IsKnown n stage → Before stage → IsAct (stage_next n stage) → after ≡ words_stepped (stage_next n stage) words → After (stage_fed n stage (finds (stage_next n stage) words))
+  pub poll_goes : (stage : PollStage) → IsKnown n stage → Before stage → IsAct (stage_next n stage)
+      → after ≡ words_stepped (stage_next n stage) words → After (stage_fed n stage (finds (stage_next n stage) words))
   poll_goes (Asking k) known stands act d = ask k known stands d _ refl
   poll_goes (Reading k) known stands act d = read k known stands d _ refl
   poll_goes (Ended polled) known stands act d = elim act [ ]

@@ -15,7 +15,8 @@ same_place n p q in_p in_q = elim (cases_eq (index n q) (index n p)) [
 ]
 
 -- where a 0 is written, what was 0 is 0
-pub zero_stays : (n : Numbers) (word after : Place → ℕ) (p q : Place) → Wrote n word after p 0 → Within n p → IsPolled q → Within n q → word q ≡ 0 → after q ≡ 0
+pub zero_stays : (n : Numbers) (word after : Place → ℕ) (p q : Place) → Wrote n word after p 0 → Within n p → IsPolled q
+    → Within n q → word q ≡ 0 → after q ≡ 0
 zero_stays n word after p q wrote in_p is in_q z = elim (same_place n p q in_p in_q) [
   | inl e ↦ ap after e ∙ wrote.there
   | inr d ↦ wrote.else q is in_q d ∙ z
@@ -24,12 +25,15 @@ zero_stays n word after p q wrote in_p is in_q z = elim (same_place n p q in_p i
 -- what server i leaves of the words of others
 pub record Changes (n : Numbers) (word after : Place → ℕ) (i : ℕ) : Type 0 where
   pub flags_other : (j : ℕ) → j < n.servers → j ≢ i → after (flags j) ≡ word (flags j)
-  pub sent_zero : (j r k : ℕ) → j < n.servers → j ≢ i → r < n.servers → k < n.ring → word (ghost j r k) ≡ 0 → after (ghost j r k) ≡ 0
+  pub sent_zero : (j r k : ℕ) → j < n.servers → j ≢ i → r < n.servers → k < n.ring → word (ghost j r k) ≡ 0
+      → after (ghost j r k) ≡ 0
   pub own_zero : (k : ℕ) → k < n.ring → word (ghost i i k) ≡ 0 → after (ghost i i k) ≡ 0
   pub works_zero : (r k : ℕ) → r < n.servers → k < n.ring → word (work r k) ≡ 0 → after (work r k) ≡ 0
   pub works_other : (r k : ℕ) → r < n.servers → r ≢ i → k < n.ring → after (work r k) ≡ word (work r k)
-  pub filled_other : (a j k : ℕ) → a < n.servers → j < n.servers → j ≢ i → k < n.ring → word (ghost a j k) ≢ 0 → after (ghost a j k) ≡ word (ghost a j k)
-  pub rings_other : (a b k : ℕ) → a < n.servers → b < n.servers → a ≢ i → b ≢ i → k < n.ring → after (ghost a b k) ≡ word (ghost a b k)
+  pub filled_other : (a j k : ℕ) → a < n.servers → j < n.servers → j ≢ i → k < n.ring → word (ghost a j k) ≢ 0
+      → after (ghost a j k) ≡ word (ghost a j k)
+  pub rings_other : (a b k : ℕ) → a < n.servers → b < n.servers → a ≢ i → b ≢ i → k < n.ring
+      → after (ghost a b k) ≡ word (ghost a b k)
 
 module _ (n : Numbers) (word after : Place → ℕ) (i : ℕ) (here : i < n.servers) where
   pub changes_none : Untouched n word after → Changes n word after i
@@ -55,7 +59,8 @@ module _ (n : Numbers) (word after : Place → ℕ) (i : ℕ) (here : i < n.serv
   }
 
   -- a put into an empty slot
-  pub changes_put : (r k x : ℕ) → r ≢ i → word (ghost i r k) ≡ 0 → Wrote n word after (ghost i r k) x → Changes n word after i
+  pub changes_put : (r k x : ℕ) → r ≢ i → word (ghost i r k) ≡ 0 → Wrote n word after (ghost i r k) x
+      → Changes n word after i
   changes_put r k x other free w = record {
     flags_other = λ j lj d. w.else (flags j) tt lj (λ e. cc);
     sent_zero = λ j q l lj d lr lk z. w.else (ghost j q l) tt (lj, lr, lk) (λ e. d (cc)) ∙ z;
@@ -78,10 +83,12 @@ module _ (n : Numbers) (word after : Place → ℕ) (i : ℕ) (here : i < n.serv
     rings_other = λ a b l la lb da db lk. w.else (ghost a b l) tt (la, lb, lk) (λ e. cc);
   }
 
-  pub changes_take : (b k : ℕ) → b < n.servers → k < n.ring → Wrote n word after (ghost b i k) 0 → Changes n word after i
+  pub changes_take : (b k : ℕ) → b < n.servers → k < n.ring → Wrote n word after (ghost b i k) 0
+      → Changes n word after i
   changes_take b k lb lt w = record {
     flags_other = λ j lj d. w.else (flags j) tt lj (λ e. cc);
-    sent_zero = λ j q l lj d lr lk z. zero_stays n word after (ghost b i k) (ghost j q l) w (lb, here, lt) tt (lj, lr, lk) z;
+    sent_zero = λ j q l lj d lr lk z. zero_stays n word after (ghost b i k) (ghost j q l) w (lb, here, lt) tt
+        (lj, lr, lk) z;
     own_zero = λ l lk z. zero_stays n word after (ghost b i k) (ghost i i l) w (lb, here, lt) tt (here, here, lk) z;
     works_zero = λ q l lr lk z. w.else (work q l) tt (lr, lk) (λ e. cc) ∙ z;
     works_other = λ q l lr d lk. w.else (work q l) tt (lr, lk) (λ e. cc);

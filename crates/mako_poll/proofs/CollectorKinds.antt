@@ -10,13 +10,17 @@ use Rattle.mako_shape.specs.Places.{flags, work, ghost}
 use Rattle.mako_ring.specs.Contents.{RingStands}
 use Rattle.mako_ring.specs.Windows.{tail_up, head_up, found_room}
 use Rattle.mako_ring.specs.declared.window.Window.{Window}
-use Rattle.mako_ring.specs.Facets.{Doing, resting, sending, storing, taking, clearing, Serving, Poll, elsewhere, forwarding, polling, reading, Collecting, Scene, flags_of, incoming, IsSource}
+use Rattle.mako_ring.specs.Facets.{Doing, resting, sending, storing, taking, clearing, Serving, Poll, elsewhere}
+use Rattle.mako_ring.specs.Facets.{forwarding, polling, reading, Collecting, Scene, flags_of, incoming, IsSource}
 use Rattle.mako_ring.specs.Rings.{slots_of}
 use Rattle.mako_ring.specs.declared.ring.Ring.TheVariants.{Work, Ghost}
 use Rattle.mako_ring.specs.declared.tracing.Source.{Source}
 use Rattle.mako_ring.specs.declared.tracing.Source.TheVariants.{Collector, Server}
-use Rattle.mako_ring.specs.Polling.{FlagsStand, MayPut, MayTake, DoingStands, GhostStands, WorkStands, IsQuietScene, NothingSent, StaysClean, NoChange, PollStands, PollingStands}
-use Rattle.mako_poll.specs.Steps.{Untouched, Wrote, Collects, SameWindows, SetsWork, CollectorStep, Waits, Leaves, FindsWorkRoom, Forwards, SeesWorkEmptied, BeginsPoll, FindsWork, FindsClean, TurnsToRead, ReadsZero}
+use Rattle.mako_ring.specs.Polling.{FlagsStand, MayPut, MayTake, DoingStands, GhostStands, WorkStands, IsQuietScene}
+use Rattle.mako_ring.specs.Polling.{NothingSent, StaysClean, NoChange, PollStands, PollingStands}
+use Rattle.mako_poll.specs.Steps.{Untouched, Wrote, Collects, SameWindows, SetsWork, CollectorStep, Waits, Leaves}
+use Rattle.mako_poll.specs.Steps.{FindsWorkRoom, Forwards, SeesWorkEmptied, BeginsPoll, FindsWork, FindsClean}
+use Rattle.mako_poll.specs.Steps.{TurnsToRead, ReadsZero}
 use Rattle.mako_ring.proofs.Turns.{place_below}
 use Rattle.mako_ring.proofs.RingLaws.{ring_same, ring_empty, ring_tail, ring_room, ring_put}
 use Rattle.mako_poll.proofs.Flagging.{Flagged, polled, left_alone}
@@ -30,15 +34,18 @@ module _ (n : Numbers) (s after : Scene) (d : Collecting) (h : PollingStands n s
     pub packed : (j : ℕ) → j < n.servers → after.word (flags j) < 8
     pub busy : (j : ℕ) → j < n.servers → (flags_of after.word j).busy ≡ (flags_of s.word j).busy
     pub ghost_ : (j : ℕ) → j < n.servers → (flags_of after.word j).ghost_ ≡ (flags_of s.word j).ghost_
-    pub ghosts : (a b k : ℕ) → a < n.servers → b < n.servers → k < n.ring → after.word (ghost a b k) ≡ s.word (ghost a b k)
-    pub filled : (j k : ℕ) → j < n.servers → k < n.ring → s.word (work j k) ≢ 0 → after.word (work j k) ≡ s.word (work j k)
+    pub ghosts : (a b k : ℕ) → a < n.servers → b < n.servers → k < n.ring
+        → after.word (ghost a b k) ≡ s.word (ghost a b k)
+    pub filled : (j k : ℕ) → j < n.servers → k < n.ring → s.word (work j k) ≢ 0
+        → after.word (work j k) ≡ s.word (work j k)
 
   module _ (spares : Spares) where
     flags_kept : (j : ℕ) → j < n.servers → FlagsStand n after.word j (s.server j)
     flags_kept j lt = let f = h.flags j lt in record {
       packed = spares.packed j lt;
       busy = λ z. f.busy (sym (spares.busy j lt) ∙ z);
-      sent = λ z. let q = f.sent (sym (spares.ghost_ j lt) ∙ z) in (q.0, λ r k lr lk. spares.ghosts j r k lt lr lk ∙ q.1 r k lr lk);
+      sent = λ z. let q = f.sent (sym (spares.ghost_ j lt) ∙ z) in
+          (q.0, λ r k lr lk. spares.ghosts j r k lt lr lk ∙ q.1 r k lr lk);
       own = λ k lk. spares.ghosts j j k lt lt lk ∙ f.own k lk;
     }
 
@@ -48,34 +55,49 @@ module _ (n : Numbers) (s after : Scene) (d : Collecting) (h : PollingStands n s
       other = m.other;
       working = m.working;
       room = m.room;
-      free = spares.ghosts j r (((s.server j).window r).head % n.ring) lt m.in_range (place_below n.ring ((s.server j).window r).head (let b = (h.works j lt).at_below in omega arith)) ∙ m.free;
+      free = spares.ghosts j r (((s.server j).window r).head % n.ring) lt m.in_range
+          (place_below n.ring ((s.server j).window r).head (let b = (h.works j lt).at_below in omega arith)) ∙ m.free;
     }
 
-    take_kept : (j : ℕ) (source : Source) (v : ℕ) → j < n.servers → MayTake n s.word j (s.server j) source v → MayTake n after.word j (s.server j) source v
-    take_kept j source v lt m = record { is_source = m.is_source; filled = m.filled; found = there source m.is_source (λ z. m.filled (sym m.found ∙ z)) ∙ m.found }
+    take_kept : (j : ℕ) (source : Source) (v : ℕ) → j < n.servers → MayTake n s.word j (s.server j) source v
+        → MayTake n after.word j (s.server j) source v
+    take_kept j source v lt m = record {
+      is_source = m.is_source;
+      filled = m.filled;
+      found = there source m.is_source (λ z. m.filled (sym m.found ∙ z)) ∙ m.found;
+    }
       where
-        there : (source : Source) → IsSource n j source → s.word (incoming j (s.server j) source) ≢ 0 → after.word (incoming j (s.server j) source) ≡ s.word (incoming j (s.server j) source)
+        there : (source : Source) → IsSource n j source → s.word (incoming j (s.server j) source) ≢ 0
+            → after.word (incoming j (s.server j) source) ≡ s.word (incoming j (s.server j) source)
         there Collector is some = spares.filled j (s.server j).work_at lt (h.works j lt).at_below some
-        there (Server a) is some = spares.ghosts a j ((s.server j).ghost_at a) is.0 lt (h.ghosts a j is.0 lt is.1).at_below
+        there (Server a) is some =
+            spares.ghosts a j ((s.server j).ghost_at a) is.0 lt (h.ghosts a j is.0 lt is.1).at_below
 
-    doing_kept : (j : ℕ) → j < n.servers → (x : Doing) → DoingStands n s.word j (s.server j) x → DoingStands n after.word j (s.server j) x
+    doing_kept : (j : ℕ) → j < n.servers → (x : Doing) → DoingStands n s.word j (s.server j) x
+        → DoingStands n after.word j (s.server j) x
     doing_kept j lt resting m = tt
     doing_kept j lt (sending r) m = put_kept j r lt m
     doing_kept j lt (storing r) m = put_kept j r lt m
     doing_kept j lt (taking source v) m = take_kept j source v lt m
     doing_kept j lt (clearing source v) m = take_kept j source v lt m
 
-    each : (P : ℕ → Serving → Type 0) → ((j : ℕ) → j < n.servers → P j (s.server j)) → (j : ℕ) → j < n.servers → P j (after.server j)
+    each : (P : ℕ → Serving → Type 0) → ((j : ℕ) → j < n.servers → P j (s.server j)) → (j : ℕ) → j < n.servers
+        → P j (after.server j)
     each P rest j lt = subst (P j) (sym (turn.servers j lt)) (rest j lt)
 
-    collects_hold : ((r : ℕ) → r < n.servers → WorkStands n after.word r d (s.server r)) → PollStands n (record after { collector = d }) d.poll → PollingStands n after
+    collects_hold : ((r : ℕ) → r < n.servers → WorkStands n after.word r d (s.server r))
+        → PollStands n (record after { collector = d }) d.poll → PollingStands n after
     collects_hold works poll = record {
       flags = each (λ j f. FlagsStand n after.word j f) flags_kept;
-      doing = each (λ j f. DoingStands n after.word j f f.doing) (λ j lt. doing_kept j lt (s.server j).doing (h.doing j lt));
+      doing = each (λ j f. DoingStands n after.word j f f.doing)
+          (λ j lt. doing_kept j lt (s.server j).doing (h.doing j lt));
       ghosts = λ a b la lb o. each (λ a f. a ≢ b → GhostStands n after.word a b f (after.server b))
           (λ a la o. each (λ b f. a ≢ b → GhostStands n after.word a b (s.server a) f)
-          (λ b lb o. ring_same n.ring (slots_of s.word (Ghost a b)) ((s.server b).ghost_at a) ((s.server a).window b) (h.ghosts a b la lb o) (slots_of after.word (Ghost a b)) (λ k lk. spares.ghosts a b k la lb lk)) b lb o) a la o;
-      works = λ r lr. subst (λ (x : Collecting). WorkStands n after.word r x (after.server r)) (sym turn.here) (each (λ r f. WorkStands n after.word r d f) works r lr);
+          (λ b lb o. ring_same n.ring (slots_of s.word (Ghost a b)) ((s.server b).ghost_at a) ((s.server a).window b)
+          (h.ghosts a b la lb o) (slots_of after.word (Ghost a b)) (λ k lk. spares.ghosts a b k la lb lk)) b lb o) a
+          la o;
+      works = λ r lr. subst (λ (x : Collecting). WorkStands n after.word r x (after.server r)) (sym turn.here)
+          (each (λ r f. WorkStands n after.word r d f) works r lr);
       poll = subst (λ (x : Collecting). PollStands n (record after { collector = x }) x.poll) (sym turn.here) poll;
     }
 
@@ -84,13 +106,19 @@ module _ (n : Numbers) (s after : Scene) (d : Collecting) (h : PollingStands n s
   SlotsAt r = (k : ℕ) → k < n.ring → after.word (work r k) ≡ s.word (work r k)
 
   work_same : (r : ℕ) → r < n.servers → d.window r ≡ c.window r → SlotsAt r → WorkStands n after.word r d (s.server r)
-  work_same r lr e same = subst (λ (w : Window). RingStands n.ring (slots_of after.word (Work r)) (s.server r).work_at w) (sym e)
-      (ring_same n.ring (slots_of s.word (Work r)) (s.server r).work_at (c.window r) (h.works r lr) (slots_of after.word (Work r)) same)
+  work_same r lr e same =
+      subst (λ (w : Window). RingStands n.ring (slots_of after.word (Work r)) (s.server r).work_at w) (sym e)
+      (ring_same n.ring (slots_of s.word (Work r)) (s.server r).work_at (c.window r) (h.works r lr)
+      (slots_of after.word (Work r)) same)
 
-  work_set : (r : ℕ) (w : Window) → SetsWork n c d r w → RingStands n.ring (slots_of after.word (Work r)) (s.server r).work_at w → ((q : ℕ) → q < n.servers → q ≢ r → SlotsAt q)
+  work_set : (r : ℕ) (w : Window) → SetsWork n c d r w
+      → RingStands n.ring (slots_of after.word (Work r)) (s.server r).work_at w
+      → ((q : ℕ) → q < n.servers → q ≢ r → SlotsAt q)
       → (q : ℕ) → q < n.servers → WorkStands n after.word q d (s.server q)
   work_set r w set ring same q lq = elim (cases_eq q r) [
-    | inl e ↦ subst (λ (x : ℕ). WorkStands n after.word x d (s.server x)) (sym e) (subst (λ (v : Window). RingStands n.ring (slots_of after.word (Work r)) (s.server r).work_at v) (sym set.0) ring)
+    | inl e ↦ subst (λ (x : ℕ). WorkStands n after.word x d (s.server x)) (sym e)
+        (subst (λ (v : Window). RingStands n.ring (slots_of after.word (Work r)) (s.server r).work_at v)
+        (sym set.0) ring)
     | inr o ↦ work_same q lq (set.1 q lq o) (same q lq o)
   ]
 
@@ -114,8 +142,12 @@ module _ (n : Numbers) (s after : Scene) (d : Collecting) (h : PollingStands n s
     works_alone : SameWindows n c d → (r : ℕ) → r < n.servers → WorkStands n after.word r d (s.server r)
     works_alone same r lr = work_same r lr (same r lr) (slots_alone r lr)
 
-    works_moved : (r : ℕ) (w : Window) → r < n.servers → SetsWork n c d r w → RingStands n.ring (slots_of s.word (Work r)) (s.server r).work_at w → (q : ℕ) → q < n.servers → WorkStands n after.word q d (s.server q)
-    works_moved r w lr set ring = work_set r w set (ring_same n.ring (slots_of s.word (Work r)) (s.server r).work_at w ring (slots_of after.word (Work r)) (slots_alone r lr)) (λ q lq o. slots_alone q lq)
+    works_moved : (r : ℕ) (w : Window) → r < n.servers → SetsWork n c d r w
+        → RingStands n.ring (slots_of s.word (Work r)) (s.server r).work_at w → (q : ℕ) → q < n.servers
+        → WorkStands n after.word q d (s.server q)
+    works_moved r w lr set ring =
+        work_set r w set (ring_same n.ring (slots_of s.word (Work r)) (s.server r).work_at w ring
+        (slots_of after.word (Work r)) (slots_alone r lr)) (λ q lq o. slots_alone q lq)
 
     quiet_alone : d.pending ≡ c.pending → IsQuietScene n s → IsQuietScene n (record after { collector = d })
     quiet_alone e q = record {
@@ -128,27 +160,40 @@ module _ (n : Numbers) (s after : Scene) (d : Collecting) (h : PollingStands n s
     leaves : SameWindows n c d → d.poll ≡ elsewhere → PollingStands n after
     leaves same rest = collects_hold spares_alone (works_alone same) (at_rest rest)
 
-    finds_room : (r : ℕ) → r < n.servers → s.word (work r ((c.window r).head % n.ring)) ≡ 0 → SetsWork n c d r (found_room n.ring (c.window r)) → d.poll ≡ forwarding r → PollingStands n after
+    finds_room : (r : ℕ) → r < n.servers → s.word (work r ((c.window r).head % n.ring)) ≡ 0
+        → SetsWork n c d r (found_room n.ring (c.window r)) → d.poll ≡ forwarding r → PollingStands n after
     finds_room r lr free set is =
         let room = ring_room n.ring (slots_of s.word (Work r)) (s.server r).work_at (c.window r) (h.works r lr) free in
         let there : after.word (work r ((d.window r).head % n.ring)) ≡ 0 =
         ap (λ (w : Window). after.word (work r (w.head % n.ring))) set.0 ∙ ap (λ (k : ℕ). after.word (work r k)) room.1
-        ∙ slots_alone r lr ((c.window r).head % n.ring) (place_below n.ring (c.window r).head (let b = (h.works r lr).at_below in omega arith)) ∙ free in
+        ∙ slots_alone r lr ((c.window r).head % n.ring)
+        (place_below n.ring (c.window r).head (let b = (h.works r lr).at_below in omega arith)) ∙ free in
         collects_hold spares_alone (works_moved r (found_room n.ring (c.window r)) lr set room.0)
-        (subst (λ (p : Poll). PollStands n (record after { collector = d }) p) (sym is) (lr, there, subst (λ (w : Window). w.head < w.tail + n.ring) (sym set.0) room.2))
+        (subst (λ (p : Poll). PollStands n (record after { collector = d }) p) (sym is)
+        (lr, there, subst (λ (w : Window). w.head < w.tail + n.ring) (sym set.0) room.2))
 
-    sees_emptied : (r : ℕ) → r < n.servers → (c.window r).tail < (c.window r).head → s.word (work r ((c.window r).tail % n.ring)) ≡ 0 → SetsWork n c d r (tail_up n.ring (c.window r)) → d.poll ≡ elsewhere → PollingStands n after
+    sees_emptied : (r : ℕ) → r < n.servers → (c.window r).tail < (c.window r).head
+        → s.word (work r ((c.window r).tail % n.ring)) ≡ 0 → SetsWork n c d r (tail_up n.ring (c.window r))
+        → d.poll ≡ elsewhere → PollingStands n after
     sees_emptied r lr some free set rest =
-        collects_hold spares_alone (works_moved r (tail_up n.ring (c.window r)) lr set (ring_tail n.ring (slots_of s.word (Work r)) (s.server r).work_at (c.window r) (h.works r lr) some free)) (at_rest rest)
+        collects_hold spares_alone
+        (works_moved r (tail_up n.ring (c.window r)) lr set
+        (ring_tail n.ring (slots_of s.word (Work r)) (s.server r).work_at (c.window r) (h.works r lr) some free))
+        (at_rest rest)
 
     begins : NothingSent n d → SameWindows n c d → d.poll ≡ polling 0 → PollingStands n after
-    begins none same is = collects_hold spares_alone (works_alone same) (subst (λ (p : Poll). PollStands n (record after { collector = d }) p) (sym is) (none, λ j lt below. absurd (omega arith)))
+    begins none same is =
+        collects_hold spares_alone (works_alone same)
+        (subst (λ (p : Poll). PollStands n (record after { collector = d }) p) (sym is)
+        (none, λ j lt below. absurd (omega arith)))
 
     -- with all found clean, no change says quiet
-    clean_is_quiet : NothingSent n c → ((j : ℕ) → j < n.servers → StaysClean s.word j) → NoChange n s.word 0 → IsQuietScene n s
+    clean_is_quiet : NothingSent n c → ((j : ℕ) → j < n.servers → StaysClean s.word j) → NoChange n s.word 0
+        → IsQuietScene n s
     clean_is_quiet none clean calm = record {
       servers = λ j lt. ((h.flags j lt).busy (clean j lt (calm j (omega arith) lt)).0).0;
-      works = λ r k lr lk. ring_empty n.ring (slots_of s.word (Work r)) (s.server r).work_at (c.window r) (h.works r lr) (none.windows r lr) k lk;
+      works = λ r k lr lk. ring_empty n.ring (slots_of s.word (Work r)) (s.server r).work_at (c.window r) (h.works r lr)
+          (none.windows r lr) k lk;
       ghosts = λ a b k la lb lk. ((h.flags a la).sent (clean a la (calm a (omega arith) la)).1).1 b k lb lk;
       pending = none.pending;
     }
@@ -164,12 +209,19 @@ module _ (n : Numbers) (s after : Scene) (d : Collecting) (h : PollingStands n s
       pub nothing_kept : NothingSent n c → NothingSent n (record c { poll = p })
       nothing_kept none = record { pending = none.pending; windows = none.windows }
 
-      pub poll_is : PollStands n (record after { collector = record c { poll = p } }) p → PollStands n (record after { collector = d }) d.poll
+      pub poll_is : PollStands n (record after { collector = record c { poll = p } }) p
+          → PollStands n (record after { collector = d }) d.poll
       poll_is stands = subst (λ (x : Collecting). PollStands n (record after { collector = x }) x.poll) (sym is) stands
 
     waits_poll : (p : Poll) → PollStands n s p → PollStands n (record after { collector = c }) p
     waits_poll elsewhere stands = tt
-    waits_poll (forwarding r) stands = (stands.0, slots_alone r stands.0 ((c.window r).head % n.ring) (place_below n.ring (c.window r).head (let b = (h.works r stands.0).at_below in omega arith)) ∙ stands.1, stands.2)
+    waits_poll (forwarding r) stands = (
+      stands.0,
+      slots_alone r stands.0 ((c.window r).head % n.ring)
+          (place_below n.ring (c.window r).head (let b = (h.works r stands.0).at_below in omega arith))
+          ∙ stands.1,
+      stands.2,
+    )
     waits_poll (polling k) stands = (
       stands.0,
       λ j lt below calm. let e = u (flags j) tt lt in
@@ -188,50 +240,67 @@ module _ (n : Numbers) (s after : Scene) (d : Collecting) (h : PollingStands n s
 
     waits : d ≡ c → PollingStands n after
     waits is = collects_hold spares_alone (works_alone (λ r lr. ap (λ (x : Collecting). x.window r) is))
-        (subst (λ (x : Collecting). PollStands n (record after { collector = x }) x.poll) (sym is) (waits_poll c.poll h.poll))
+        (subst (λ (x : Collecting). PollStands n (record after { collector = x }) x.poll) (sym is)
+        (waits_poll c.poll h.poll))
 
     turns_to_read : c.poll ≡ polling n.servers → d ≡ record c { poll = reading 0 } → PollingStands n after
     turns_to_read was is =
         let old : PollStands n s (polling n.servers) = subst (λ (p : Poll). PollStands n s p) was h.poll in
         collects_hold spares_alone (works_alone (windows_kept (reading 0) is))
-        (poll_is (reading 0) is (nothing_kept (reading 0) is old.0, λ none. moved is (clean_is_quiet old.0 (λ j lt. old.1 j lt lt) (calm_before 0 none))))
+        (poll_is (reading 0) is (
+          nothing_kept (reading 0) is old.0,
+          λ none. moved is
+              (clean_is_quiet old.0 (λ j lt. old.1 j lt lt) (calm_before 0 none)),
+        ))
       where
-        moved : d ≡ record c { poll = reading 0 } → IsQuietScene n s → IsQuietScene n (record after { collector = record c { poll = reading 0 } })
-        moved is q = let x = quiet_alone (ap (λ (x : Collecting). x.pending) is) q in record { servers = x.servers; works = x.works; ghosts = x.ghosts; pending = q.pending }
+        moved : d ≡ record c { poll = reading 0 } → IsQuietScene n s
+            → IsQuietScene n (record after { collector = record c { poll = reading 0 } })
+        moved is q = let x = quiet_alone (ap (λ (x : Collecting). x.pending) is) q in
+            record { servers = x.servers; works = x.works; ghosts = x.ghosts; pending = q.pending }
 
-    reads_zero : (k : ℕ) → c.poll ≡ reading k → s.word (flags k) ≡ 0 → d ≡ record c { poll = reading (k + 1) } → PollingStands n after
+    reads_zero : (k : ℕ) → c.poll ≡ reading k → s.word (flags k) ≡ 0 → d ≡ record c { poll = reading (k + 1) }
+        → PollingStands n after
     reads_zero k was zero is =
         let old : PollStands n s (reading k) = subst (λ (p : Poll). PollStands n s p) was h.poll in
         collects_hold spares_alone (works_alone (windows_kept (reading (k + 1)) is))
-        (poll_is (reading (k + 1)) is (nothing_kept (reading (k + 1)) is old.0, λ none. moved is (old.1 (from_k (calm_before (k + 1) none)))))
+        (poll_is (reading (k + 1)) is
+        (nothing_kept (reading (k + 1)) is old.0, λ none. moved is (old.1 (from_k (calm_before (k + 1) none)))))
       where
         from_k : NoChange n s.word (k + 1) → NoChange n s.word k
         from_k none j ge lt = elim (cases_eq j k) [
-          | inl e ↦ subst (λ (x : ℕ). (flags_of s.word x).changed ≡ false) (sym e) (ap (λ (w : ℕ). (flag_at w).changed) zero)
+          | inl e ↦ subst (λ (x : ℕ). (flags_of s.word x).changed ≡ false) (sym e)
+              (ap (λ (w : ℕ). (flag_at w).changed) zero)
           | inr o ↦ none j (grind (arith)) lt
         ]
 
-        moved : d ≡ record c { poll = reading (k + 1) } → IsQuietScene n s → IsQuietScene n (record after { collector = record c { poll = reading (k + 1) } })
-        moved is q = let x = quiet_alone (ap (λ (x : Collecting). x.pending) is) q in record { servers = x.servers; works = x.works; ghosts = x.ghosts; pending = q.pending }
+        moved : d ≡ record c { poll = reading (k + 1) } → IsQuietScene n s
+            → IsQuietScene n (record after { collector = record c { poll = reading (k + 1) } })
+        moved is q = let x = quiet_alone (ap (λ (x : Collecting). x.pending) is) q in
+            record { servers = x.servers; works = x.works; ghosts = x.ghosts; pending = q.pending }
 
   -- ---- a put
-  forwards : (r x : ℕ) → Wrote n s.word after.word (work r ((c.window r).head % n.ring)) x → x ≢ 0 → c.poll ≡ forwarding r → SetsWork n c d r (head_up (c.window r)) → d.poll ≡ elsewhere → PollingStands n after
+  forwards : (r x : ℕ) → Wrote n s.word after.word (work r ((c.window r).head % n.ring)) x → x ≢ 0
+      → c.poll ≡ forwarding r → SetsWork n c d r (head_up (c.window r)) → d.poll ≡ elsewhere → PollingStands n after
   forwards r x w filled was set rest =
       let old : PollStands n s (forwarding r) = subst (λ (p : Poll). PollStands n s p) was h.poll in
       collects_hold (record {
-        packed = λ j lt. (left_alone s.word after.word j (h.flags j lt).packed (w.else (flags j) tt lt (λ e. cc))).packed;
+        packed = λ j lt. (left_alone s.word after.word j (h.flags j lt).packed
+            (w.else (flags j) tt lt (λ e. cc))).packed;
         busy = λ j lt. ap (λ (v : ℕ). (flag_at v).busy) (w.else (flags j) tt lt (λ e. cc));
         ghost_ = λ j lt. ap (λ (v : ℕ). (flag_at v).ghost_) (w.else (flags j) tt lt (λ e. cc));
         ghosts = λ a b k la lb lk. w.else (ghost a b k) tt (la, lb, lk) (λ e. cc);
         filled = λ j k lt lk some. w.else (work j k) tt (lt, lk) (λ e. some (ap s.word e ∙ old.1));
       })
       (work_set r (head_up (c.window r)) set
-      (ring_put n.ring (slots_of s.word (Work r)) (s.server r).work_at (c.window r) (h.works r old.0) (slots_of after.word (Work r)) x old.1 old.2 filled (w.there, λ j lj o. w.else (work r j) tt (old.0, lj) (λ e. o (cc))))
+      (ring_put n.ring (slots_of s.word (Work r)) (s.server r).work_at (c.window r) (h.works r old.0)
+      (slots_of after.word (Work r)) x old.1 old.2 filled
+      (w.there, λ j lj o. w.else (work r j) tt (old.0, lj) (λ e. o (cc))))
       (λ q lq o k lk. w.else (work q k) tt (lq, lk) (λ e. o (cc))))
       (at_rest rest)
 
   -- ---- pass 1
-  module _ (k : ℕ) (lk : k < n.servers) (w : Wrote n s.word after.word (flags k) (bit_and (s.word (flags k)) (all_but 4))) where
+  module _ (k : ℕ) (lk : k < n.servers)
+      (w : Wrote n s.word after.word (flags k) (bit_and (s.word (flags k)) (all_but 4))) where
     now : Flagged after.word k (record (flags_of s.word k) { changed = false })
     now = polled s.word after.word k (h.flags k lk).packed w.there
 
@@ -240,13 +309,15 @@ module _ (n : Numbers) (s after : Scene) (d : Collecting) (h : PollingStands n s
 
     busy_now : (j : ℕ) → j < n.servers → (flags_of after.word j).busy ≡ (flags_of s.word j).busy
     busy_now j lt = elim (cases_eq j k) [
-      | inl e ↦ subst (λ (x : ℕ). (flags_of after.word x).busy ≡ (flags_of s.word x).busy) (sym e) (ap (λ (f : FlagWord). f.busy) now.are)
+      | inl e ↦ subst (λ (x : ℕ). (flags_of after.word x).busy ≡ (flags_of s.word x).busy) (sym e)
+          (ap (λ (f : FlagWord). f.busy) now.are)
       | inr o ↦ ap (λ (v : ℕ). (flag_at v).busy) (flags_else j lt o)
     ]
 
     ghost_now : (j : ℕ) → j < n.servers → (flags_of after.word j).ghost_ ≡ (flags_of s.word j).ghost_
     ghost_now j lt = elim (cases_eq j k) [
-      | inl e ↦ subst (λ (x : ℕ). (flags_of after.word x).ghost_ ≡ (flags_of s.word x).ghost_) (sym e) (ap (λ (f : FlagWord). f.ghost_) now.are)
+      | inl e ↦ subst (λ (x : ℕ). (flags_of after.word x).ghost_ ≡ (flags_of s.word x).ghost_) (sym e)
+          (ap (λ (f : FlagWord). f.ghost_) now.are)
       | inr o ↦ ap (λ (v : ℕ). (flag_at v).ghost_) (flags_else j lt o)
     ]
 
@@ -268,18 +339,22 @@ module _ (n : Numbers) (s after : Scene) (d : Collecting) (h : PollingStands n s
     finds_work : SameWindows n c d → d.poll ≡ elsewhere → PollingStands n after
     finds_work same rest = collects_hold spares_polled (works_polled same) (at_rest rest)
 
-    finds_clean : c.poll ≡ polling k → (flags_of s.word k).busy ≡ false → (flags_of s.word k).ghost_ ≡ false → d ≡ record c { poll = polling (k + 1) } → PollingStands n after
+    finds_clean : c.poll ≡ polling k → (flags_of s.word k).busy ≡ false → (flags_of s.word k).ghost_ ≡ false
+        → d ≡ record c { poll = polling (k + 1) } → PollingStands n after
     finds_clean was busy ghost_ is =
         let old : PollStands n s (polling k) = subst (λ (p : Poll). PollStands n s p) was h.poll in
         collects_hold spares_polled (works_polled (λ r lr. ap (λ (x : Collecting). x.window r) is))
         (subst (λ (x : Collecting). PollStands n (record after { collector = x }) x.poll) (sym is)
         (record { pending = old.0.pending; windows = old.0.windows }, λ j lt below. clean j lt below old.1))
       where
-        clean : (j : ℕ) → j < n.servers → j < k + 1 → ((j : ℕ) → j < n.servers → j < k → StaysClean s.word j) → StaysClean after.word j
+        clean : (j : ℕ) → j < n.servers → j < k + 1 → ((j : ℕ) → j < n.servers → j < k → StaysClean s.word j)
+            → StaysClean after.word j
         clean j lt below before none = elim (cases_eq j k) [
-          | inl e ↦ subst (λ (x : ℕ). ((flags_of after.word x).busy ≡ false) × ((flags_of after.word x).ghost_ ≡ false)) (sym e) (busy_now k lk ∙ busy, ghost_now k lk ∙ ghost_)
+          | inl e ↦ subst (λ (x : ℕ). ((flags_of after.word x).busy ≡ false)
+              × ((flags_of after.word x).ghost_ ≡ false)) (sym e) (busy_now k lk ∙ busy, ghost_now k lk ∙ ghost_)
           | inr o ↦
-              let was_none : (flags_of s.word j).changed ≡ false = ap (λ (v : ℕ). (flag_at v).changed) (sym (flags_else j lt o)) ∙ none in
+              let was_none : (flags_of s.word j).changed ≡ false =
+              ap (λ (v : ℕ). (flag_at v).changed) (sym (flags_else j lt o)) ∙ none in
               let both = before j lt (grind (arith)) was_none in
               (busy_now j lt ∙ both.0, ghost_now j lt ∙ both.1)
         ]

@@ -17,7 +17,8 @@ use Rattle.mako_poll.specs.declared.poller.PollStage.{PollStage}
 use Rattle.mako_poll.specs.declared.poller.PollStage.TheVariants.{Asking, Reading, Ended}
 use Rattle.mako_poll.proofs.Acting.{wrote_at}
 
-module _ (n : Numbers) (v : World) (one : n.servers ≡ 1) (o : IsOpeningWorld n v) (none : v.collector.pending ≡ []) where
+module _ (n : Numbers) (v : World) (one : n.servers ≡ 1) (o : IsOpeningWorld n v)
+    (none : v.collector.pending ≡ []) where
   in_range : 0 < n.servers
   in_range = (let e = one in omega arith)
 
@@ -35,27 +36,41 @@ module _ (n : Numbers) (v : World) (one : n.servers ≡ 1) (o : IsOpeningWorld n
   zero = o.words (flags 0) tt in_range
 
   still_zero : word_at n asked (flags 0) ≡ 0
-  still_zero = (wrote_at n v.words asked o.size (flags 0) (And (all_but changed_bit)) in_range refl).there ∙ ap (λ (w : ℕ). bit_and w (all_but changed_bit)) zero
+  still_zero = (wrote_at n v.words asked o.size (flags 0) (And (all_but changed_bit)) in_range refl).there
+      ∙ ap (λ (w : ℕ). bit_and w (all_but changed_bit)) zero
 
   clean : stage_fed n (Asking 0) (finds (stage_next n (Asking 0)) v.words) ≡ Reading 0
   clean = ap (λ (w : ℕ). stage_fed n (Asking 0) w) zero ∙ ap (λ (s : ℕ). if 1 == s then Reading 0 else Asking 1) one
 
   told : stage_fed n (Reading 0) (finds (stage_next n (Reading 0)) asked) ≡ Ended Told
-  told = ap (λ (w : ℕ). stage_fed n (Reading 0) w) still_zero ∙ ap (λ (s : ℕ). if 1 == s then Ended Told else Reading 1) one
+  told = ap (λ (w : ℕ). stage_fed n (Reading 0) w) still_zero
+      ∙ ap (λ (s : ℕ). if 1 == s then Ended Told else Reading 1) one
 
   begins : WorldStep n v (at v.words (Asking 0))
   begins = Collected (record v.collector { stage = polls (Asking 0) }) refl refl
-      (BeginsPoll (λ p is within. refl) (record { pending = ap (λ (names : List Name). is_filled names) none; windows = λ r lr. let w = o.windows r lr in w.1 ∙ sym w.0 }) (λ r lr. refl) refl)
+      (BeginsPoll (λ p is within. refl) (record {
+        pending = ap (λ (names : List Name). is_filled names) none;
+        windows = λ r lr. let w = o.windows r lr in w.1 ∙ sym w.0;
+      }) (λ r lr. refl) refl)
       (record { here = refl; servers = λ j lt. refl })
 
   asks : WorldStep n (at v.words (Asking 0)) (at asked (Reading 0))
-  asks = Polls (Asking 0) refl tt refl (record { here = ap (λ (s : PollStage). record v.collector { stage = polls s }) (sym clean); servers = λ j lt. refl })
+  asks = Polls (Asking 0) refl tt refl
+      (record {
+        here = ap (λ (s : PollStage). record v.collector { stage = polls s }) (sym clean);
+        servers = λ j lt. refl;
+      })
 
   reads : WorldStep n (at asked (Reading 0)) (at read (Ended Told))
-  reads = Polls (Reading 0) refl tt refl (record { here = ap (λ (s : PollStage). record v.collector { stage = polls s }) (sym told); servers = λ j lt. refl })
+  reads = Polls (Reading 0) refl tt refl
+      (record {
+        here = ap (λ (s : PollStage). record v.collector { stage = polls s }) (sym told);
+        servers = λ j lt. refl;
+      })
 
 pub opening_is_told : OpeningIsTold
 opening_is_told n v one o none = (
-  at n v one o none v.words (Asking 0) ∷ at n v one o none (asked n v one o none) (Reading 0) ∷ at n v one o none (read n v one o none) (Ended Told) ∷ [],
+  at n v one o none v.words (Asking 0) ∷ at n v one o none (asked n v one o none) (Reading 0) ∷
+      at n v one o none (read n v one o none) (Ended Told) ∷ [],
   ((begins n v one o none, (asks n v one o none, (reads n v one o none, tt))), refl),
 )

@@ -1,5 +1,6 @@
 -- The machine that polls for completion.
-use Rattle.std.specs.Prelude.{◌≡◌, ◌≢◌, ◌↔◌, ◌⊎◌, zero, suc, true, false, List, [], ◌∷◌, ◌++◌, ℕ, Bool, ◌+◌, ◌-◌, ◌*◌, ◌<◌, ◌==◌, ◌||◌, if◌then◌else◌}
+use Rattle.std.specs.Prelude.{◌≡◌, ◌≢◌, ◌↔◌, ◌⊎◌, zero, suc, true, false, List, [], ◌∷◌, ◌++◌, ℕ, Bool, ◌+◌, ◌-◌, ◌*◌}
+use Rattle.std.specs.Prelude.{◌<◌, ◌==◌, ◌||◌, if◌then◌else◌}
 use Rattle.mako_words.specs.Flags.{flag_at, IsPackedFlags}
 use Rattle.mako_words.specs.Words.{all_but}
 use Rattle.mako_shape.specs.declared.numbers.Numbers.{Numbers}
@@ -80,7 +81,8 @@ read n server w = record { act = record { word = index n (flags server); op = Lo
 -- the trail asks the servers below this one, and finds each without busy and ghost
 abbrev pub FoundClean : Numbers → ℕ → List Observation → Type 0
 FoundClean n zero trail = trail ≡ []
-FoundClean n (suc k) trail = (before : List Observation) × ((w : ℕ) × (FoundClean n k before × (has_work w ≡ false) × (trail ≡ before ++ asked n k w ∷ [])))
+FoundClean n (suc k) trail = (before : List Observation)
+    × ((w : ℕ) × (FoundClean n k before × (has_work w ≡ false) × (trail ≡ before ++ asked n k w ∷ [])))
 
 -- past pass 1, the trail reads the servers below this one, and finds the flags of each to be 0
 abbrev pub FoundZero : Numbers → ℕ → List Observation → Type 0
@@ -90,11 +92,14 @@ FoundZero n (suc k) trail = (before : List Observation) × (FoundZero n k before
 -- the last act of the trail is one of pass 1 that found busy or ghost, or one of pass 2 that found a word other than 0
 abbrev pub FoundWork : Numbers → ℕ → ℕ → List Observation → Type 0
 FoundWork n k w trail = (before : List Observation)
-    × ((FoundClean n k before × (has_work w ≡ true) × (trail ≡ before ++ asked n k w ∷ [])) ⊎ (FoundZero n k before × (w ≢ 0) × (trail ≡ before ++ read n k w ∷ [])))
+    × ((FoundClean n k before × (has_work w ≡ true) × (trail ≡ before ++ asked n k w ∷ []))
+    ⊎ (FoundZero n k before × (w ≢ 0) × (trail ≡ before ++ read n k w ∷ [])))
 
 -- What a poll that begins comes to: `Told` exactly where pass 1 found no server with busy or ghost and pass 2 found all
 -- flags 0, and `NotYet` exactly where a pass found otherwise, with the server and the word.
 pub record PollsAnswer : Type 0 where
-  pub told : (p l : PollView) (trail : List Observation) → 0 < p.shape.servers → p.stage ≡ Asking 0 → Goes next_of Fits fed p trail l → (l.stage ≡ Ended Told) ↔ FoundZero p.shape p.shape.servers trail
-  pub not_yet : (p l : PollView) (trail : List Observation) (k w : ℕ) → 0 < p.shape.servers → p.stage ≡ Asking 0 → Goes next_of Fits fed p trail l
+  pub told : (p l : PollView) (trail : List Observation) → 0 < p.shape.servers → p.stage ≡ Asking 0
+      → Goes next_of Fits fed p trail l → (l.stage ≡ Ended Told) ↔ FoundZero p.shape p.shape.servers trail
+  pub not_yet : (p l : PollView) (trail : List Observation) (k w : ℕ) → 0 < p.shape.servers → p.stage ≡ Asking 0
+      → Goes next_of Fits fed p trail l
       → (l.stage ≡ Ended (NotYet k w)) ↔ ((k < p.shape.servers) × FoundWork p.shape k w trail)

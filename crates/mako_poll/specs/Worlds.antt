@@ -54,7 +54,11 @@ abbrev pub collecting_of : Numbers → CollectorView → Collecting
 collecting_of n c = record { pending = is_filled c.pending; window = c.window; poll = poll_of n c.stage }
 
 abbrev pub scene_of : Numbers → World → Scene
-scene_of n v = record { word = word_at n v.words; server = λ j. serving_of (v.server j); collector = collecting_of n v.collector }
+scene_of n v = record {
+  word = word_at n v.words;
+  server = λ j. serving_of (v.server j);
+  collector = collecting_of n v.collector;
+}
 
 -- ---- steps
 -- server i's machine becomes another, and nothing else but words changes
@@ -85,17 +89,24 @@ IsOutside (polls (Ended polled)) = ⊥
 pub data WorldStep (n : Numbers) (v after : World) : Type 0 where
   -- the machine of a server makes its next act, which finds a word that it can go on with
   Traces : (i : ℕ) → IsAct (next_of (v.server i)) → Fits (v.server i) (finds (next_of (v.server i)) v.words)
-      → after.words ≡ words_stepped (next_of (v.server i)) v.words → Serves n v after i (fed (v.server i) (finds (next_of (v.server i)) v.words)) → WorldStep n v after
+      → after.words ≡ words_stepped (next_of (v.server i)) v.words
+      → Serves n v after i (fed (v.server i) (finds (next_of (v.server i)) v.words)) → WorldStep n v after
   -- the machine of a server, which is at its end, begins a turn
-  Begins : (i cycle : ℕ) → (v.server i).stage ≡ AtEnd → after.words ≡ v.words → Serves n v after i (begun (v.server i) cycle) → WorldStep n v after
+  Begins : (i cycle : ℕ) → (v.server i).stage ≡ AtEnd → after.words ≡ v.words
+      → Serves n v after i (begun (v.server i) cycle) → WorldStep n v after
   -- the collector's poll makes its next act
-  Polls : (stage : PollStage) → v.collector.stage ≡ polls stage → IsAct (stage_next n stage) → after.words ≡ words_stepped (stage_next n stage) v.words
-      → Collects n v after (record v.collector { stage = polls (stage_fed n stage (finds (stage_next n stage) v.words)) }) → WorldStep n v after
+  Polls : (stage : PollStage) → v.collector.stage ≡ polls stage → IsAct (stage_next n stage)
+      → after.words ≡ words_stepped (stage_next n stage) v.words
+      → Collects n v after
+      (record v.collector { stage = polls (stage_fed n stage (finds (stage_next n stage) v.words)) })
+      → WorldStep n v after
   -- the collector does something else, of the kinds that rings and flags know
   Collected : (c : CollectorView) → IsOutside c.stage → length after.words ≡ length v.words
-      → CollectorStep n (word_at n v.words) (word_at n after.words) (collecting_of n v.collector) (collecting_of n c) → Collects n v after c → WorldStep n v after
+      → CollectorStep n (word_at n v.words) (word_at n after.words) (collecting_of n v.collector) (collecting_of n c)
+      → Collects n v after c → WorldStep n v after
   -- another seat makes a step, which leaves rings and flags alone
-  Apart : length after.words ≡ length v.words → SamePolled n v.words after.words → after.server ≡ v.server → after.collector ≡ v.collector → WorldStep n v after
+  Apart : length after.words ≡ length v.words → SamePolled n v.words after.words → after.server ≡ v.server
+      → after.collector ≡ v.collector → WorldStep n v after
 
 -- a list of steps, each given by the world after it
 abbrev pub WorldSteps : Numbers → World → List World → Type 0
@@ -115,7 +126,8 @@ pub record WorldStands (n : Numbers) (v : World) : Type 0 where
   pub servers : (j : ℕ) → j < n.servers → TracerStands n j (v.server j)
   pub collector : CollectorStands n v.collector.stage
 
--- the opening state: the words of rings and flags are 0, no server has begun, and the collector is elsewhere with empty windows
+-- the opening state: the words of rings and flags are 0, no server has begun, and the collector is elsewhere with empty
+-- windows
 pub record IsOpeningWorld (n : Numbers) (v : World) : Type 0 where
   pub size : length v.words ≡ total n
   pub words : (p : Place) → IsPolled p → Within n p → word_at n v.words p ≡ 0
@@ -129,7 +141,8 @@ OpeningStands = (n : Numbers) (v : World) → 0 < n.ring → 0 < n.servers → I
 
 -- every list of steps keeps it
 abbrev pub WorldsStand : Type 0
-WorldsStand = (n : Numbers) (v : World) (steps : List World) → WorldStands n v → WorldSteps n v steps → WorldStands n (end_by v steps)
+WorldsStand = (n : Numbers) (v : World) (steps : List World) → WorldStands n v → WorldSteps n v steps
+    → WorldStands n (end_by v steps)
 
 -- the facets of the seats: those of servers and of the collector are what the machines hold
 abbrev pub IsFacetOf : Numbers → World → TraceFacet → Type 0
@@ -142,8 +155,10 @@ AreFacetsOf n v facets = (seat : ℕ) (facet : TraceFacet) → slice_get facets 
 
 -- told implies quiet: wherever a poll has ended with `Told`, after any list of steps, the heap is quiet
 abbrev pub ToldImpliesQuiet : Type 0
-ToldImpliesQuiet = (n : Numbers) (v : World) (steps : List World) (facets : List TraceFacet) → WorldStands n v → WorldSteps n v steps
-    → (end_by v steps).collector.stage ≡ polls (Ended Told) → AreFacetsOf n (end_by v steps) facets → IsQuiet n (end_by v steps).words facets
+ToldImpliesQuiet = (n : Numbers) (v : World) (steps : List World) (facets : List TraceFacet) → WorldStands n v
+    → WorldSteps n v steps
+    → (end_by v steps).collector.stage ≡ polls (Ended Told) → AreFacetsOf n (end_by v steps) facets
+    → IsQuiet n (end_by v steps).words facets
 
 -- the premises can be met: with one server, a poll that begins in the opening state is told
 abbrev pub OpeningIsTold : Type 0

@@ -3,7 +3,8 @@
 //! A scene is what rings, flags and polls read of a state; a world has the machines themselves, on
 //! one list of words. Each law is for any number of servers and every size of rings from 1.
 
-ghost use Rattle.mako_poll.specs.Laws.{ChainsHold, OpeningHolds, QuietStays, StandsSaysHolds, StepsHold, ToldIsQuiet, UnrestShows, WritesAreOne};
+ghost use Rattle.mako_poll.specs.Laws.{ChainsHold, OpeningHolds, QuietStays, StandsSaysHolds, StepsHold, ToldIsQuiet};
+ghost use Rattle.mako_poll.specs.Laws.{UnrestShows, WritesAreOne};
 ghost use Rattle.mako_poll.specs.Polls.{PollsAnswer};
 ghost use Rattle.mako_poll.specs.Worlds.{OpeningIsTold, OpeningStands, ToldImpliesQuiet, WorldsStand};
 

@@ -12,7 +12,8 @@ pub some_words : (n : Numbers) → IsShape n → 0 < n.words
 some_words n s = let e = s.in_range.each in omega (arith, e)
 
 -- a word of a region has an address
-pub region_address : (n : Numbers) (r w : ℕ) → r < n.servers * (n.tablets + n.spare) → w < n.words → IsAddress n (index n (region_word r 0) + w)
+pub region_address : (n : Numbers) (r w : ℕ) → r < n.servers * (n.tablets + n.spare) → w < n.words
+    → IsAddress n (index n (region_word r 0) + w)
 region_address n r w h k =
     let after = word_after n r w in
     let from = region_word-index n r 0 in

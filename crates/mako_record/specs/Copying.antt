@@ -11,7 +11,9 @@ use Rattle.mako_step.specs.declared.act.Op.TheVariants.{Load, Store}
 use Rattle.mako_step.specs.declared.step.Step.{Step}
 use Rattle.mako_step.specs.declared.step.Step.TheVariants.{Ended as NoStep}
 use Rattle.mako_record.specs.declared.copier.CopyStage.{CopyStage}
-use Rattle.mako_record.specs.declared.copier.CopyStage.TheVariants.{LoadingTop, LoadingHeader, StoringHeader, LoadingField, StoringField, StoringEntry, RaisingTop, Ended}
+use Rattle.mako_record.specs.declared.copier.CopyStage.TheVariants.{LoadingTop, LoadingHeader, StoringHeader}
+use Rattle.mako_record.specs.declared.copier.CopyStage.TheVariants.{LoadingField, StoringField, StoringEntry}
+use Rattle.mako_record.specs.declared.copier.CopyStage.TheVariants.{RaisingTop, Ended}
 
 -- the geometry, the entry's number and what was loaded from it, the home region of its tablet, and the stage
 pub record Copying : Type 0 where
@@ -33,15 +35,18 @@ top_index c = index c.shape (top (tablet_of_entry c.shape c.number))
 abbrev pub copied_to : Numbers → ℕ → ℕ → ℕ
 copied_to n home offset = index n (region_word home 0) + offset
 
--- load top; load the header, and store it at home + top; for each field load it and store it; store the entry with the new address; store top + fields + 1
+-- load top; load the header, and store it at home + top; for each field load it and store it; store the entry with the
+-- new address; store top + fields + 1
 abbrev pub copy_next : Numbers → ℕ → EntryWord → ℕ → CopyStage → Step
 copy_next n x e home LoadingTop = does (index n (top (tablet_of_entry n x))) Load
 copy_next n x e home (LoadingHeader offset) = does e.address Load
 copy_next n x e home (StoringHeader offset fields) = does (copied_to n home offset) (Store fields)
 copy_next n x e home (LoadingField offset fields field) = does (e.address + 1 + field) Load
 copy_next n x e home (StoringField offset fields field word) = does (copied_to n home (offset + 1 + field)) (Store word)
-copy_next n x e home (StoringEntry offset fields) = does (index n (entry x)) (Store (entry_word (record e { address = copied_to n home offset })))
-copy_next n x e home (RaisingTop offset fields) = does (index n (top (tablet_of_entry n x))) (Store (offset + fields + 1))
+copy_next n x e home (StoringEntry offset fields) =
+    does (index n (entry x)) (Store (entry_word (record e { address = copied_to n home offset })))
+copy_next n x e home (RaisingTop offset fields) =
+    does (index n (top (tablet_of_entry n x))) (Store (offset + fields + 1))
 copy_next n x e home (Ended address) = NoStep
 
 abbrev pub next_of : Copying → Step
@@ -49,7 +54,8 @@ next_of c = copy_next c.shape c.number c.entry c.home c.stage
 
 -- before the field with this number, or before the entry where there are no more
 abbrev pub before_field : ℕ → ℕ → ℕ → CopyStage
-before_field offset fields field = if nat_lt field fields then LoadingField offset fields field else StoringEntry offset fields
+before_field offset fields field =
+    if nat_lt field fields then LoadingField offset fields field else StoringEntry offset fields
 
 abbrev pub stage_fed : Numbers → ℕ → CopyStage → ℕ → CopyStage
 stage_fed n home LoadingTop w = LoadingHeader w
@@ -64,7 +70,8 @@ stage_fed n home (Ended address) w = Ended address
 abbrev pub fed : Copying → ℕ → Copying
 fed c w = record c { stage = stage_fed c.shape c.home c.stage w }
 
--- the top is one of a region; the record has a header of at most 14 fields, lies within all words, and its copy fits into the home region
+-- the top is one of a region; the record has a header of at most 14 fields, lies within all words, and its copy fits
+-- into the home region
 abbrev pub StageFits : Numbers → EntryWord → CopyStage → ℕ → Type 0
 StageFits n e LoadingTop w = w ≤ n.words
 StageFits n e (LoadingHeader offset) w = (w ≤ 14) × (e.address + w < total n) × (offset + w + 1 ≤ n.words)

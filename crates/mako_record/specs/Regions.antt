@@ -5,4 +5,5 @@ use Rattle.mako_shape.specs.Places.{index, region_word}
 
 -- whether the address is that of a word of the region
 abbrev pub is_in_region : Numbers → ℕ → ℕ → Bool
-is_in_region n region address = nat_le (index n (region_word region 0)) address && nat_lt (address - index n (region_word region 0)) n.words
+is_in_region n region address =
+    nat_le (index n (region_word region 0)) address && nat_lt (address - index n (region_word region 0)) n.words

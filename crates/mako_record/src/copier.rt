@@ -70,11 +70,29 @@ impl Model for Copier {
 
     ghost use Rattle.mako_record.specs.Copying.{IsKnown};
 
-    ghost view = { λ c. record { shape = c.shape; number = c.number; entry = c.entry; home = c.home; stage = c.stage } };
+    ghost view = { λ c. record {
+      shape = c.shape;
+      number = c.number;
+      entry = c.entry;
+      home = c.home;
+      stage = c.stage;
+    } };
 
-    ghost invariant = { λ c. IsKnown (record { shape = c.shape; number = c.number; entry = c.entry; home = c.home; stage = c.stage }) };
+    ghost invariant = { λ c. IsKnown (record {
+      shape = c.shape;
+      number = c.number;
+      entry = c.entry;
+      home = c.home;
+      stage = c.stage;
+    }) };
 
-    ghost inverse = { λ v. record { shape = v.shape; number = v.number; entry = v.entry; home = v.home; stage = v.stage } };
+    ghost inverse = { λ v. record {
+      shape = v.shape;
+      number = v.number;
+      entry = v.entry;
+      home = v.home;
+      stage = v.stage;
+    } };
 }
 
 impl Copier {

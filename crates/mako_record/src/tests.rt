@@ -71,7 +71,13 @@ where
 /// The words after so many steps of a copy of the entry's record into region 1. `None` where the copy
 /// has not ended then, or not with this address.
 fn copied(alloc: Global, given: &[(u32, u64)], steps: u32, address: u32) -> Option<FlatWords>
-    requires { CanGo copying.next_of copying.Fits copying.fed steps (record { shape = NUMBERS; number = 1; entry = ENTRY; home = 1; stage = stages.LoadingTop }) (written (replicate COUNT 0) given.now) }
+    requires { CanGo copying.next_of copying.Fits copying.fed steps (record {
+      shape = NUMBERS;
+      number = 1;
+      entry = ENTRY;
+      home = 1;
+      stage = stages.LoadingTop;
+    }) (written (replicate COUNT 0) given.now) }
     ensures { IfSome result (λ words. length words ≡ COUNT) }
 {
     let shape = Shape::new(NUMBERS).ok()?;

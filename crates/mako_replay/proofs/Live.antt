@@ -48,8 +48,13 @@ pub record Found (b : ℕ) (seats : List Seat) (x : ℕ) : Type 0 where
   pub live : is_end (place_of seat) ≡ false
 
 found_later : (b : ℕ) (v : Seat) (seats : List Seat) (x : ℕ) → Found (b + 1) seats x → Found b (v ∷ seats) x
-found_later b v seats x f = record { at = suc f.at; seat = f.seat; is = let e = f.is in omega arith; there = f.there;
-    live = f.live }
+found_later b v seats x f = record {
+  at = suc f.at;
+  seat = f.seat;
+  is = let e = f.is in omega arith;
+  there = f.there;
+  live = f.live;
+}
 
 found_by : (b : ℕ) (v : Seat) (seats : List Seat) (e : Bool) (xs : List ℕ) (p : ℕ) → is_end (place_of v) ≡ e
     → ((q : ℕ) → q < length xs → Found (b + 1) seats (get_or xs q 0))
@@ -135,13 +140,13 @@ at_later b j false f xs ys (suc p) up later low is = behind_first b f xs ys p (l
 pub set_live : (b : ℕ) (seats : List Seat) (p j : ℕ) (v : Seat) → p < length (live_from b seats)
     → get_or (live_from b seats) p 0 ≡ b + j
     → live_from b (slice_set seats j v) ≡ (if is_end (place_of v) then remove
-        (live_from b seats) p else live_from b seats)
+    (live_from b seats) p else live_from b seats)
 set_live b [] p j v low is = absurd (omega arith)
 set_live b (u ∷ seats) p zero v low is =
     at_zero b (is_end (place_of u)) (is_end (place_of v)) (live_from (b + 1) seats) p (ascends (b + 1) seats) low is
 set_live b (u ∷ seats) p (suc j) v low is =
     at_later b j (is_end (place_of u)) (is_end (place_of v)) (live_from (b + 1) seats)
-        (live_from (b + 1) (slice_set seats j v)) p
+    (live_from (b + 1) (slice_set seats j v)) p
     (ascends (b + 1) seats) (λ q. set_live (b + 1) seats q j v) low is
 
 -- ---- one seat more

@@ -65,7 +65,7 @@ module _ (st : CoreState) (xs : List ℕ) (p seat : ℕ) (is : xs ≡ live st.se
       ap (λ (s : CoreState). s.seats) (steps ∙ ap (step_of st) its_number) ∙ c.seats in
       let there : slice_get after.seats seat ≡ Some c.seat =
       ap (slice_get after.seats) its_number ∙ ap (λ (ss : List Seat). slice_get ss one.at) seats
-          ∙ set_read st.seats one.at c.seat within in
+      ∙ set_read st.seats one.at c.seat within in
       ap live seats ∙ set_live 0 st.seats p one.at c.seat low_live one.is
       ∙ ap (λ (b : Bool). if b then remove (live st.seats) p else live st.seats) (sym (tells c.seat there))
       ∙ ap (λ (ys : List ℕ). if e then remove ys p else ys) (sym is)
@@ -82,7 +82,7 @@ module _ (r : Running) (g : Going) (come : HasCome r g) (is : r.live.items ≡ l
 
   going : (place : ℕ) (xs : List ℕ) → live g.state.seats ≡ xs → xs ≢ [] → StandsFor r.schedule g.left xs
       → ((first : ℕ) (others : List ℕ) → length xs ≡ length (first ∷ others)
-          → StandsFor r.schedule g.left (first ∷ others)
+      → StandsFor r.schedule g.left (first ∷ others)
       → slice_index (first ∷ others) place ≡ chosen g.left first others)
       → advanced g ≡ stepped g (slice_index xs place)
   going place [] same some at chooses = absurd (some refl)
@@ -92,7 +92,7 @@ module _ (r : Running) (g : Going) (come : HasCome r g) (is : r.live.items ≡ l
   -- the step of the chosen seat is the next of the run
   pub come_on : (new : Running) (place seat : ℕ) → r.live.items ≢ [] → seat ≡ slice_index r.live.items place
       → ((first : ℕ) (others : List ℕ) → length r.live.items ≡ length (first ∷ others)
-          → StandsFor r.schedule g.left (first ∷ others)
+      → StandsFor r.schedule g.left (first ∷ others)
       → slice_index (first ∷ others) place ≡ chosen g.left first others)
       → new.core.state ≡ step_of r.core.state seat → new.steps_made ≡ r.steps_made + 1
       → (xs : List ℕ) → live new.core.state.seats ≡ xs

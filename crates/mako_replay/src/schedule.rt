@@ -35,7 +35,7 @@ impl Schedule {
         ensures place { result < count }
         ensures chosen { (left : Left) (first : ℕ) (others : List ℕ) → count ≡ length (first ∷ others)
             → StandsFor self.old left (first ∷ others)
-                → slice_index (first ∷ others) result ≡ chosen left first others }
+            → slice_index (first ∷ others) result ≡ chosen left first others }
         ensures left { (left : Left) (live : List ℕ) → count ≡ length live → IsAscending live
             → StandsFor self.old left live
             → StandsFor self.new (left_after left (slice_index live result)) live }

@@ -1,5 +1,6 @@
 -- What is found: a window that is open, and the server of a name.
-use Rattle.std.proofs.Common.{◌≡◌, ℕ, ◌+◌, ◌-◌, ◌<◌, true, Some, List, length, drop, slice_index_or, get_or, ap, sym, ◌∙◌, arith}
+use Rattle.std.proofs.Common.{◌≡◌, ℕ, ◌+◌, ◌-◌, ◌<◌, true, Some, List, length, drop, slice_index_or, get_or, ap, sym}
+use Rattle.std.proofs.Common.{◌∙◌, arith}
 use Rattle.std.specs.List.{position}
 use Rattle.std.proofs.lemmas.Bool.Decides.{nat_tests}
 use Rattle.std.proofs.lemmas.List.{get_or-drop, length-drop}
@@ -13,7 +14,8 @@ use Rattle.mako_ring.specs.declared.window.Window.{Window}
 
 -- the window that is found is open
 pub found_window : (first : ℕ) (ws : List Window) (k : ℕ) → position is_open (drop first ws) ≡ Some k
-    → (first + k < length ws) × ((slice_index_or ws (first + k) no_window).tail < (slice_index_or ws (first + k) no_window).head)
+    → (first + k < length ws)
+    × ((slice_index_or ws (first + k) no_window).tail < (slice_index_or ws (first + k) no_window).head)
 found_window first ws k e =
     let f = position-Some is_open (drop first ws) k no_window e in
     let l : length (drop first ws) ≡ length ws - first = length-drop first ws in
@@ -26,4 +28,5 @@ found_window first ws k e =
 
 -- the server of a name of an entry in range is in range
 pub owner_in_range : (n : Numbers) (x : Name) → IsNamed n x → owner n x < n.servers
-owner_in_range n x named = belongings_in_range.tablet n (tablet_of_entry n x.entry) (belongings_in_range.entry n x.entry named)
+owner_in_range n x named =
+    belongings_in_range.tablet n (tablet_of_entry n x.entry) (belongings_in_range.entry n x.entry named)

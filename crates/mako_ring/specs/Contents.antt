@@ -1,5 +1,6 @@
 -- The content of a ring of slots, of which the empty ones are 0.
-use Rattle.std.specs.Prelude.{ℕ, zero, suc, ◌≡◌, ◌≢◌, ◌+◌, ◌%◌, ◌<◌, ◌≤◌, ◌==◌, if◌then◌else◌, List, [], ◌∷◌, ◌++◌, length}
+use Rattle.std.specs.Prelude.{ℕ, zero, suc, ◌≡◌, ◌≢◌, ◌+◌, ◌%◌, ◌<◌, ◌≤◌, ◌==◌, if◌then◌else◌, List, [], ◌∷◌, ◌++◌}
+use Rattle.std.specs.Prelude.{length}
 use Rattle.mako_ring.specs.declared.window.Window.{Window}
 use Rattle.mako_ring.specs.Windows.{IsWindow}
 
@@ -13,7 +14,8 @@ abbrev pub content_within : (left size : ℕ) → (ℕ → ℕ) → ℕ → List
 content_within zero size slot at = []
 content_within (suc left) size slot at = ahead (slot (at % size)) (content_within left size slot (at + 1))
 
--- the content of a ring: the slots from the taker's position on, around the ring, before the first 0, or all where none is 0
+-- the content of a ring: the slots from the taker's position on, around the ring, before the first 0, or all where none
+-- is 0
 abbrev pub content : ℕ → (ℕ → ℕ) → ℕ → List ℕ
 content size slot at = content_within size size slot at
 
@@ -43,17 +45,22 @@ SlotWritten size slot after k x = (after k ≡ x) × ((j : ℕ) → j < size →
 
 -- a put into the empty slot at the putter's place appends
 abbrev pub PutAppends : Type 0
-PutAppends = (size : ℕ) (slot after : ℕ → ℕ) (at next x : ℕ) → at < size → OthersEmpty size slot at → NextPlace size slot at next
+PutAppends = (size : ℕ) (slot after : ℕ → ℕ) (at next x : ℕ) → at < size → OthersEmpty size slot at
+    → NextPlace size slot at next
     → slot (next % size) ≡ 0 → x ≢ 0 → SlotWritten size slot after (next % size) x
-    → (content size after at ≡ content size slot at ++ x ∷ []) × OthersEmpty size after at × NextPlace size after at (next + 1)
+    → (content size after at ≡ content size slot at ++ x ∷ []) × OthersEmpty size after at
+    × NextPlace size after at (next + 1)
 
 -- a take of the filled slot at the taker's place removes the first
 abbrev pub TakeRemovesTheFirst : Type 0
-TakeRemovesTheFirst = (size : ℕ) (slot after : ℕ → ℕ) (at next : ℕ) → at < size → OthersEmpty size slot at → NextPlace size slot at next
+TakeRemovesTheFirst = (size : ℕ) (slot after : ℕ → ℕ) (at next : ℕ) → at < size → OthersEmpty size slot at
+    → NextPlace size slot at next
     → slot at ≢ 0 → SlotWritten size slot after at 0
-    → (content size slot at ≡ slot at ∷ content size after (after_place size at)) × OthersEmpty size after (after_place size at) × NextPlace size after (after_place size at) next
+    → (content size slot at ≡ slot at ∷ content size after (after_place size at))
+    × OthersEmpty size after (after_place size at) × NextPlace size after (after_place size at) next
 
--- a ring over time: its slots, the taker's position and the putter's next place, and all that was put and taken, in order
+-- a ring over time: its slots, the taker's position and the putter's next place, and all that was put and taken, in
+-- order
 pub record Ringing : Type 0 where
   pub slot : ℕ → ℕ
   pub at : ℕ
@@ -73,7 +80,8 @@ pub data RingStep (size : ℕ) (s : Ringing) (t : Ringing) : Type 0 where
   Puts : (x : ℕ) (slot : ℕ → ℕ) → s.slot (s.next % size) ≡ 0 → x ≢ 0 → SlotWritten size s.slot slot (s.next % size) x
       → t ≡ record s { slot = slot; next = s.next + 1; put = s.put ++ x ∷ [] } → RingStep size s t
   Takes : (slot : ℕ → ℕ) → s.slot s.at ≢ 0 → SlotWritten size s.slot slot s.at 0
-      → t ≡ record s { slot = slot; at = after_place size s.at; taken = s.taken ++ s.slot s.at ∷ [] } → RingStep size s t
+      → t ≡ record s { slot = slot; at = after_place size s.at; taken = s.taken ++ s.slot s.at ∷ [] }
+      → RingStep size s t
 
 abbrev pub RingSteps : ℕ → Ringing → List Ringing → Type 0
 RingSteps size s [] = Unit {0}
@@ -85,4 +93,5 @@ ring_end s (t ∷ ts) = ring_end t ts
 
 -- what was taken is a prefix of what was put
 abbrev pub TakenIsAPrefix : Type 0
-TakenIsAPrefix = (size : ℕ) (s : Ringing) (steps : List Ringing) → RingingStands size s → RingSteps size s steps → RingingStands size (ring_end s steps)
+TakenIsAPrefix = (size : ℕ) (s : Ringing) (steps : List Ringing) → RingingStands size s → RingSteps size s steps
+    → RingingStands size (ring_end s steps)

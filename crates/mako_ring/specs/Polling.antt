@@ -3,7 +3,9 @@ use Rattle.std.specs.Prelude.{ℕ, true, false, ◌≡◌, ◌≢◌, ◌+◌, �
 use Rattle.mako_shape.specs.declared.numbers.Numbers.{Numbers}
 use Rattle.mako_shape.specs.Places.{Place, flags, work, ghost}
 use Rattle.mako_ring.specs.Contents.{RingStands}
-use Rattle.mako_ring.specs.Facets.{Doing, resting, sending, storing, taking, clearing, Serving, Poll, elsewhere, forwarding, polling, reading, Collecting, Scene, flags_of, incoming, IsSource, IsStoring, IsClearing}
+use Rattle.mako_ring.specs.Facets.{Doing, resting, sending, storing, taking, clearing, Serving, Poll, elsewhere}
+use Rattle.mako_ring.specs.Facets.{forwarding, polling, reading, Collecting, Scene, flags_of, incoming, IsSource}
+use Rattle.mako_ring.specs.Facets.{IsStoring, IsClearing}
 use Rattle.mako_ring.specs.Rings.{slots_of}
 use Rattle.mako_ring.specs.declared.ring.Ring.TheVariants.{Work, Ghost}
 use Rattle.mako_ring.specs.declared.tracing.Source.{Source}
@@ -14,7 +16,8 @@ pub record FlagsStand (n : Numbers) (word : Place → ℕ) (s : ℕ) (f : Servin
   -- with busy clear it has no work, and is not about to clear a slot
   pub busy : (flags_of word s).busy ≡ false → (f.working ≡ false) × (¬ IsClearing f.doing)
   -- with ghost clear each slot that it fills is empty, and it is not about to store
-  pub sent : (flags_of word s).ghost_ ≡ false → (¬ IsStoring f.doing) × ((r k : ℕ) → r < n.servers → k < n.ring → word (ghost s r k) ≡ 0)
+  pub sent : (flags_of word s).ghost_ ≡ false → (¬ IsStoring f.doing)
+      × ((r k : ℕ) → r < n.servers → k < n.ring → word (ghost s r k) ≡ 0)
   -- the ring to itself is never used
   pub own : (k : ℕ) → k < n.ring → word (ghost s s k) ≡ 0
 
@@ -42,7 +45,8 @@ DoingStands n word s f (clearing source w) = MayTake n word s f source w
 
 -- the ring from one server to another
 abbrev pub GhostStands : Numbers → (Place → ℕ) → ℕ → ℕ → Serving → Serving → Type 0
-GhostStands n word a b sender receiver = RingStands n.ring (slots_of word (Ghost a b)) (receiver.ghost_at a) (sender.window b)
+GhostStands n word a b sender receiver =
+    RingStands n.ring (slots_of word (Ghost a b)) (receiver.ghost_at a) (sender.window b)
 
 -- the work ring of a server
 abbrev pub WorkStands : Numbers → (Place → ℕ) → ℕ → Collecting → Serving → Type 0
@@ -62,7 +66,8 @@ pub record NothingSent (n : Numbers) (c : Collecting) : Type 0 where
 
 -- a server that was found clean shows a change, or is clean: with changed clear, busy and ghost are
 abbrev pub StaysClean : (Place → ℕ) → ℕ → Type 0
-StaysClean word j = (flags_of word j).changed ≡ false → ((flags_of word j).busy ≡ false) × ((flags_of word j).ghost_ ≡ false)
+StaysClean word j = (flags_of word j).changed ≡ false → ((flags_of word j).busy ≡ false)
+    × ((flags_of word j).ghost_ ≡ false)
 
 -- no server from that one on shows a change
 abbrev pub NoChange : Numbers → (Place → ℕ) → ℕ → Type 0
@@ -71,7 +76,8 @@ NoChange n word k = (j : ℕ) → k ≤ j → j < n.servers → (flags_of word j
 -- where the collector is, what it found is still so
 abbrev pub PollStands : Numbers → Scene → Poll → Type 0
 PollStands n s elsewhere = Unit {0}
-PollStands n s (forwarding r) = (r < n.servers) × (s.word (work r ((s.collector.window r).head % n.ring)) ≡ 0) × ((s.collector.window r).head < (s.collector.window r).tail + n.ring)
+PollStands n s (forwarding r) = (r < n.servers) × (s.word (work r ((s.collector.window r).head % n.ring)) ≡ 0)
+    × ((s.collector.window r).head < (s.collector.window r).tail + n.ring)
 PollStands n s (polling k) = NothingSent n s.collector × ((j : ℕ) → j < n.servers → j < k → StaysClean s.word j)
 PollStands n s (reading k) = NothingSent n s.collector × (NoChange n s.word k → IsQuietScene n s)
 
@@ -87,19 +93,24 @@ pub record PollingStands (n : Numbers) (s : Scene) : Type 0 where
 -- ---- the polling invariant in words
 
 -- What is said of a poll, in words: in pass 1 each server that was found clean shows a change, or is clean; in pass 2
--- the heap is quiet, or a server that is still to be read shows a change; in both nothing is pending and no work slot is filled.
+-- the heap is quiet, or a server that is still to be read shows a change; in both nothing is pending and no work slot
+-- is filled.
 abbrev pub PollSays : Numbers → Scene → Poll → Type 0
 PollSays n s elsewhere = Unit {0}
 PollSays n s (forwarding r) = Unit {0}
-PollSays n s (polling k) = (s.collector.pending ≡ false) × ((r i : ℕ) → r < n.servers → i < n.ring → s.word (work r i) ≡ 0)
-    × ((j : ℕ) → j < n.servers → j < k → ((flags_of s.word j).changed ≡ true) ⊎ (((flags_of s.word j).busy ≡ false) × ((flags_of s.word j).ghost_ ≡ false)))
-PollSays n s (reading k) = (s.collector.pending ≡ false) × ((r i : ℕ) → r < n.servers → i < n.ring → s.word (work r i) ≡ 0)
+PollSays n s (polling k) = (s.collector.pending ≡ false)
+    × ((r i : ℕ) → r < n.servers → i < n.ring → s.word (work r i) ≡ 0)
+    × ((j : ℕ) → j < n.servers → j < k → ((flags_of s.word j).changed ≡ true)
+    ⊎ (((flags_of s.word j).busy ≡ false) × ((flags_of s.word j).ghost_ ≡ false)))
+PollSays n s (reading k) = (s.collector.pending ≡ false)
+    × ((r i : ℕ) → r < n.servers → i < n.ring → s.word (work r i) ≡ 0)
     × (IsQuietScene n s ⊎ ((j : ℕ) × ((k ≤ j) × (j < n.servers) × ((flags_of s.word j).changed ≡ true))))
 
 -- the polling invariant in words
 pub record PollingHolds (n : Numbers) (s : Scene) : Type 0 where
   pub busy : (j : ℕ) → j < n.servers → (s.server j).working ≡ true → (flags_of s.word j).busy ≡ true
-  pub sent : (j r k : ℕ) → j < n.servers → r < n.servers → k < n.ring → s.word (ghost j r k) ≢ 0 → (flags_of s.word j).ghost_ ≡ true
+  pub sent : (j r k : ℕ) → j < n.servers → r < n.servers → k < n.ring → s.word (ghost j r k) ≢ 0
+      → (flags_of s.word j).ghost_ ≡ true
   pub ghosts : (a b : ℕ) → a < n.servers → b < n.servers → a ≢ b → GhostStands n s.word a b (s.server a) (s.server b)
   pub works : (r : ℕ) → r < n.servers → WorkStands n s.word r s.collector (s.server r)
   pub poll : PollSays n s s.collector.poll

@@ -82,10 +82,14 @@ pub record IsKnown (n : Numbers) (r : Ring) (w : Window) (s : PutStage) : Type 0
 -- ---- its answers
 -- the trail begins with the look, which found this word
 abbrev pub LookFound : PutView → ℕ → List Observation → Type 0
-LookFound p w trail = (more : List Observation) × (trail ≡ record { act = record { word = head_slot p; op = Load }; found = w } ∷ more)
+LookFound p w trail = (more : List Observation)
+    × (trail ≡ record { act = record { word = head_slot p; op = Load }; found = w } ∷ more)
 
 -- what a put that begins comes to: `Occupied` exactly where its look found a word other than 0, and with it; and else,
 -- at its end, `Stored` with the window after the put
 pub record PutsAnswer : Type 0 where
-  pub occupied : (p l : PutView) (trail : List Observation) (w : ℕ) → p.stage ≡ Looking → Goes next_of Fits fed p trail l → (l.stage ≡ Ended (Occupied w)) ↔ (LookFound p w trail × (w ≢ 0))
-  pub stored : (p l : PutView) (trail : List Observation) (v : Window) → p.stage ≡ Looking → Goes next_of Fits fed p trail l → l.stage ≡ Ended (Stored v) → LookFound p 0 trail × (v ≡ put_up p.shape.ring p.window)
+  pub occupied : (p l : PutView) (trail : List Observation) (w : ℕ) → p.stage ≡ Looking
+      → Goes next_of Fits fed p trail l → (l.stage ≡ Ended (Occupied w)) ↔ (LookFound p w trail × (w ≢ 0))
+  pub stored : (p l : PutView) (trail : List Observation) (v : Window) → p.stage ≡ Looking
+      → Goes next_of Fits fed p trail l → l.stage ≡ Ended (Stored v) → LookFound p 0 trail
+      × (v ≡ put_up p.shape.ring p.window)

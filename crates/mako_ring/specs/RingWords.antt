@@ -22,11 +22,17 @@ with_slot n words ring k x = slice_set words (index n (slot_place ring k)) x
 
 -- a put's store appends to what the ring holds, a take's removes the first word, and neither touches another ring
 pub record RingsOnWords : Type 0 where
-  pub put : (n : Numbers) (words : List ℕ) (ring : Ring) (at : ℕ) (w : Window) (x : ℕ) → length words ≡ total n → IsRing n ring → Stands n words ring at w
+  pub put : (n : Numbers) (words : List ℕ) (ring : Ring) (at : ℕ) (w : Window) (x : ℕ) → length words ≡ total n
+      → IsRing n ring → Stands n words ring at w
       → word_at n words (slot_place ring (w.head % n.ring)) ≡ 0 → x ≢ 0
-      → (held n (with_slot n words ring (w.head % n.ring) x) ring at ≡ held n words ring at ++ x ∷ []) × Stands n (with_slot n words ring (w.head % n.ring) x) ring at (put_up n.ring w)
-  pub take : (n : Numbers) (words : List ℕ) (ring : Ring) (at : ℕ) (w : Window) → length words ≡ total n → IsRing n ring → Stands n words ring at w
+      → (held n (with_slot n words ring (w.head % n.ring) x) ring at ≡ held n words ring at ++ x ∷ [])
+      × Stands n (with_slot n words ring (w.head % n.ring) x) ring at (put_up n.ring w)
+  pub take : (n : Numbers) (words : List ℕ) (ring : Ring) (at : ℕ) (w : Window) → length words ≡ total n → IsRing n ring
+      → Stands n words ring at w
       → word_at n words (slot_place ring at) ≢ 0
-      → (held n words ring at ≡ word_at n words (slot_place ring at) ∷ held n (with_slot n words ring at 0) ring (after_place n.ring at)) × Stands n (with_slot n words ring at 0) ring (after_place n.ring at) w
-  pub others : (n : Numbers) (words : List ℕ) (ring other : Ring) (k j x : ℕ) → IsRing n ring → IsRing n other → k < n.ring → j < n.ring → other ≢ ring
+      → (held n words ring at ≡ word_at n words (slot_place ring at) ∷
+      held n (with_slot n words ring at 0) ring (after_place n.ring at))
+      × Stands n (with_slot n words ring at 0) ring (after_place n.ring at) w
+  pub others : (n : Numbers) (words : List ℕ) (ring other : Ring) (k j x : ℕ) → IsRing n ring → IsRing n other
+      → k < n.ring → j < n.ring → other ≢ ring
       → word_at n (with_slot n words ring k x) (slot_place other j) ≡ word_at n words (slot_place other j)

@@ -50,7 +50,8 @@ abbrev pub IsShaded : Numbers → List ℕ → List TraceFacet → ℕ → Name 
 IsShaded n words facets cycle x = IsGrey n words facets x ⊎ IsMarked n words cycle x
 
 -- some seat has still to load the field
-pub record IsWorkedOn (n : Numbers) (words : List ℕ) (facets : List TraceFacet) (object : Name) (field : ℕ) : Type 0 where
+pub record IsWorkedOn (n : Numbers) (words : List ℕ) (facets : List TraceFacet) (object : Name)
+    (field : ℕ) : Type 0 where
   pub seat : ℕ
   pub facet : TraceFacet
   pub at : slice_get facets seat ≡ Some facet
@@ -63,7 +64,8 @@ IsWaiting n words facets cycle object field = (¬ IsMarked n words cycle object)
 -- nothing is left to trace but what stands in barrier slots
 pub record IsQuiet (n : Numbers) (words : List ℕ) (facets : List TraceFacet) : Type 0 where
   pub works : (s slot : ℕ) → Within n (work s slot) → word_at n words (work s slot) ≡ 0
-  pub ghosts : (sender receiver slot : ℕ) → Within n (ghost sender receiver slot) → word_at n words (ghost sender receiver slot) ≡ 0
+  pub ghosts : (sender receiver slot : ℕ) → Within n (ghost sender receiver slot)
+      → word_at n words (ghost sender receiver slot) ≡ 0
   pub seats : (seat : ℕ) (f : TraceFacet) → slice_get facets seat ≡ Some f → IsIdle f
 
 -- nothing stands there either, and no mutator is admitted at its gate

@@ -79,9 +79,13 @@ pub record IsKnown (n : Numbers) (r : Ring) (at : ℕ) (s : TakeStage) : Type 0 
 -- ---- its answers
 -- the trail begins with the look, which found this word
 abbrev pub LookFound : TakeView → ℕ → List Observation → Type 0
-LookFound t w trail = (more : List Observation) × (trail ≡ record { act = record { word = own_slot t; op = Load }; found = w } ∷ more)
+LookFound t w trail = (more : List Observation)
+    × (trail ≡ record { act = record { word = own_slot t; op = Load }; found = w } ∷ more)
 
--- what a take that begins comes to: `Empty` exactly where its look found 0; and else, at its end, `Got` with the word found
+-- what a take that begins comes to: `Empty` exactly where its look found 0; and else, at its end, `Got` with the word
+-- found
 pub record TakesAnswer : Type 0 where
-  pub empty : (t l : TakeView) (trail : List Observation) → t.stage ≡ Looking → Goes next_of Fits fed t trail l → (l.stage ≡ Ended Empty) ↔ LookFound t 0 trail
-  pub got : (t l : TakeView) (trail : List Observation) (w : ℕ) → t.stage ≡ Looking → Goes next_of Fits fed t trail l → l.stage ≡ Ended (Got w) → LookFound t w trail × (w ≢ 0)
+  pub empty : (t l : TakeView) (trail : List Observation) → t.stage ≡ Looking → Goes next_of Fits fed t trail l
+      → (l.stage ≡ Ended Empty) ↔ LookFound t 0 trail
+  pub got : (t l : TakeView) (trail : List Observation) (w : ℕ) → t.stage ≡ Looking → Goes next_of Fits fed t trail l
+      → l.stage ≡ Ended (Got w) → LookFound t w trail × (w ≢ 0)

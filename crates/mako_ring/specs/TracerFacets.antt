@@ -2,14 +2,17 @@
 use Rattle.std.specs.Prelude.{slice_index}
 use Rattle.mako_words.specs.Names.{name_word}
 use Rattle.mako_ring.specs.Facets.{Doing, resting, sending, storing, taking, clearing, Serving}
-use Rattle.mako_ring.specs.TraceFacets.{Hand, empty, considering, marking, pushing, Off, nothing, popped, located, Work, is_working}
+use Rattle.mako_ring.specs.TraceFacets.{Hand, empty, considering, marking, pushing, Off, nothing, popped, located, Work}
+use Rattle.mako_ring.specs.TraceFacets.{is_working}
 use Rattle.mako_ring.specs.Tracing.{TracerView, owner, window_of}
 use Rattle.mako_ring.specs.declared.tracing.SendStage.TheVariants.{HeadLook, GhostRaise, HeadStore}
 use Rattle.mako_ring.specs.declared.tracing.ScanStage.TheVariants.{FieldLoad, EntryLoad, HeaderLoad}
 use Rattle.mako_ring.specs.declared.tracing.ReceiveStage.TheVariants.{SlotLook, BusyRaise, SlotClear}
-use Rattle.mako_ring.specs.declared.tracing.MarkStage.TheVariants.{Considering, Measuring, Marking as EntryMark, Counting}
+use Rattle.mako_ring.specs.declared.tracing.MarkStage.TheVariants.{Considering, Measuring, Marking as EntryMark}
+use Rattle.mako_ring.specs.declared.tracing.MarkStage.TheVariants.{Counting}
 use Rattle.mako_ring.specs.declared.tracing.TraceStage.{TraceStage}
-use Rattle.mako_ring.specs.declared.tracing.TraceStage.TheVariants.{Sending, Scanning, Receiving, Marking, Resting, Ended}
+use Rattle.mako_ring.specs.declared.tracing.TraceStage.TheVariants.{Sending, Scanning, Receiving, Marking, Resting}
+use Rattle.mako_ring.specs.declared.tracing.TraceStage.TheVariants.{Ended}
 
 -- the name in hand
 abbrev pub hand_of : TraceStage → Hand
@@ -36,7 +39,14 @@ off_of Ended = nothing
 
 -- what it has to trace
 abbrev pub work_of : TracerView → Work
-work_of t = record { server = t.server; hand = hand_of t.stage; outgoing = t.outgoing; stack = t.stack; off = off_of t.stage; scan = t.scan }
+work_of t = record {
+  server = t.server;
+  hand = hand_of t.stage;
+  outgoing = t.outgoing;
+  stack = t.stack;
+  off = off_of t.stage;
+  scan = t.scan;
+}
 
 -- what it is about to do on a ring
 abbrev pub doing_of : TracerView → TraceStage → Doing

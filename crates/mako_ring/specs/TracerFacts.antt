@@ -1,5 +1,6 @@
 -- What is kept of a server's tracing machine, as far as polls need it.
-use Rattle.std.specs.Prelude.{ℕ, Bool, true, false, ◌≡◌, ◌≢◌, ◌<◌, ◌||◌, List, length, position, slice_index_or, is_some, is_none, Some, None}
+use Rattle.std.specs.Prelude.{ℕ, Bool, true, false, ◌≡◌, ◌≢◌, ◌<◌, ◌||◌, List, length, position, slice_index_or}
+use Rattle.std.specs.Prelude.{is_some, is_none, Some, None}
 use Rattle.std.specs.declared.option.Option.{Option}
 use Rattle.mako_words.specs.declared.name.Name.{Name}
 use Rattle.mako_shape.specs.declared.numbers.Numbers.{Numbers}
@@ -14,11 +15,13 @@ use Rattle.mako_ring.specs.declared.tracing.ScanStage.TheVariants.{FieldLoad, En
 use Rattle.mako_ring.specs.declared.tracing.ReceiveStage.{ReceiveStage}
 use Rattle.mako_ring.specs.declared.tracing.ReceiveStage.TheVariants.{SlotLook, BusyRaise, SlotClear}
 use Rattle.mako_ring.specs.declared.tracing.MarkStage.{MarkStage}
-use Rattle.mako_ring.specs.declared.tracing.MarkStage.TheVariants.{Considering, Measuring, Marking as EntryMark, Counting}
+use Rattle.mako_ring.specs.declared.tracing.MarkStage.TheVariants.{Considering, Measuring, Marking as EntryMark}
+use Rattle.mako_ring.specs.declared.tracing.MarkStage.TheVariants.{Counting}
 use Rattle.mako_ring.specs.declared.tracing.RestStage.{RestStage}
 use Rattle.mako_ring.specs.declared.tracing.RestStage.TheVariants.{BusyLower, TailLook, GhostLower}
 use Rattle.mako_ring.specs.declared.tracing.TraceStage.{TraceStage}
-use Rattle.mako_ring.specs.declared.tracing.TraceStage.TheVariants.{Sending, Scanning, Receiving, Marking, Resting, Ended}
+use Rattle.mako_ring.specs.declared.tracing.TraceStage.TheVariants.{Sending, Scanning, Receiving, Marking, Resting}
+use Rattle.mako_ring.specs.declared.tracing.TraceStage.TheVariants.{Ended}
 
 -- anything outgoing, under a scan, or on the stack
 abbrev pub holds : TracerView → Bool
@@ -54,10 +57,12 @@ MarkStands t (Measuring x e) = IsNamed t.shape x
 MarkStands t (EntryMark x e fields) = IsNamed t.shape x
 MarkStands t (Counting x fields) = IsNamed t.shape x
 
--- at rest nothing is held; a window that is looked at is open and leads to another server; where ghost is lowered none is open
+-- at rest nothing is held; a window that is looked at is open and leads to another server; where ghost is lowered none
+-- is open
 abbrev pub RestStands : TracerView → RestStage → Type 0
 RestStands t BusyLower = holds t ≡ false
-RestStands t (TailLook r) = (holds t ≡ false) × (r < t.shape.servers) × (r ≢ t.server) × ((window_of t r).tail < (window_of t r).head)
+RestStands t (TailLook r) = (holds t ≡ false) × (r < t.shape.servers) × (r ≢ t.server)
+    × ((window_of t r).tail < (window_of t r).head)
 RestStands t GhostLower = (holds t ≡ false) × (is_none (position is_open t.windows) ≡ true)
 
 abbrev pub StageStands : TracerView → TraceStage → Type 0
@@ -69,7 +74,8 @@ StageStands t (Resting stage) = RestStands t stage
 StageStands t Ended = Unit {0}
 
 -- what is kept at every stage
-pub record TracerKeeps (n : Numbers) (i server : ℕ) (windows : List Window) (ghost_at : List ℕ) (outgoing : Option Name) : Type 0 where
+pub record TracerKeeps (n : Numbers) (i server : ℕ) (windows : List Window) (ghost_at : List ℕ)
+    (outgoing : Option Name) : Type 0 where
   -- it is the machine of this server
   pub number : server ≡ i
   pub in_range : server < n.servers

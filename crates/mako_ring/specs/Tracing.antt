@@ -1,5 +1,7 @@
 -- A server's tracing as a machine: what it keeps, what it does next, and what it becomes by the word found.
-use Rattle.std.specs.Prelude.{◌≡◌, ℕ, Bool, true, false, ◌+◌, ◌-◌, ◌*◌, ◌%◌, ◌<◌, ◌≤◌, ◌^◌, ◌==◌, ◌&&◌, ◌⊎◌, nat_lt, if◌then◌else◌, is_none, List, [], ◌∷◌, ◌++◌, length, take, drop, position, replicate, slice_index, slice_index_or, slice_set, Some, None}
+use Rattle.std.specs.Prelude.{◌≡◌, ℕ, Bool, true, false, ◌+◌, ◌-◌, ◌*◌, ◌%◌, ◌<◌, ◌≤◌, ◌^◌, ◌==◌, ◌&&◌, ◌⊎◌, nat_lt}
+use Rattle.std.specs.Prelude.{if◌then◌else◌, is_none, List, [], ◌∷◌, ◌++◌, length, take, drop, position, replicate}
+use Rattle.std.specs.Prelude.{slice_index, slice_index_or, slice_set, Some, None}
 use Rattle.std.specs.declared.option.Option.{Option}
 use Rattle.mako_words.specs.Entries.{entry_word, entry_at}
 use Rattle.mako_words.specs.Lives.{live_word}
@@ -31,11 +33,13 @@ use Rattle.mako_ring.specs.declared.tracing.ScanStage.TheVariants.{FieldLoad, En
 use Rattle.mako_ring.specs.declared.tracing.ReceiveStage.{ReceiveStage}
 use Rattle.mako_ring.specs.declared.tracing.ReceiveStage.TheVariants.{SlotLook, BusyRaise, SlotClear}
 use Rattle.mako_ring.specs.declared.tracing.MarkStage.{MarkStage}
-use Rattle.mako_ring.specs.declared.tracing.MarkStage.TheVariants.{Considering, Measuring, Marking as EntryMark, Counting}
+use Rattle.mako_ring.specs.declared.tracing.MarkStage.TheVariants.{Considering, Measuring, Marking as EntryMark}
+use Rattle.mako_ring.specs.declared.tracing.MarkStage.TheVariants.{Counting}
 use Rattle.mako_ring.specs.declared.tracing.RestStage.{RestStage}
 use Rattle.mako_ring.specs.declared.tracing.RestStage.TheVariants.{BusyLower, TailLook, GhostLower}
 use Rattle.mako_ring.specs.declared.tracing.TraceStage.{TraceStage}
-use Rattle.mako_ring.specs.declared.tracing.TraceStage.TheVariants.{Sending, Scanning, Receiving, Marking, Resting, Ended}
+use Rattle.mako_ring.specs.declared.tracing.TraceStage.TheVariants.{Sending, Scanning, Receiving, Marking, Resting}
+use Rattle.mako_ring.specs.declared.tracing.TraceStage.TheVariants.{Ended}
 
 -- what a server keeps: its stack of entries, of which the last is the top, its scan, a name for another server, a
 -- window of the ring to each server, its positions in the incoming rings, the live counts of its tablets, and which of
@@ -108,9 +112,11 @@ receive_next t (SlotClear source x) = does (index t.shape (slot_of t source)) (S
 abbrev pub mark_next : TracerView → MarkStage → Step
 mark_next t (Considering x) = does (index t.shape (entry x.entry)) Load
 mark_next t (Measuring x e) = does e.address Load
-mark_next t (EntryMark x e fields) = does (index t.shape (entry x.entry)) (Store (entry_word (record e { epoch = t.cycle })))
+mark_next t (EntryMark x e fields) =
+    does (index t.shape (entry x.entry)) (Store (entry_word (record e { epoch = t.cycle })))
 mark_next t (Counting x fields) =
-    does (index t.shape (live (tablet_of_entry t.shape x.entry))) (Store (live_word (record { cycle = t.cycle; words = live_of t x + (fields + 1) })))
+    does (index t.shape (live (tablet_of_entry t.shape x.entry)))
+    (Store (live_word (record { cycle = t.cycle; words = live_of t x + (fields + 1) })))
 
 abbrev pub rest_next : TracerView → RestStage → Step
 rest_next t BusyLower = does (index t.shape (flags t.server)) (And (all_but busy_bit))
@@ -138,7 +144,10 @@ work_on t (Some x) scan = at_stage t (Sending (HeadLook x))
 work_on t None (Some s) = at_stage t (Scanning (FieldLoad s))
 work_on t None None =
     if length t.stack == 0 then at_stage t (Receiving (SlotLook Collector))
-    else record t { stack = take (length t.stack - 1) t.stack; stage = Scanning (EntryLoad (slice_index t.stack (length t.stack - 1))) }
+    else record t {
+      stack = take (length t.stack - 1) t.stack;
+      stage = Scanning (EntryLoad (slice_index t.stack (length t.stack - 1)));
+    }
 
 abbrev pub next_work : TracerView → TracerView
 next_work t = work_on t t.outgoing t.scan
@@ -146,7 +155,8 @@ next_work t = work_on t t.outgoing t.scan
 -- the windows from one on: the first that is open, and past the last the flag ghost
 abbrev pub past_windows : TracerView → ℕ → Option ℕ → TracerView
 past_windows t first (Some k) = at_stage t (Resting (TailLook (first + k)))
-past_windows t first None = if t.ghost_up && is_none (position is_open t.windows) then at_stage t (Resting GhostLower) else at_stage t Ended
+past_windows t first None =
+    if t.ghost_up && is_none (position is_open t.windows) then at_stage t (Resting GhostLower) else at_stage t Ended
 
 abbrev pub windows_from : TracerView → ℕ → TracerView
 windows_from t first = past_windows t first (position is_open (drop first t.windows))
@@ -166,12 +176,14 @@ after_source t Collector = if t.server == 0 then 1 else 0
 after_source t (Server a) = if a + 1 == t.server then a + 2 else a + 1
 
 abbrev pub rings_from : TracerView → ℕ → TracerView
-rings_from t a = if nat_lt a t.shape.servers then at_stage t (Receiving (SlotLook (Server a))) else past_rings t t.outgoing
+rings_from t a = if nat_lt a t.shape.servers then at_stage t
+    (Receiving (SlotLook (Server a))) else past_rings t t.outgoing
 
 -- the position in a ring rises
 abbrev pub advanced : TracerView → Source → TracerView
 advanced t Collector = record t { work_at = after_place t.shape.ring t.work_at }
-advanced t (Server a) = record t { ghost_at = slice_set t.ghost_at a (after_place t.shape.ring (slice_index t.ghost_at a)) }
+advanced t (Server a) =
+    record t { ghost_at = slice_set t.ghost_at a (after_place t.shape.ring (slice_index t.ghost_at a)) }
 
 -- the scan of a record whose header was loaded, and the scan behind its next field
 abbrev pub scan_of : ℕ → ℕ → Option Scan
@@ -182,17 +194,21 @@ behind_field s = if s.next + 1 == s.fields then None else Some (record s { next 
 
 -- a value that was found in a field: an own name is considered, and one of another server becomes outgoing
 abbrev pub field_found : TracerView → Value → TracerView
-field_found t (Ref x) = if owner t.shape x == t.server then at_stage t (Marking (Considering x)) else next_work (record t { outgoing = Some x })
+field_found t (Ref x) =
+    if owner t.shape x == t.server then at_stage t (Marking (Considering x)) else next_work
+    (record t { outgoing = Some x })
 field_found t (Num x) = next_work t
 field_found t Null = next_work t
 
 -- ---- what it becomes by the word found
 abbrev pub send_fed : TracerView → SendStage → ℕ → TracerView
 send_fed t (HeadLook x) w =
-    if w == 0 then at_stage (set_window t (owner t.shape x) (found_room t.shape.ring (window_of t (owner t.shape x)))) (Sending (GhostRaise x))
+    if w == 0 then at_stage (set_window t (owner t.shape x) (found_room t.shape.ring (window_of t (owner t.shape x))))
+    (Sending (GhostRaise x))
     else at_stage t (Receiving (SlotLook Collector))
 send_fed t (GhostRaise x) w = record t { ghost_up = true; stage = Sending (HeadStore x) }
-send_fed t (HeadStore x) w = next_work (record (set_window t (owner t.shape x) (head_up (window_of t (owner t.shape x)))) { outgoing = None })
+send_fed t (HeadStore x) w =
+    next_work (record (set_window t (owner t.shape x) (head_up (window_of t (owner t.shape x)))) { outgoing = None })
 
 abbrev pub scan_fed : TracerView → ScanStage → ℕ → TracerView
 scan_fed t (FieldLoad s) w = field_found (record t { scan = behind_field s }) (value_at w)
@@ -200,20 +216,26 @@ scan_fed t (EntryLoad x) w = at_stage t (Scanning (HeaderLoad x (entry_at w).add
 scan_fed t (HeaderLoad x address) w = next_work (record t { scan = scan_of address w })
 
 abbrev pub receive_fed : TracerView → ReceiveStage → ℕ → TracerView
-receive_fed t (SlotLook source) w = if w == 0 then rings_from t (after_source t source) else at_stage t (Receiving (BusyRaise source (name_at w)))
+receive_fed t (SlotLook source) w =
+    if w == 0 then rings_from t (after_source t source) else at_stage t (Receiving (BusyRaise source (name_at w)))
 receive_fed t (BusyRaise source x) w = record t { busy_up = true; stage = Receiving (SlotClear source x) }
 receive_fed t (SlotClear source x) w = at_stage (advanced t source) (Marking (Considering x))
 
 abbrev pub mark_fed : TracerView → MarkStage → ℕ → TracerView
-mark_fed t (Considering x) w = if (entry_at w).epoch == t.cycle then next_work t else at_stage t (Marking (Measuring x (entry_at w)))
+mark_fed t (Considering x) w =
+    if (entry_at w).epoch == t.cycle then next_work t else at_stage t (Marking (Measuring x (entry_at w)))
 mark_fed t (Measuring x e) w = at_stage t (Marking (EntryMark x e w))
 mark_fed t (EntryMark x e fields) w = at_stage t (Marking (Counting x fields))
 mark_fed t (Counting x fields) w =
-    next_work (record t { lives = slice_set t.lives (own_tablet t.shape x.entry) (live_of t x + (fields + 1)); stack = t.stack ++ x.entry ∷ [] })
+    next_work (record t {
+      lives = slice_set t.lives (own_tablet t.shape x.entry) (live_of t x + (fields + 1));
+      stack = t.stack ++ x.entry ∷ [];
+    })
 
 abbrev pub rest_fed : TracerView → RestStage → ℕ → TracerView
 rest_fed t BusyLower w = windows_from (record t { busy_up = false }) 0
-rest_fed t (TailLook r) w = windows_from (if w == 0 then set_window t r (tail_up t.shape.ring (window_of t r)) else t) (r + 1)
+rest_fed t (TailLook r) w =
+    windows_from (if w == 0 then set_window t r (tail_up t.shape.ring (window_of t r)) else t) (r + 1)
 rest_fed t GhostLower w = record t { ghost_up = false; stage = Ended }
 
 abbrev pub stage_fed : TracerView → TraceStage → ℕ → TracerView

@@ -44,10 +44,31 @@ in_range lines v m has count some few =
     let s8 = s 8 (omega arith) in
     let s9 = s 9 (omega arith) in
     record {
-      each = (some, few, (s1.low, s1.high,
-          (s2.low, s2.high, (s3.low, s3.high,
-          (s4.low, s4.high, (s5.low, s5.high,
-          (s6.low, s6.high, (s7.low, s7.high, (s8.low, s8.high, (s9.low, s9.high, tt))))))))));
+      each = (
+        some,
+        few,
+        (
+          s1.low,
+          s1.high,
+          (
+            s2.low,
+            s2.high,
+            (
+              s3.low,
+              s3.high,
+              (
+                s4.low,
+                s4.high,
+                (
+                  s5.low,
+                  s5.high,
+                  (s6.low, s6.high, (s7.low, s7.high, (s8.low, s8.high, (s9.low, s9.high, tt)))),
+                ),
+              ),
+            ),
+          ),
+        ),
+      );
     }
 
 -- the number of roots is in its range
@@ -78,7 +99,7 @@ module _ (text v : List ℕ) (has : HaveSettings (lines_of text) v) (count : len
   number_at at n below is =
       let s = setting at below in
       number_is (word_in (words_at lines at) 1) (slice_index v at) n
-          (ap (λ (ws : List (List ℕ)). word_in ws 1) s.words) s.few is
+      (ap (λ (ws : List (List ℕ)). word_in ws 1) s.words) s.few is
 
   few_entries : (w : List ℕ) → AreSettings lines w → max_entries < all_entries (numbers_in w 0) → ⊥
   few_entries w are many =
@@ -121,11 +142,11 @@ module _ (text v : List ℕ) (has : HaveSettings (lines_of text) v) (count : len
 pub tells_entries : (n : Numbers) (fault : ShapeFault) (v : List ℕ) (r : Result Numbers ShapeFault) → n ≡ numbers_in v 1
     → r ≡ Err fault
     → ((f : ShapeFault) → (r ≡ Err f) ↔ IsFault n f) → AllInRange (numbers_in v 1)
-        → (max_entries < all_entries (numbers_in v 0)) → fault ≡ TooManyEntries
+    → (max_entries < all_entries (numbers_in v 0)) → fault ≡ TooManyEntries
 tells_entries n fault v r same is faults range many =
     let told : r ≡ Err TooManyEntries =
-        (faults TooManyEntries).1 (subst (λ (m : Numbers). AllInRange m
-        × (max_entries < all_entries m)) (sym same) (range, many)) in
+    (faults TooManyEntries).1 (subst (λ (m : Numbers). AllInRange m
+    × (max_entries < all_entries m)) (sym same) (range, many)) in
     cc
 
 module _ (text v : List ℕ) (has : HaveSettings (lines_of text) v) (count : length v ≡ 11)
@@ -146,9 +167,9 @@ module _ (text v : List ℕ) (has : HaveSettings (lines_of text) v) (count : len
       let whole : n ≡ numbers_in v sections = numbers ∙ ap (numbers_in v) same in
       let range = in_range (lines_of text) v sections has count (above_zero sections some) small in
       let many = too_many_words n r fails fault (subst AllInRange (sym whole) range)
-          (λ more. few (subst (λ (k : Numbers). max_entries < all_entries k) whole more)) in
+      (λ more. few (subst (λ (k : Numbers). max_entries < all_entries k) whole more)) in
       many_words text roots sections ends.commands ends.line ([] ∷ []) ends.between refl (above_zero sections some) v
-          (are_settings (lines_of text) v has count)
+      (are_settings (lines_of text) v has count)
       (subst (λ (k : Numbers). max_words < total k) whole many)
     where
       above_zero : (k : ℕ) → k ≢ 0 → 1 ≤ k

@@ -91,13 +91,13 @@ module _ (text : List ℕ) (roots sections commands line : ℕ) (left : List (Li
       by : (k : Kind) → IsCut left k → IsFirstFault text k told
       by NotAscii cut =
           let bad = cut_is lines line NotAscii st.reached.within
-              (subst (λ (ls : List (List ℕ)). IsCut ls NotAscii) st.reached.left_is cut) in
+          (subst (λ (ls : List (List ℕ)). IsCut ls NotAscii) st.reached.left_is cut) in
           first_here text line NotAscii told st.reached.clean (inl (refl, bad)) at (λ k has. omega arith)
       by Unclosed cut =
           let last = cut_is lines line Unclosed st.reached.within
-              (subst (λ (ls : List (List ℕ)). IsCut ls Unclosed) st.reached.left_is cut) in
+          (subst (λ (ls : List (List ℕ)). IsCut ls Unclosed) st.reached.left_is cut) in
           first_here text line Unclosed told st.reached.clean (inr (inr (last.1, inl (not_empty cut.1)))) at
-              (unclosed last.0)
+          (unclosed last.0)
       by _ cut = absurd cut
 
   -- ---- the end of the text
@@ -128,8 +128,10 @@ module _ (text : List ℕ) (roots sections commands line : ℕ) (left : List (Li
   pub many_words : left ≡ [] ∷ [] → 0 < sections → (v : List ℕ) → AreSettings lines v
       → max_words < total (numbers_in v sections) → IsFirstFault text Words 11
   many_words none some v are many = first_here text line Words 11 st.reached.clean
-      (inr (inr ((ends_here none).1,
-          (v, are, subst (λ (n : ℕ). max_words < total (numbers_in v n)) (sym st.reached.sections_are) many)))) refl
+      (inr (inr (
+        (ends_here none).1,
+        (v, are, subst (λ (n : ℕ). max_words < total (numbers_in v n)) (sym st.reached.sections_are) many),
+      ))) refl
       (λ k has. elim (ending_fault none k has) [
         | inl same ↦ absurd (omega (arith, same.1, some))
         | inr same ↦ omega (arith, ap rank same)
@@ -176,16 +178,16 @@ module _ (text : List ℕ) (roots sections commands line : ℕ) (left : List (Li
           within = omega (arith, nth.before_last);
           clean = clean_more lines line st.reached.clean
               (λ k has. elim (opening_fault k (of_line lines line l rest nth is.2 k has)) [
-            | inl same ↦ same.1 here
-            | inr same ↦ omega (arith, same.2, room)
-          ]);
+                | inl same ↦ same.1 here
+                | inr same ↦ omega (arith, same.2, room)
+              ]);
           sections_are = counted_yes (bytes_eq mutator_word) lines line st.reached.low (omega (arith, nth.before_last))
               (ap (bytes_eq mutator_word) here) ∙ ap (λ (n : ℕ). n + 1) st.reached.sections_are;
           commands_are = counted_no
               (λ w. not (bytes_eq mutator_word w) && not (bytes_eq end_word w)) lines line st.reached.low
               (omega (arith, nth.before_last))
               (ap (λ (w : List ℕ). not (bytes_eq mutator_word w) && not (bytes_eq end_word w)) here)
-                  ∙ st.reached.commands_are;
+              ∙ st.reached.commands_are;
           number = st.reached.number;
           few_sections = omega (arith, room);
           few_commands = st.reached.few_commands;
@@ -220,7 +222,7 @@ module _ (text : List ℕ) (roots sections commands line next : ℕ) (left : Lis
       → Inside text roots (sections + 1) commands (board_name ∷ []) next rest
   opens_one l rest is opens some room e =
       subst (λ (n : ℕ). Inside text roots (sections + 1) commands (board_name ∷ []) n rest) (sym (next_line e))
-          (go_open text roots sections commands line left st l rest is opens some room)
+      (go_open text roots sections commands line left st l rest is opens some room)
 
   pub ends : left ≡ [] ∷ [] → next ≡ min (line + 1) 4294967295 → Ends text roots sections next
   ends none e = record {

@@ -52,7 +52,7 @@ pub with_setting : (lines : List (List ℕ)) (at : ℕ) (line : List ℕ) (left 
 with_setting lines at line left n nth printable (inl none) = absurd (let e = none.1 in cc)
 with_setting lines at line left n nth printable (inr (word, words, value)) =
     let number_word : words_of line ≡ (key_at at).0 ∷ decimal n ∷ [] = words
-        ∙ ap (λ (w : List ℕ). (key_at at).0 ∷ w ∷ []) value.0.0 in
+    ∙ ap (λ (w : List ℕ). (key_at at).0 ∷ w ∷ []) value.0.0 in
     record {
       ended = nth.before_last;
       printable = rw nth.line_is printable;
@@ -70,7 +70,7 @@ have_more lines v n have has at below =
       | inr past ↦ (
           let same : length v ≡ at = omega (arith, length-append v (n ∷ [])) in
           subst (HasSetting lines at) (sym (get_or_push v n 0 at same))
-              (subst (λ (k : ℕ). HasSetting lines k n) same has))
+          (subst (λ (k : ℕ). HasSetting lines k n) same has))
     ]
 
 -- ---- the faults of one line
@@ -81,9 +81,11 @@ front lines at = let same : at + 0 ≡ at = omega arith in get_or-drop at lines 
 pub cut_is : (lines : List (List ℕ)) (at : ℕ) (kind : Kind) → at ≤ ended lines → IsCut (drop at lines) kind
     → SettingFault lines at kind
 cut_is lines at NotAscii within cut = subst (λ (l : List ℕ). list_all is_printable l ≡ false) (front lines at) cut
-cut_is lines at Unclosed within cut =
-    (subst (λ (l : List ℕ). list_all is_printable l ≡ true) (front lines at) cut.0, omega
-        (arith, cut.1, length-drop at lines))
+cut_is lines at Unclosed within cut = (
+  subst (λ (l : List ℕ). list_all is_printable l ≡ true) (front lines at) cut.0,
+  omega
+      (arith, cut.1, length-drop at lines),
+)
 cut_is lines at _ within cut = absurd cut
 
 pub wrong_setting : (lines : List (List ℕ)) (at : ℕ) (line : List ℕ) (left : List (List ℕ)) (kind : Kind)
@@ -107,8 +109,13 @@ no_more lines at setting (inl opens) = not_between lines at setting opens.0
 no_more lines at setting (inr other) = not_in lines other.0 at (omega arith) other.1
 
 is_good : (lines : List (List ℕ)) (at n : ℕ) → at < 11 → HasSetting lines at n → IsGood lines at n
-is_good lines at n setting has = record { setting = setting; words = has.words; low = has.low; high = has.high;
-    few = has.few }
+is_good lines at n setting has = record {
+  setting = setting;
+  words = has.words;
+  low = has.low;
+  high = has.high;
+  few = has.few;
+}
 
 pub passes : (lines : List (List ℕ)) (at n : ℕ) → at < 11 → HasSetting lines at n → (k : Kind) → HasFault lines at k
     → (k ≡ Entries) × (at ≡ 10)
@@ -166,7 +173,7 @@ from_range lines at word n setting words number _ fault = omega arith
 told : (text : List ℕ) (at : ℕ) (kind : Kind) → at < 11 → ((k : ℕ) → k < at → (n : ℕ) × HasSetting (lines_of text) k n)
     → HasFault (lines_of text) at kind
     → at + 1 ≡ told_line at kind → ((k : Kind) → HasFault (lines_of text) at k → rank kind ≤ rank k)
-        → IsFirstFault text kind (at + 1)
+    → IsFirstFault text kind (at + 1)
 told text at kind setting before has line least = record { at = at; has = has; told = line; first = first }
   where
     first : (other : ℕ) → (k : Kind) → HasFault (lines_of text) other k → (at < other)
@@ -199,7 +206,7 @@ setting_first text at Unclosed setting before fault =
     unclosed printable _ has = omega arith
 setting_first text at Header setting before (ended, printable, inl none) =
     told text at Header setting before (inr (inl (ended, (setting, none.0)))) refl
-        (λ k has. from_header (lines_of text) at k (not_cut (lines_of text) at printable ended k has))
+    (λ k has. from_header (lines_of text) at k (not_cut (lines_of text) at printable ended k has))
 setting_first text at Header setting before (ended, printable, inr (word, words, value)) = absurd value
 setting_first text at Number setting before (ended, printable, inl none) = absurd (let e = none.1 in cc)
 setting_first text at Number setting before (ended, printable, inr (word, words, value)) =
@@ -210,9 +217,9 @@ setting_first text at Range setting before (ended, printable, inl none) = absurd
 setting_first text at Range setting before (ended, printable, inr (word, words, value)) =
     told text at Range setting before
     (inr (inl (ended, (word, (key_at at).1, value.0, inl (setting, sym (ap second words), refl), value.1, value.2))))
-        refl
+    refl
     (λ k has. from_range (lines_of text) at word value.0 setting words value.1 k
-        (not_cut (lines_of text) at printable ended k has))
+    (not_cut (lines_of text) at printable ended k has))
 setting_first text at _ setting before (ended, printable, inl none) = absurd (let e = none.1 in cc)
 setting_first text at _ setting before (ended, printable, inr (word, words, value)) = absurd value
 
@@ -253,7 +260,7 @@ pub some_lines : (text : List ℕ) → eqb (length text) 0 ≡ false → lines_o
 unfolding lines_of
 some_lines text some same =
     let none : text ≡ [] = sym (join_with_byte-slice_split 10 text) ∙ one_joined (lines_of text) (ap length same)
-        ∙ ap (λ (ls : List (List ℕ)). line_in ls 0) same in
+    ∙ ap (λ (ls : List (List ℕ)). line_in ls 0) same in
     let zero : length text ≡ 0 = ap length none in
     grind (arith, nat_tests)
 
@@ -269,7 +276,7 @@ pub key_is : (table : List Key) (i : ℕ) (d : Key) → map key_view table ≡ k
 key_is table i d e below =
     let short : i < length keys = omega (arith, sym (ap length e), length-map table key_view) in
     key_in table i d below ∙ ap (λ (ks : List (List ℕ × (ℕ × ℕ))). get_or ks i (key_view (get_or table i d))) e
-        ∙ get_or_default keys i _ _ short
+    ∙ get_or_default keys i _ _ short
 
 pub settings_before : (lines : List (List ℕ)) (v : List ℕ) (i : ℕ) → length v ≡ i → HaveSettings lines v → (k : ℕ)
     → k < i → (n : ℕ) × HasSetting lines k n
@@ -285,8 +292,8 @@ pub cut_first : (text : List ℕ) (i : ℕ) (kind : Kind) (line : ℕ) (lines : 
 cut_first text i kind line lines small at before same cut =
     subst (IsFirstFault text kind) (sym at)
     (setting_first text i kind small before
-        (cut_is (lines_of text) i kind (within_ended (lines_of text) i before)
-        (subst (λ (ls : List (List ℕ)). IsCut ls kind) same cut)))
+    (cut_is (lines_of text) i kind (within_ended (lines_of text) i before)
+    (subst (λ (ls : List (List ℕ)). IsCut ls kind) same cut)))
 
 -- the next line of settings
 pub setting_line : (text : List ℕ) (i : ℕ) (lines left : List (List ℕ)) (line : List ℕ) → lines ≡ drop i (lines_of text)
@@ -296,10 +303,10 @@ setting_line text i lines left line same is = nth_line (lines_of text) i line le
 pub wrong_first : (text : List ℕ) (i : ℕ) (kind : Kind) (told : ℕ) (line : List ℕ) (left : List (List ℕ)) → i < 11
     → told ≡ i + 1 → ((k : ℕ) → k < i → (n : ℕ) × HasSetting (lines_of text) k n)
     → IsNth (lines_of text) i line left → list_all is_printable line ≡ true
-        → IsSettingLine (key_at i) (words_of line) (Err kind) → IsFirstFault text kind told
+    → IsSettingLine (key_at i) (words_of line) (Err kind) → IsFirstFault text kind told
 wrong_first text i kind told line left small at before nth printable is =
     subst (IsFirstFault text kind) (sym at)
-        (setting_first text i kind small before (wrong_setting (lines_of text) i line left kind nth printable is))
+    (setting_first text i kind small before (wrong_setting (lines_of text) i line left kind nth printable is))
 
 -- the entries of all tablets are too many, and the settings are right
 pub entries_first : (text v : List ℕ) → length v ≡ 11 → HaveSettings (lines_of text) v

@@ -31,7 +31,7 @@ use Rattle.mako_reader.proofs.Takes.{Takes, TakesEach, arguments_take, bind_some
 taken_at : (names : List (List ℕ)) (kinds : List Argument) (words : List (List ℕ)) (vs : List ℕ)
     → TakesEach names kinds words vs
     → (place : ℕ) (kind : Argument) → slice_get kinds place ≡ Some kind → (v : ℕ)
-        × Takes names kind (word_in words place) v
+    × Takes names kind (word_in words place) v
 taken_at names [] words vs h place kind e = absurd cc
 taken_at names (k ∷ ks) words vs h zero kind e =
     let same : k ≡ kind = some_is k kind e in
@@ -62,13 +62,13 @@ unfolding command_at
 line_from roots names words after (call, e) =
     let c : Call × List (List ℕ) = (call, after) in
     let w = bind_some (word_at words)
-        (λ w. command_named w.0 >>= λ command. arguments_at names (kinds_of command) w.1 >>= λ vs. names_after
-        (defines command) roots names w.1 >>= λ after. Some (call_of command vs, after)) c e in
+    (λ w. command_named w.0 >>= λ command. arguments_at names (kinds_of command) w.1 >>= λ vs. names_after
+    (defines command) roots names w.1 >>= λ after. Some (call_of command vs, after)) c e in
     let k = bind_some (command_named w.0.0)
-        (λ command. arguments_at names (kinds_of command) w.0.1 >>= λ vs. names_after
-        (defines command) roots names w.0.1 >>= λ after. Some (call_of command vs, after)) c w.2 in
+    (λ command. arguments_at names (kinds_of command) w.0.1 >>= λ vs. names_after
+    (defines command) roots names w.0.1 >>= λ after. Some (call_of command vs, after)) c w.2 in
     let v = bind_some (arguments_at names (kinds_of k.0) w.0.1)
-        (λ vs. names_after (defines k.0) roots names w.0.1 >>= λ after. Some (call_of k.0 vs, after)) c k.2 in
+    (λ vs. names_after (defines k.0) roots names w.0.1 >>= λ after. Some (call_of k.0 vs, after)) c k.2 in
     let n = bind_some (names_after (defines k.0) roots names w.0.1) (λ after. Some (call_of k.0 v.0, after)) c v.2 in
     record {
       word = w.0.0;
@@ -150,7 +150,7 @@ push_apart names word apart none a b less below same = elim (cases_lt b (length 
   | inr new ↦ (
       let last : length names ≡ b = omega (arith, below, length_push names word) in
       let is = sym (get_or_append_left names (word ∷ []) [] a (omega (arith, less, last))) ∙ same
-          ∙ get_or_push names word [] b last in
+      ∙ get_or_push names word [] b last in
       true≢false (sym (among_at names a (omega (arith, less, last))) ∙ ap (is_among names) is ∙ none))
 ]
 
@@ -158,12 +158,16 @@ module _ (roots : ℕ) (names words after : List (List ℕ)) (line : CommandLine
   pub is_command : IsCommand words line.command
   is_command = record {
     named = ap (λ (t : List (List ℕ)). command_named (word_in t 0)) line.words_are ∙ line.named;
-    count = omega (arith, ap length line.words_are, length_taken names
-        (kinds_of line.command) line.behind line.values line.each);
+    count = omega (
+      arith,
+      ap length line.words_are,
+      length_taken names
+          (kinds_of line.command) line.behind line.values line.each,
+    );
     names = λ place kind e none.
         let t = taken_at names (kinds_of line.command) line.behind line.values line.each place kind e in
         ap is_name (behind_at words line.word line.behind place line.words_are)
-            ∙ spelled_name names kind (word_in line.behind place) t.0 none t.1;
+        ∙ spelled_name names kind (word_in line.behind place) t.0 none t.1;
   }
 
   same_command : (command : Command) → IsCommand words command → command ≡ line.command
@@ -172,9 +176,11 @@ module _ (roots : ℕ) (names words after : List (List ℕ)) (line : CommandLine
   argument_taken : (kind : Argument) (word : List ℕ) → HasArgument words kind word → (v : ℕ) × Takes names kind word v
   argument_taken kind word (command, place, is, among, spelled) =
       let at = ap (λ (c : Command). slice_get (kinds_of c) place) (sym (same_command command is)) ∙ among in
-      let t = taken_at names (kinds_of line.command) line.behind line.values line.each place kind at in
-      (t.0, subst (λ (w : List ℕ). Takes names kind w t.0) (sym (spelled
-          ∙ behind_at words line.word line.behind place line.words_are)) t.1)
+      let t = taken_at names (kinds_of line.command) line.behind line.values line.each place kind at in (
+        t.0,
+        subst (λ (w : List ℕ). Takes names kind w t.0) (sym (spelled
+            ∙ behind_at words line.word line.behind place line.words_are)) t.1,
+      )
 
   -- the first argument, of a command that defines it
   defined_is : (name : List ℕ) → HasArgument words arguments.Defined name → (defines line.command ≡ true)
@@ -185,18 +191,23 @@ module _ (roots : ℕ) (names words after : List (List ℕ)) (line : CommandLine
       (first.0, spelled ∙ behind_at words line.word line.behind place line.words_are ∙ ap (word_in line.behind) first.1)
 
   defines_it : defines line.command ≡ true → HasArgument words arguments.Defined (word_in line.behind 0)
-  defines_it some =
-      (line.command, 0, is_command, first_kind line.command some, sym
-          (behind_at words line.word line.behind 0 line.words_are))
+  defines_it some = (
+    line.command,
+    0,
+    is_command,
+    first_kind line.command some,
+    sym
+        (behind_at words line.word line.behind 0 line.words_are),
+  )
 
   defined_so : defines line.command ≡ true → define_at roots names (word_in line.behind 0) ≡ Some after
   defined_so some =
       let next : names_after true roots names line.behind ≡ Some after =
-          ap (λ (b : Bool). names_after b roots names line.behind) (sym some) ∙ line.next in
+      ap (λ (b : Bool). names_after b roots names line.behind) (sym some) ∙ line.next in
       let w = bind_some (word_at line.behind) (λ w. name_at w.0 >>= λ name. define_at roots names name) after next in
       let n = bind_some (name_at w.0.0) (λ name. define_at roots names name) after w.2 in
       let first : word_in line.behind 0 ≡ w.0.0 =
-          ap (λ (t : List (List ℕ)). word_in t 0) (word_takes line.behind w.0 w.1) in
+      ap (λ (t : List (List ℕ)). word_in t 0) (word_takes line.behind w.0 w.1) in
       ap (define_at roots names) (first ∙ (name_takes w.0.0 n.0 n.1).1) ∙ n.2
 
   pub no_fault : (k : Kind) → CommandFault names roots words k → ⊥
@@ -231,7 +242,7 @@ module _ (roots : ℕ) (names words after : List (List ℕ)) (line : CommandLine
   NamesAfter =
       ((after ≡ names) × (defines line.command ≡ true → is_among names (word_in line.behind 0) ≡ true))
       ⊎ ((defines line.command ≡ true) × (after ≡ names ++ word_in line.behind 0 ∷ [])
-          × (is_among names (word_in line.behind 0) ≡ false) × (length names < roots))
+      × (is_among names (word_in line.behind 0) ≡ false) × (length names < roots))
 
   names_are : NamesAfter
   names_are = by (defines line.command) refl
@@ -239,8 +250,11 @@ module _ (roots : ℕ) (names words after : List (List ℕ)) (line : CommandLine
       room : (w : List ℕ) → define_at roots names w ≡ Some after → is_among names w ≡ false → (after ≡ names ++ w ∷ [])
           × (length names < roots)
       room w made none = elim (cases_lt (length names) roots) [
-        | inl below ↦ (sym (some_is (names ++ w ∷ []) after
-            (sym (define_new roots names w (not_placed names w none) below) ∙ made)), below)
+        | inl below ↦ (
+          sym (some_is (names ++ w ∷ []) after
+              (sym (define_new roots names w (not_placed names w none) below) ∙ made)),
+          below,
+        )
         | inr full ↦ absurd (let no : None ≡ Some after = sym (define_full roots names w (not_placed names w none) full)
             ∙ made in cc)
       ]
@@ -249,7 +263,7 @@ module _ (roots : ℕ) (names words after : List (List ℕ)) (line : CommandLine
       same some known =
           let p = among_place names (word_in line.behind 0) known in
           sym (some_is names after (sym (define_known roots names (word_in line.behind 0) (ap is_some p.1))
-              ∙ defined_so some))
+          ∙ defined_so some))
 
       defined : defines line.command ≡ true → (b : Bool) → is_among names (word_in line.behind 0) ≡ b → NamesAfter
       defined some true known = inl (same some known, λ e. known)
@@ -258,14 +272,17 @@ module _ (roots : ℕ) (names words after : List (List ℕ)) (line : CommandLine
 
       by : (b : Bool) → defines line.command ≡ b → NamesAfter
       by true some = defined some (is_among names (word_in line.behind 0)) refl
-      by false none = inl (sym (some_is names after (ap (λ (b : Bool). names_after b roots names line.behind) (sym none)
-          ∙ line.next)), λ e. absurd (true≢false (sym e ∙ none)))
+      by false none = inl (
+        sym (some_is names after (ap (λ (b : Bool). names_after b roots names line.behind) (sym none)
+            ∙ line.next)),
+        λ e. absurd (true≢false (sym e ∙ none)),
+      )
 
   pushed : (name : List ℕ) → after ≡ names ++ word_in line.behind 0 ∷ []
       → is_among after name ≡ (is_among names name || (bytes_eq (word_in line.behind 0) name || false))
   pushed name new =
       ap (λ (t : List (List ℕ)). is_among t name) new
-          ∙ list_any-append (λ (w : List ℕ). bytes_eq w name) names (word_in line.behind 0 ∷ [])
+      ∙ list_any-append (λ (w : List ℕ). bytes_eq w name) names (word_in line.behind 0 ∷ [])
 
   -- a name that is there stays, and one that the line defines comes
   pub grows : (name : List ℕ) → is_among names name ≡ true → is_among after name ≡ true
@@ -281,9 +298,9 @@ module _ (roots : ℕ) (names words after : List (List ℕ)) (line : CommandLine
         | inl same ↦ ap (λ (t : List (List ℕ)). is_among t name) same.0 ∙ ap (is_among names) d.1 ∙ same.1 d.0
         | inr new ↦ (
             let here : bytes_eq (word_in line.behind 0) name ≡ true =
-                (bytes_eq-Decides (word_in line.behind 0) name).1 (sym d.1) in
+            (bytes_eq-Decides (word_in line.behind 0) name).1 (sym d.1) in
             pushed name new.1 ∙ ap (λ (b : Bool). is_among names name || (b || false)) here
-                ∙ or_true (is_among names name))
+            ∙ or_true (is_among names name))
       ]
 
   pub known_after : (name : List ℕ) → is_among after name ≡ true → (is_among names name ≡ true)
@@ -300,7 +317,7 @@ module _ (roots : ℕ) (names words after : List (List ℕ)) (line : CommandLine
       by some true b known same e = inl known
       by some false true known same e =
           inr (subst (HasArgument words arguments.Defined) ((bytes_eq-Decides (word_in line.behind 0) name).0 same)
-              (defines_it some))
+          (defines_it some))
       by some false false known same e = absurd cc
 
   -- names that are apart and few stay so

@@ -41,7 +41,7 @@ pub among_any : (names : List (List ℕ)) (word : List ℕ) → is_among names w
 among_any [] word = refl
 among_any (name ∷ names) word =
     (λ i. turned word name i || list_any (λ (n : List ℕ). bytes_eq n word) names)
-        ∙ ap (λ (b : Bool). bytes_eq word name || b) (among_any names word)
+    ∙ ap (λ (b : Bool). bytes_eq word name || b) (among_any names word)
 
 -- a name that is among others has a place there
 pub among_place : (names : List (List ℕ)) (word : List ℕ) → is_among names word ≡ true → (root : ℕ)
@@ -62,7 +62,7 @@ not_placed names word none = by (place_at names word) refl
         let h = place_takes names word root e in
         let here = (bytes_eq-Decides word (get_or names root [])).1 (sym h.1) in
         absurd (true≢false (sym (list_any_at (bytes_eq word) names root [] h.0 here) ∙ sym (among_any names word)
-            ∙ none))
+        ∙ none))
 
 -- ---- arguments
 
@@ -126,7 +126,7 @@ pub record HasCommand (roots : ℕ) (names : List (List ℕ)) (words : List (Lis
 pub has_command : (roots : ℕ) (names words : List (List ℕ)) (command : Command) (behind : List (List ℕ)) (word : List ℕ)
     (rest : List (List ℕ)) (kinds : List Argument)
     → words ≡ word ∷ rest → behind ≡ rest → command_named word ≡ Some command → length behind ≡ length kinds
-        → kinds ≡ kinds_of command
+    → kinds ≡ kinds_of command
     → AreArguments names roots kinds behind → HasCommand roots names words command behind
 has_command roots names words command behind word rest kinds words_are same named count kinds_are are = record {
   word = word;
@@ -176,7 +176,7 @@ reads_known roots names words command behind has some known =
 pub reads_new : (roots : ℕ) (names words : List (List ℕ)) (command : Command) (behind : List (List ℕ))
     → HasCommand roots names words command behind
     → defines command ≡ true → is_among names (word_in behind 0) ≡ false → length names < roots
-        → IsRead roots names words (names ++ word_in behind 0 ∷ [])
+    → IsRead roots names words (names ++ word_in behind 0 ∷ [])
 reads_new roots names words command behind has some unknown room =
     let first = first_word names roots command behind some has.count in
     let spelled = (has.are 0 arguments.Defined (first_kind command some)).0 in

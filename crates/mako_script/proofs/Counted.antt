@@ -56,13 +56,16 @@ no_calls None = refl
 
 pub calls_begin : (roots before : ℕ) (start : List (List ℕ))
     → CallsSoFar roots before before (board_name ∷ []) start start
-calls_begin roots before start = record { front = []; same = no_calls (calls_at roots before (board_name ∷ []) start);
-    count = omega arith }
+calls_begin roots before start = record {
+  front = [];
+  same = no_calls (calls_at roots before (board_name ∷ []) start);
+  count = omega arith;
+}
 
 command_step : (roots : ℕ) (names lines : List (List ℕ)) (line : List ℕ) (left after : List (List ℕ)) (call : Call)
     → IsLine lines line left → bytes_eq line end_word ≡ false
     → command_at roots names (words_of line) ≡ Some (call, after)
-        → step_at roots names lines ≡ Some (Some call, after, left)
+    → step_at roots names lines ≡ Some (Some call, after, left)
 unfolding step_at
 command_step roots names lines line left after call is other read = rw (line_is lines line left is, other, read) refl
 
@@ -75,7 +78,7 @@ end_step roots names lines line left is end = rw (line_is lines line left is, en
 pub calls_go : (roots before commands : ℕ) (names start lines : List (List ℕ)) (line : List ℕ)
     (left after : List (List ℕ)) → CallsSoFar roots before commands names start lines
     → IsLine lines line left → bytes_eq line end_word ≡ false → IsRead roots names (words_of line) after
-        → commands < 1048576
+    → commands < 1048576
     → CallsSoFar roots before (commands + 1) after start left
 calls_go roots before commands names start lines line left after so_far is other read room = record {
   front = so_far.front ++ read.0 ∷ [];
@@ -122,7 +125,7 @@ section_is roots commands lines line left rest p is opens read = rw (line_is lin
 pub sections_go : (roots sections commands next : ℕ) (start lines : List (List ℕ)) (line : List ℕ)
     (left rest : List (List ℕ)) → SectionsSoFar roots sections commands start lines
     → IsLine lines line left → bytes_eq line mutator_word ≡ true → SectionIs roots commands left rest next
-        → sections < 16
+    → sections < 16
     → SectionsSoFar roots (sections + 1) next start rest
 sections_go roots sections commands next start lines line left rest so_far is opens section room =
     let fewer : 16 - sections ≡ suc (16 - (sections + 1)) = omega arith in
@@ -151,10 +154,10 @@ unfolding setting_at
 setting_is lines at n has =
     let here = drop_more lines at [] (omega (arith, has.ended)) in
     let line = line_is (drop at lines) (line_in lines at) (drop (at + 1) lines)
-        (here, omega (arith, has.ended, length-drop (at + 1) lines), has.printable) in
+    (here, omega (arith, has.ended, length-drop (at + 1) lines), has.printable) in
     let key : bytes_eq (key_at at).0 (key_at at).0 ≡ true = (bytes_eq-Decides (key_at at).0 (key_at at).0).1 refl in
     let value : within_at (key_at at).1.0 (key_at at).1.1 (decimal n) ≡ Some n =
-        within_is (key_at at).1.0 (key_at at).1.1 (decimal n) n ((refl, has.few), has.low, has.high) in
+    within_is (key_at at).1.0 (key_at at).1.1 (decimal n) n ((refl, has.few), has.low, has.high) in
     rw (line, has.words, key, value) refl
 
 no_values : (read : Option (List ℕ × List (List ℕ))) → with_front [] read ≡ read
@@ -168,19 +171,19 @@ settings_so_far lines v has count (suc i) within =
     let before = settings_so_far lines v has count i (omega arith) in
     let one = setting_is lines i (slice_index v i) (has i (omega (arith, count))) in
     let more = each_more setting_at (take i v) keys i (key_at i) (drop i lines) (slice_index v i) (drop (i + 1) lines)
-        (settings_at keys lines) (omega arith) (get_or_default keys i _ _ (omega arith)) one before in
+    (settings_at keys lines) (omega arith) (get_or_default keys i _ _ (omega arith)) one before in
     let next : i + 1 ≡ suc i = omega arith in
     subst (λ (k : ℕ). with_front (take k v) (each_at setting_at (drop k keys) (drop k lines)) ≡ settings_at keys lines)
-        next
+    next
     (subst (λ (front : List ℕ). with_front front
-        (each_at setting_at (drop (i + 1) keys) (drop (i + 1) lines)) ≡ settings_at keys lines)
-        (sym (take_more v i 0 (omega (arith, count)))) more)
+    (each_at setting_at (drop (i + 1) keys) (drop (i + 1) lines)) ≡ settings_at keys lines)
+    (sym (take_more v i 0 (omega (arith, count)))) more)
 
 pub settings_are : (lines : List (List ℕ)) (v : List ℕ) → HaveSettings lines v → length v ≡ 11
     → settings_at keys lines ≡ Some (v, drop 11 lines)
 settings_are lines v has count =
     let all = each_done setting_at (take 11 v) keys 11 (drop 11 lines) (settings_at keys lines) (omega arith)
-        (settings_so_far lines v has count 11 (omega arith)) in
+    (settings_so_far lines v has count 11 (omega arith)) in
     all ∙ ap (λ (t : List ℕ). Some (t, drop 11 lines)) (take_all 11 v (omega (arith, count)))
 
 -- ---- scripts
@@ -203,9 +206,9 @@ has_script text v ps n left r has count same sections numbers fine shape =
     let programs = are_proper (slice_index v 7) left ps sections values.roots_low in
     let proper = proper_from v ps values programs (subst IsShape numbers (shape_is n r fine shape)) in
     let behind : sections_at 16 (slice_index v 7) 0 (drop 11 lines) ≡ Some ps =
-        ap (sections_at 16 (slice_index v 7) 0) (sym same) ∙ sections in
+    ap (sections_at 16 (slice_index v 7) 0) (sym same) ∙ sections in
     let read : script_at lines ≡ Some (v, ps) =
     ap (λ (r : Option (List ℕ × List (List ℕ))). r >>= λ x. sections_at 16 (slice_index x.0 7) 0 x.1 >>= λ qs. Some
-        (x.0, qs)) settings
+    (x.0, qs)) settings
     ∙ ap (λ (r : Option (List ProgramView)). r >>= λ qs. Some (v, qs)) behind in
     (script_of v ps, is_script text (script_of v ps) proper (record { values = v; read = read; made = refl }))

@@ -70,7 +70,7 @@ pub counted_yes : (t : List ℕ → Bool) (lines : List (List ℕ)) (line : ℕ)
 counted_yes t lines line low within is =
     ap (count_by t) (next_before lines line low)
     ∙ count_by_more_yes t (drop 11 lines) (line - 11) [] (omega (arith, length-drop 11 lines))
-        (ap t (nth_behind lines line low) ∙ is)
+    (ap t (nth_behind lines line low) ∙ is)
     ∙ ap (λ (ls : List (List ℕ)). count_by t ls + 1) (sym (before_is lines line low))
 
 pub counted_no : (t : List ℕ → Bool) (lines : List (List ℕ)) (line : ℕ) → 11 ≤ line → line < length lines
@@ -79,5 +79,5 @@ pub counted_no : (t : List ℕ → Bool) (lines : List (List ℕ)) (line : ℕ) 
 counted_no t lines line low within is =
     ap (count_by t) (next_before lines line low)
     ∙ count_by_more_no t (drop 11 lines) (line - 11) [] (omega (arith, length-drop 11 lines))
-        (ap t (nth_behind lines line low) ∙ is)
+    (ap t (nth_behind lines line low) ∙ is)
     ∙ ap (count_by t) (sym (before_is lines line low))

@@ -26,15 +26,37 @@ few_words = omega arith
 
 shape : IsShape storing.numbers
 shape = record {
-  in_range = record { each =
-      (omega arith, omega arith,
-      (omega arith, omega arith,
-      (omega arith, omega arith,
-      (omega arith, omega arith,
-      (omega arith, omega arith,
-      (omega arith, omega arith,
-      (omega arith, omega arith,
-      (omega arith, omega arith, (omega arith, omega arith, (omega arith, omega arith, tt)))))))))) };
+  in_range = record {
+    each = (
+      omega arith,
+      omega arith,
+      (
+        omega arith,
+        omega arith,
+        (
+          omega arith,
+          omega arith,
+          (
+            omega arith,
+            omega arith,
+            (
+              omega arith,
+              omega arith,
+              (
+                omega arith,
+                omega arith,
+                (
+                  omega arith,
+                  omega arith,
+                  (omega arith, omega arith, (omega arith, omega arith, (omega arith, omega arith, tt))),
+                ),
+              ),
+            ),
+          ),
+        ),
+      ),
+    );
+  };
   entries = omega arith;
   words = few_words;
 }
@@ -68,9 +90,13 @@ program : IsProgram 4 storing_program
 program = record {
   names = record { some = omega arith; board = refl; spelled = are_spelled; distinct = differ };
   few = omega arith;
-  calls = ((omega arith, omega arith),
-      ((omega arith, omega arith),
-      ((omega arith, omega arith, omega arith), ((omega arith, omega arith, omega arith), refl))));
+  calls = (
+    (omega arith, omega arith),
+    (
+      (omega arith, omega arith),
+      ((omega arith, omega arith, omega arith), ((omega arith, omega arith, omega arith), refl)),
+    ),
+  );
 }
 
 pub proper : IsProper storing

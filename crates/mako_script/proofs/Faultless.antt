@@ -58,9 +58,12 @@ module _ (text : List ℕ) (roots : ℕ) (some : 1 ≤ roots) (printable : (at :
     → list_all is_printable (line_in (lines_of text) at) ≡ true) where
   is_line : (line : ℕ) (l m : List ℕ) (more : List (List ℕ)) → (l ∷ m ∷ more) ≡ drop line (lines_of text)
       → IsLine (l ∷ m ∷ more) l (m ∷ more)
-  is_line line l m more left =
-      (refl, omega arith, ap (λ (ls : List (List ℕ)). list_all is_printable (line_in ls 0)) left
-          ∙ ap (list_all is_printable) (front (lines_of text) line) ∙ printable line)
+  is_line line l m more left = (
+    refl,
+    omega arith,
+    ap (λ (ls : List (List ℕ)). list_all is_printable (line_in ls 0)) left
+        ∙ ap (list_all is_printable) (front (lines_of text) line) ∙ printable line,
+  )
 
   -- a section is read to its end
   abbrev Reaches : ℕ → ℕ → ProgramView × List (List ℕ) → Type 0
@@ -74,10 +77,10 @@ module _ (text : List ℕ) (roots : ℕ) (some : 1 ≤ roots) (printable : (at :
   calls_walk sections count names (l ∷ []) line st p e = absurd cc
   calls_walk sections count names (l ∷ m ∷ more) line st p e =
       ⊎_elim ended_here (goes_on
-          (λ after q inside read. calls_walk sections (count + 1) after (m ∷ more) (line + 1) inside q read))
+      (λ after q inside read. calls_walk sections (count + 1) after (m ∷ more) (line + 1) inside q read))
       (either (bytes_eq l end_word) (record { names = names; calls = [] }, m ∷ more) p
       (command_at roots names (words_of l) >>= λ c. cond (leb 1048576 count) None
-          (calls_at roots (count + 1) c.1 (m ∷ more) >>= λ q. Some (with_call c.0 q))) e)
+      (calls_at roots (count + 1) c.1 (m ∷ more) >>= λ q. Some (with_call c.0 q))) e)
     where
       is : IsLine (l ∷ m ∷ more) l (m ∷ more)
       is = is_line line l m more st.reached.left_is
@@ -88,7 +91,7 @@ module _ (text : List ℕ) (roots : ℕ) (some : 1 ≤ roots) (printable : (at :
           let end = go_end text roots sections count line names (l ∷ m ∷ more) st l (m ∷ more) is h.0 in
           let none : count ≡ count + length (let calls : List Call = [] in calls) = omega arith in
           subst (Reaches sections count) h.1
-              (line + 1, subst (λ (n : ℕ). Between text roots sections n (line + 1) (m ∷ more)) none end)
+          (line + 1, subst (λ (n : ℕ). Between text roots sections n (line + 1) (m ∷ more)) none end)
 
       goes_on : ((after : List (List ℕ)) (q : ProgramView × List (List ℕ))
           → Inside text roots sections (count + 1) after (line + 1) (m ∷ more)
@@ -96,17 +99,17 @@ module _ (text : List ℕ) (roots : ℕ) (some : 1 ≤ roots) (printable : (at :
           → Reaches sections (count + 1) q)
           → (bytes_eq l end_word ≡ false)
           × ((command_at roots names (words_of l) >>= λ c. cond (leb 1048576 count) None
-              (calls_at roots (count + 1) c.1 (m ∷ more) >>= λ q. Some (with_call c.0 q))) ≡ Some p)
+          (calls_at roots (count + 1) c.1 (m ∷ more) >>= λ q. Some (with_call c.0 q))) ≡ Some p)
           → Reaches sections count p
       goes_on again h =
           let c = bind_some (command_at roots names (words_of l))
-              (λ c. cond (leb 1048576 count) None
-              (calls_at roots (count + 1) c.1 (m ∷ more) >>= λ q. Some (with_call c.0 q))) p h.1 in
+          (λ c. cond (leb 1048576 count) None
+          (calls_at roots (count + 1) c.1 (m ∷ more) >>= λ q. Some (with_call c.0 q))) p h.1 in
           let g = not_if (leb 1048576 count)
-              (calls_at roots (count + 1) c.0.1 (m ∷ more) >>= λ q. Some (with_call c.0.0 q)) p c.2 in
+          (calls_at roots (count + 1) c.0.1 (m ∷ more) >>= λ q. Some (with_call c.0.0 q)) p c.2 in
           let q = bind_some (calls_at roots (count + 1) c.0.1 (m ∷ more)) (λ q. Some (with_call c.0.0 q)) p g.1 in
           let inside = go_inside text roots sections count line names (l ∷ m ∷ more) st l (m ∷ more) is h.0 c.0.1
-              (c.0.0, c.1) (below count g.0) in
+          (c.0.0, c.1) (below count g.0) in
           let others = again c.0.1 q.0 inside q.1 in
           let more_calls : count + 1 + length q.0.0.calls ≡ count + length (c.0.0 ∷ q.0.0.calls) = omega arith in
           subst (Reaches sections count) (some_is (with_call c.0.0 q.0) p q.2)
@@ -121,7 +124,7 @@ module _ (text : List ℕ) (roots : ℕ) (some : 1 ≤ roots) (printable : (at :
   section_walk sections count line (l ∷ m ∷ more) st room p e =
       let g = only_if (bytes_eq l mutator_word) (calls_at roots count (board_name ∷ []) (m ∷ more)) p e in
       let inside = go_open text roots sections count line (l ∷ m ∷ more) st l (m ∷ more)
-          (is_line line l m more st.reached.left_is) g.0 some room in
+      (is_line line l m more st.reached.left_is) g.0 some room in
       calls_walk (sections + 1) count (board_name ∷ []) (m ∷ more) (line + 1) inside p g.1
 
   abbrev none_more : List ProgramView
@@ -136,9 +139,12 @@ module _ (text : List ℕ) (roots : ℕ) (some : 1 ≤ roots) (printable : (at :
       → (ps : List ProgramView) → is_end lines ≡ true → none_more ≡ ps → ReachesEnd sections ps
   at_end sections count line lines st ps end same =
       let none : sections ≡ sections + length none_more = omega arith in
-      subst (ReachesEnd sections) same
-      (line, count, subst (λ (n : ℕ). Between text roots n count line ([] ∷ [])) none
-          (subst (Between text roots sections count line) (nothing_left lines end) st))
+      subst (ReachesEnd sections) same (
+        line,
+        count,
+        subst (λ (n : ℕ). Between text roots n count line ([] ∷ [])) none
+            (subst (Between text roots sections count line) (nothing_left lines end) st),
+      )
 
   sections_walk : (left sections count line : ℕ) (lines : List (List ℕ)) → sections + left ≡ 16
       → Between text roots sections count line lines
@@ -149,20 +155,20 @@ module _ (text : List ℕ) (roots : ℕ) (some : 1 ≤ roots) (printable : (at :
   sections_walk (suc left) sections count line lines sum st ps e =
       ⊎_elim (λ (h : (is_end lines ≡ true) × (none_more ≡ ps)). at_end sections count line lines st ps h.0 h.1)
       (λ (h : (is_end lines ≡ false)
-          × ((section_at roots count lines >>= λ p. sections_at left roots (count + length p.0.calls) p.1 >>= λ qs. Some
-          (p.0 ∷ qs)) ≡ Some ps)).
+      × ((section_at roots count lines >>= λ p. sections_at left roots (count + length p.0.calls) p.1 >>= λ qs. Some
+      (p.0 ∷ qs)) ≡ Some ps)).
       let p = bind_some (section_at roots count lines)
-          (λ p. sections_at left roots (count + length p.0.calls) p.1 >>= λ qs. Some (p.0 ∷ qs)) ps h.1 in
+      (λ p. sections_at left roots (count + length p.0.calls) p.1 >>= λ qs. Some (p.0 ∷ qs)) ps h.1 in
       let q = bind_some (sections_at left roots (count + length p.0.0.calls) p.0.1) (λ qs. Some (p.0.0 ∷ qs)) ps p.2 in
       let one = section_walk sections count line lines st (omega (arith, sum)) p.0 p.1 in
       let others = sections_walk left (sections + 1) (count + length p.0.0.calls) one.0 p.0.1
-          (omega (arith, sum)) one.1 q.0 q.1 in
+      (omega (arith, sum)) one.1 q.0 q.1 in
       let more : sections + 1 + length q.0 ≡ sections + length (p.0.0 ∷ q.0) = omega arith in
       subst (ReachesEnd sections) (some_is (p.0.0 ∷ q.0) ps q.2)
-          (others.0, others.1, subst (λ (n : ℕ). Between text roots n others.1 others.0 ([] ∷ [])) more others.2))
+      (others.0, others.1, subst (λ (n : ℕ). Between text roots n others.1 others.0 ([] ∷ [])) more others.2))
       (either (is_end lines) none_more ps
-          (section_at roots count lines >>= λ p. sections_at left roots (count + length p.0.calls) p.1 >>= λ qs. Some
-          (p.0 ∷ qs)) e)
+      (section_at roots count lines >>= λ p. sections_at left roots (count + length p.0.calls) p.1 >>= λ qs. Some
+      (p.0 ∷ qs)) e)
 
 -- ---- the settings of a script
 
@@ -181,8 +187,12 @@ module _ (text : List ℕ) (s : ScriptView) (is : IsScript text s) where
   have at below =
       let line = script_setting s is.proper at (omega (arith, below)) in
       record {
-        ended = omega (arith, below, ap (λ (t : List ℕ). length (lines_of t)) is.spelled,
-            script_lines_ended s is.proper);
+        ended = omega (
+          arith,
+          below,
+          ap (λ (t : List ℕ). length (lines_of t)) is.spelled,
+          script_lines_ended s is.proper,
+        );
         printable = printable at;
         words = ap (λ (t : List ℕ). words_at (lines_of t) at) is.spelled ∙ line.0;
         few = omega (arith, line.3);
@@ -206,17 +216,17 @@ module _ (text : List ℕ) (s : ScriptView) (is : IsScript text s) where
   unfolding script_at
   read =
       let whole : script_at lines ≡ Some (values_of s, s.programs) =
-          ap (λ (t : List ℕ). script_at (lines_of t)) is.spelled ∙ script_again s is.proper in
+      ap (λ (t : List ℕ). script_at (lines_of t)) is.spelled ∙ script_again s is.proper in
       let a = bind_some (settings_at keys lines)
-          (λ x. sections_at 16 (slice_index x.0 7) 0 x.1 >>= λ qs. Some (x.0, qs)) (values_of s, s.programs) whole in
+      (λ x. sections_at 16 (slice_index x.0 7) 0 x.1 >>= λ qs. Some (x.0, qs)) (values_of s, s.programs) whole in
       let b = bind_some (sections_at 16 (slice_index a.0.0 7) 0 a.0.1) (λ qs. Some (a.0.0, qs))
-          (values_of s, s.programs) a.2 in
+      (values_of s, s.programs) a.2 in
       let same : a.0 ≡ (values_of s, drop 11 lines) = some_is a.0 (values_of s, drop 11 lines) (sym a.1
-          ∙ settings_are lines (values_of s) have count) in
+      ∙ settings_are lines (values_of s) have count) in
       let programs : b.0 ≡ s.programs =
-          ap (λ (x : List ℕ × List ProgramView). x.1) (some_is (a.0.0, b.0) (values_of s, s.programs) b.2) in
+      ap (λ (x : List ℕ × List ProgramView). x.1) (some_is (a.0.0, b.0) (values_of s, s.programs) b.2) in
       subst (λ (y : List ℕ × List (List ℕ)). sections_at 16 (slice_index y.0 7) 0 y.1 ≡ Some s.programs) same (b.1
-          ∙ ap (λ (ps : List ProgramView). Some ps) programs)
+      ∙ ap (λ (ps : List ProgramView). Some ps) programs)
 
   end : ReachesEnd text roots some printable 0 s.programs
   end = sections_walk text roots some printable 16 0 0 11 (drop 11 lines) refl
@@ -228,10 +238,10 @@ module _ (text : List ℕ) (s : ScriptView) (is : IsScript text s) where
   few_words (inr (inl fault)) = fault.1
   few_words (inr (inr (last, (v, are, many)))) =
       let number : (at : ℕ) → at < 11
-          → slice_index v at ≡ slice_index (values_of s) at =
-          λ at under. number_at text (values_of s) have count few at (slice_index v at) under (are.each at under) in
+      → slice_index v at ≡ slice_index (values_of s) at =
+      λ at under. number_at text (values_of s) have count few at (slice_index v at) under (are.each at under) in
       let mutators : sections_before lines end.0 ≡ s.numbers.mutators =
-          omega (arith, end.2.reached.sections_are, is.proper.mutators) in
+      omega (arith, end.2.reached.sections_are, is.proper.mutators) in
       let n1 = number 1 (omega arith) in
       let n2 = number 2 (omega arith) in
       let n3 = number 3 (omega arith) in
@@ -255,7 +265,7 @@ module _ (text : List ℕ) (s : ScriptView) (is : IsScript text s) where
         generations = n9 i;
       }) in
       not_more (total s.numbers) max_words is.proper.shape.words
-          (subst (λ (n : Numbers). max_words < total n) same many)
+      (subst (λ (n : Numbers). max_words < total n) same many)
 
   last_line : (k : Kind) → HasFault lines end.0 k → ⊥
   last_line k has = elim (ending_fault text roots (0 + length s.programs) end.1 end.0 ([] ∷ []) end.2 refl k has) [

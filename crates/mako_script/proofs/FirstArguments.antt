@@ -149,7 +149,7 @@ module _ (names : List (List ℕ)) (roots : ℕ) (kinds : List Argument) (words 
         → rank f ≤ rank h)
         (λ place q old h bad. absurd (no_argument names roots q (word_in words place) h (before place q old) bad))
         (λ h bad. omega (arith, ap rank (one_argument names roots kind (word_in words i) f h now bad))) other k e g
-            fault;
+        fault;
   }
   next_word (Some f) None before now = record {
     place = before.place;
@@ -164,28 +164,32 @@ module _ (names : List (List ℕ)) (roots : ℕ) (kinds : List Argument) (words 
   next_word (Some f) (Some g) before now = elim (cases_lt (rank g) (rank f)) [
     | inl less ↦ subst (λ (b : Bool). Arguments (i + 1) (cond b (Some g) (Some f)))
         (sym (lt-ltb (rank g) (rank f) less)) (record {
-      place = i;
-      kind = kind;
-      among = at_end kinds i kind here;
-      has = now;
-      least = λ other k h e fault. at_place (λ place q. (j : Kind) → ArgumentFault names roots q (word_in words place) j
-          → rank g ≤ rank j)
-          (λ place q old j bad. omega (arith, before.least place q j old bad, less))
-          (λ j bad. omega (arith, ap rank (one_argument names roots kind (word_in words i) g j now bad))) other k e h
+          place = i;
+          kind = kind;
+          among = at_end kinds i kind here;
+          has = now;
+          least = λ other k h e fault. at_place (λ place q. (j : Kind)
+              → ArgumentFault names roots q (word_in words place) j
+              → rank g ≤ rank j)
+              (λ place q old j bad. omega (arith, before.least place q j old bad, less))
+              (λ j bad. omega (arith, ap rank (one_argument names roots kind (word_in words i) g j now bad))) other k e
+              h
               fault;
-    })
+        })
     | inr more ↦ subst (λ (b : Bool). Arguments (i + 1) (cond b (Some g) (Some f)))
         (sym (le-ltb (rank g) (rank f) more)) (record {
-      place = before.place;
-      kind = before.kind;
-      among = kept kinds i before.place before.kind before.among;
-      has = before.has;
-      least = λ other k h e fault. at_place (λ place q. (j : Kind) → ArgumentFault names roots q (word_in words place) j
-          → rank f ≤ rank j)
-          (λ place q old j bad. before.least place q j old bad)
-          (λ j bad. omega (arith, more, ap rank (one_argument names roots kind (word_in words i) g j now bad))) other k
+          place = before.place;
+          kind = before.kind;
+          among = kept kinds i before.place before.kind before.among;
+          has = before.has;
+          least = λ other k h e fault. at_place (λ place q. (j : Kind)
+              → ArgumentFault names roots q (word_in words place) j
+              → rank f ≤ rank j)
+              (λ place q old j bad. before.least place q j old bad)
+              (λ j bad. omega (arith, more, ap rank (one_argument names roots kind (word_in words i) g j now bad)))
+              other k
               e h fault;
-    })
+        })
   ]
 
   pub so_far : (first : Option Kind) → IfNone first (AreArguments names roots (take i kinds) words)

@@ -33,7 +33,7 @@ pub no_name : (names : List (List ℕ)) (roots : ℕ) (words : List (List ℕ)) 
     → IsFirstOfCommand names roots words faults.Word
 no_name names roots words word behind same none = word_first names roots words
     (λ command is. absurd (let no : None ≡ Some command = sym none
-        ∙ ap (λ (t : List (List ℕ)). command_named (word_in t 0)) (sym same) ∙ is.named in cc))
+    ∙ ap (λ (t : List (List ℕ)). command_named (word_in t 0)) (sym same) ∙ is.named in cc))
 
 -- ---- one command
 
@@ -46,7 +46,7 @@ module _ (names : List (List ℕ)) (roots : ℕ) (words : List (List ℕ)) (word
   pub no_count : length behind ≢ length (kinds_of command) → IsFirstOfCommand names roots words faults.Word
   no_count differ = word_first names roots words
       (λ other is. differ (omega
-          (arith, is.count, ap length same, ap (λ (c : Command). length (kinds_of c)) (this_command other is))))
+      (arith, is.count, ap length same, ap (λ (c : Command). length (kinds_of c)) (this_command other is))))
 
   place_in : (other : Command) → IsCommand words other → (place : ℕ) (kind : Argument)
       → slice_get (kinds_of other) place ≡ Some kind → slice_get (kinds_of command) place ≡ Some kind
@@ -219,7 +219,7 @@ module _ (names : List (List ℕ)) (roots : ℕ) (words : List (List ℕ)) (word
     first_of_words = elim (word_or_past first.kind (word_in behind first.place) f first.has) [
       | inl is ↦ subst (IsFirstOfCommand names roots words) (sym is)
           (word_first names roots words
-              (no_spelling first.place first.kind first.among
-              (subst (ArgumentFault names roots first.kind (word_in behind first.place)) is first.has)))
+          (no_spelling first.place first.kind first.among
+          (subst (ArgumentFault names roots first.kind (word_in behind first.place)) is first.has)))
       | inr past ↦ past_word past
     ]

@@ -42,10 +42,12 @@ pub one_first : (text : List ℕ) → (kind other : Kind) → (line told : ℕ) 
     → IsFirstFault text other told → (kind ≡ other) × (line ≡ told)
 one_first text kind other line told one two =
     let places = same_place one.at two.at (rank kind) (rank other) (one.first two.at other two.has)
-        (two.first one.at kind one.has) in
-    let kinds = by_its_rank kind other places.1 in
-    (kinds, one.told ∙ (ap (λ (k : Kind). told_line one.at k) kinds
-        ∙ (ap (λ (n : ℕ). told_line n other) places.0 ∙ sym two.told)))
+    (two.first one.at kind one.has) in
+    let kinds = by_its_rank kind other places.1 in (
+      kinds,
+      one.told ∙ (ap (λ (k : Kind). told_line one.at k) kinds
+          ∙ (ap (λ (n : ℕ). told_line n other) places.0 ∙ sym two.told)),
+    )
 
 ranks_first : (other : ℕ) → (k : Kind) → HasFault (lines_of []) other k → (0 < other)
     ⊎ ((0 ≡ other) × (rank Unclosed ≤ rank k))

@@ -32,12 +32,22 @@ good_number lines at n is (word, range, inr (from, kind, inside, argument, least
 
 pub good_range : (lines : List (List ℕ)) (at n : ℕ) → IsGood lines at n → LineFault lines at Range → ⊥
 good_range lines at n is (word, range, m, inl (setting, spelled, ranged), number, inl low) =
-    omega (arith, number_is word n m (spelled
-        ∙ ap (λ (ws : List (List ℕ)). word_in ws 1) is.words) is.few number, ap (λ (r : ℕ × ℕ). r.0) ranged, is.low,
-        low)
+    omega (
+      arith,
+      number_is word n m (spelled
+          ∙ ap (λ (ws : List (List ℕ)). word_in ws 1) is.words) is.few number,
+      ap (λ (r : ℕ × ℕ). r.0) ranged,
+      is.low,
+      low,
+    )
 good_range lines at n is (word, range, m, inl (setting, spelled, ranged), number, inr high) =
-    omega (arith, number_is word n m (spelled
-        ∙ ap (λ (ws : List (List ℕ)). word_in ws 1) is.words) is.few number, ap (λ (r : ℕ × ℕ). r.1) ranged, is.high,
-        high)
+    omega (
+      arith,
+      number_is word n m (spelled
+          ∙ ap (λ (ws : List (List ℕ)). word_in ws 1) is.words) is.few number,
+      ap (λ (r : ℕ × ℕ). r.1) ranged,
+      is.high,
+      high,
+    )
 good_range lines at n is (word, range, m, inr (from, kind, inside, argument, least, most), number, out) =
     not_in lines from at (omega (arith, is.setting)) inside

@@ -51,8 +51,12 @@ mutator_no_end same = omega (arith, ap length same)
 opens_in : (lines : List (List ℕ)) (a b at : ℕ) → IsIn lines a at → IsIn lines b at → a < b → at ≤ ended lines
     → HasFault lines b Word
 opens_in lines a b at ina inb less within =
-    let inside : IsIn lines a b = record { behind = ina.behind; before = less; opened = ina.opened;
-        unended = λ k after before. ina.unended k after (omega (arith, before, inb.before)) } in
+    let inside : IsIn lines a b = record {
+      behind = ina.behind;
+      before = less;
+      opened = ina.opened;
+      unended = λ k after before. ina.unended k after (omega (arith, before, inb.before));
+    } in
     inr (inl (
       omega (arith, inb.before, within),
       inr (
@@ -124,8 +128,8 @@ module _ (text : List ℕ) (roots sections commands line : ℕ) (names left : Li
   full f count is number are =
       let same = number_is (word_in (words_at lines 7) 1) roots count st.reached.number.0 st.reached.number.1 number in
       let few = apart_few are.names names are.distinct
-          (λ a below. st.all (name_of are.names a)
-          (subst (λ (g : ℕ). IsDefined lines g line (name_of are.names a)) (one_opening f is) (are.each a below))) in
+      (λ a below. st.all (name_of are.names a)
+      (subst (λ (g : ℕ). IsDefined lines g line (name_of are.names a)) (one_opening f is) (are.each a below))) in
       omega (arith, few, are.many, same)
 
   -- a fault of the line is one of its words, or there are too many commands
@@ -186,13 +190,13 @@ module _ (text : List ℕ) (roots sections commands line : ℕ) (names left : Li
       by : (k : Kind) → IsCut left k → IsFirstFault text k told
       by NotAscii cut =
           let bad = cut_is lines line NotAscii st.reached.within
-              (subst (λ (ls : List (List ℕ)). IsCut ls NotAscii) st.reached.left_is cut) in
+          (subst (λ (ls : List (List ℕ)). IsCut ls NotAscii) st.reached.left_is cut) in
           first_here text line NotAscii told st.reached.clean (inl (refl, bad)) at (λ k has. omega arith)
       by Unclosed cut =
           let last = cut_is lines line Unclosed st.reached.within
-              (subst (λ (ls : List (List ℕ)). IsCut ls Unclosed) st.reached.left_is cut) in
+          (subst (λ (ls : List (List ℕ)). IsCut ls Unclosed) st.reached.left_is cut) in
           first_here text line Unclosed told st.reached.clean (inr (inr (last.1, inr (inr (st.from, st.inside))))) at
-              (unclosed last.0)
+          (unclosed last.0)
       by _ cut = absurd cut
 
   -- ---- the next line, which is ended and printable
@@ -216,7 +220,7 @@ module _ (text : List ℕ) (roots sections commands line : ℕ) (names left : Li
             (λ w. not (bytes_eq mutator_word w) && not (bytes_eq end_word w)) lines line st.reached.low
             (omega (arith, nth.before_last))
             (ap (λ (w : List ℕ). not (bytes_eq mutator_word w) && not (bytes_eq end_word w)) here)
-                ∙ st.reached.commands_are;
+            ∙ st.reached.commands_are;
         number = st.reached.number;
         few_sections = st.reached.few_sections;
         few_commands = st.reached.few_commands;
@@ -248,7 +252,7 @@ module _ (text : List ℕ) (roots sections commands line : ℕ) (names left : Li
       command_first kind told first at =
           let here = subst (λ (w : List ℕ). IsFirstOfCommand names roots (words_of w) kind) (sym nth.line_is) first in
           first_here text line kind told st.reached.clean (inr (inl (nth.before_last, to_text kind here.has))) (at
-              ∙ sym (told_here kind here.has))
+          ∙ sym (told_here kind here.has))
           (λ k has. elim (words_fault k (of_line lines line l rest nth is.2 k has)) [
             | inl fault ↦ here.least k fault
             | inr many ↦ omega (arith, ap rank many.0, before_many kind here.has)
@@ -302,7 +306,7 @@ module _ (text : List ℕ) (roots sections commands line : ℕ) (names left : Li
         pub many_first : (told : ℕ) → 1048576 ≤ commands → told ≡ line + 1 → IsFirstFault text Many told
         many_first told many at = first_here text line Many told st.reached.clean
             (inr (inl (nth.before_last, inr (st.from, st.inside, going, omega (arith, many, st.reached.commands_are)))))
-                at
+            at
             (λ k has. elim (words_fault k (of_line lines line l rest nth is.2 k has)) [
               | inl fault ↦ absurd (no_fault roots names (words_at lines line) after command k fault)
               | inr same ↦ omega (arith, ap rank same.0)
@@ -391,7 +395,7 @@ module _ (text : List ℕ) (roots sections commands line : ℕ) (names left : Li
               | inr here ↦ (
                   let same : k ≡ line = omega arith in
                   comes roots names (words_at lines line) after command name
-                      (subst (λ (at : ℕ). HasArgument (words_at lines at) arguments.Defined name) same has))
+                  (subst (λ (at : ℕ). HasArgument (words_at lines at) arguments.Defined name) same has))
             ]
 
 -- ---- as the code counts the lines, up to a greatest number
@@ -412,4 +416,4 @@ module _ (text : List ℕ) (roots sections commands line next : ℕ) (names left
       → next ≡ min (line + 1) 4294967295 → Inside text roots sections (commands + 1) after next rest
   goes_on l rest after is other read room e =
       subst (λ (n : ℕ). Inside text roots sections (commands + 1) after n rest) (sym (next_line e))
-          (go_inside text roots sections commands line names left st l rest is other after read room)
+      (go_inside text roots sections commands line names left st l rest is other after read room)

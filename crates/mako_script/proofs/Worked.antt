@@ -56,35 +56,101 @@ numbers = 1 ∷ 1 ∷ 1 ∷ 4 ∷ 16 ∷ 1 ∷ 2 ∷ 4 ∷ 10 ∷ 8 ∷ 1 ∷ []
 
 has_header : (l : List ℕ) (more : List (List ℕ)) → HaveSettings (header_lines ++ l ∷ more) numbers
 unfolding words_of digits
-has_header l more zero below = record { ended = omega (arith, length-append header_lines (l ∷ more)); printable = refl;
-    words = refl; few = omega arith; low = omega arith; high = omega arith }
-has_header l more (suc zero) below = record { ended = omega (arith, length-append header_lines (l ∷ more));
-    printable = refl; words = refl; few = omega arith; low = omega arith; high = omega arith }
-has_header l more (suc (suc zero)) below = record { ended = omega (arith, length-append header_lines (l ∷ more));
-    printable = refl; words = refl; few = omega arith; low = omega arith; high = omega arith }
-has_header l more (suc (suc (suc zero))) below = record { ended = omega (arith, length-append header_lines (l ∷ more));
-    printable = refl; words = refl; few = omega arith; low = omega arith; high = omega arith }
+has_header l more zero below = record {
+  ended = omega (arith, length-append header_lines (l ∷ more));
+  printable = refl;
+  words = refl;
+  few = omega arith;
+  low = omega arith;
+  high = omega arith;
+}
+has_header l more (suc zero) below = record {
+  ended = omega (arith, length-append header_lines (l ∷ more));
+  printable = refl;
+  words = refl;
+  few = omega arith;
+  low = omega arith;
+  high = omega arith;
+}
+has_header l more (suc (suc zero)) below = record {
+  ended = omega (arith, length-append header_lines (l ∷ more));
+  printable = refl;
+  words = refl;
+  few = omega arith;
+  low = omega arith;
+  high = omega arith;
+}
+has_header l more (suc (suc (suc zero))) below = record {
+  ended = omega (arith, length-append header_lines (l ∷ more));
+  printable = refl;
+  words = refl;
+  few = omega arith;
+  low = omega arith;
+  high = omega arith;
+}
 has_header l more (suc (suc (suc (suc zero)))) below =
-    record { ended = omega (arith, length-append header_lines (l ∷ more)); printable = refl; words = refl;
-    few = omega arith; low = omega arith; high = omega arith }
+    record {
+      ended = omega (arith, length-append header_lines (l ∷ more));
+      printable = refl;
+      words = refl;
+      few = omega arith;
+      low = omega arith;
+      high = omega arith;
+    }
 has_header l more (suc (suc (suc (suc (suc zero))))) below =
-    record { ended = omega (arith, length-append header_lines (l ∷ more)); printable = refl; words = refl;
-    few = omega arith; low = omega arith; high = omega arith }
+    record {
+      ended = omega (arith, length-append header_lines (l ∷ more));
+      printable = refl;
+      words = refl;
+      few = omega arith;
+      low = omega arith;
+      high = omega arith;
+    }
 has_header l more (suc (suc (suc (suc (suc (suc zero)))))) below =
-    record { ended = omega (arith, length-append header_lines (l ∷ more)); printable = refl; words = refl;
-    few = omega arith; low = omega arith; high = omega arith }
+    record {
+      ended = omega (arith, length-append header_lines (l ∷ more));
+      printable = refl;
+      words = refl;
+      few = omega arith;
+      low = omega arith;
+      high = omega arith;
+    }
 has_header l more (suc (suc (suc (suc (suc (suc (suc zero))))))) below =
-    record { ended = omega (arith, length-append header_lines (l ∷ more)); printable = refl; words = refl;
-    few = omega arith; low = omega arith; high = omega arith }
+    record {
+      ended = omega (arith, length-append header_lines (l ∷ more));
+      printable = refl;
+      words = refl;
+      few = omega arith;
+      low = omega arith;
+      high = omega arith;
+    }
 has_header l more (suc (suc (suc (suc (suc (suc (suc (suc zero)))))))) below =
-    record { ended = omega (arith, length-append header_lines (l ∷ more)); printable = refl; words = refl;
-    few = omega arith; low = omega arith; high = omega arith }
+    record {
+      ended = omega (arith, length-append header_lines (l ∷ more));
+      printable = refl;
+      words = refl;
+      few = omega arith;
+      low = omega arith;
+      high = omega arith;
+    }
 has_header l more (suc (suc (suc (suc (suc (suc (suc (suc (suc zero))))))))) below =
-    record { ended = omega (arith, length-append header_lines (l ∷ more)); printable = refl; words = refl;
-    few = omega arith; low = omega arith; high = omega arith }
+    record {
+      ended = omega (arith, length-append header_lines (l ∷ more));
+      printable = refl;
+      words = refl;
+      few = omega arith;
+      low = omega arith;
+      high = omega arith;
+    }
 has_header l more (suc (suc (suc (suc (suc (suc (suc (suc (suc (suc zero)))))))))) below =
-    record { ended = omega (arith, length-append header_lines (l ∷ more)); printable = refl; words = refl;
-    few = omega arith; low = omega arith; high = omega arith }
+    record {
+      ended = omega (arith, length-append header_lines (l ∷ more));
+      printable = refl;
+      words = refl;
+      few = omega arith;
+      low = omega arith;
+      high = omega arith;
+    }
 has_header l more (suc (suc (suc (suc (suc (suc (suc (suc (suc (suc (suc at))))))))))) below =
     absurd (omega (arith, below))
 
@@ -95,14 +161,14 @@ start : (text l : List ℕ) (more : List (List ℕ)) → lines_of text ≡ heade
     → Between text 4 0 0 11 (l ∷ more)
 start text l more same =
     begins_at text numbers
-        (subst (λ (ls : List (List ℕ)). HaveSettings ls numbers) (sym same) (has_header l more)) refl few 4 11
-        (l ∷ more) refl refl (ap (drop 11) (sym same))
+    (subst (λ (ls : List (List ℕ)). HaveSettings ls numbers) (sym same) (has_header l more)) refl few 4 11
+    (l ∷ more) refl refl (ap (drop 11) (sym same))
 
 opened : (text m : List ℕ) (more : List (List ℕ)) → lines_of text ≡ header_lines ++ mutator_word ∷ m ∷ more
     → Inside text 4 1 0 (board_name ∷ []) 12 (m ∷ more)
 opened text m more same =
     go_open text 4 0 0 11 (mutator_word ∷ m ∷ more) (start text mutator_word (m ∷ more) same) mutator_word (m ∷ more)
-        (refl, omega arith, refl) refl (omega arith) (omega arith)
+    (refl, omega arith, refl) refl (omega arith) (omega arith)
 
 -- a line of a section, with others behind it
 line_fault : (text m n : List ℕ) (more : List (List ℕ)) (kind : Kind)
@@ -111,7 +177,7 @@ line_fault : (text m n : List ℕ) (more : List (List ℕ)) (kind : Kind)
     → IsFirstOfCommand (board_name ∷ []) 4 (words_of m) kind → IsFirstFault text kind 13
 line_fault text m n more kind same printable other first =
     command_first text 4 1 0 12 (board_name ∷ []) (m ∷ n ∷ more) (opened text m (n ∷ more) same) m (n ∷ more)
-        (refl, omega arith, printable) other kind 13 first refl
+    (refl, omega arith, printable) other kind 13 first refl
 
 cut_fault : (text m : List ℕ) (kind : Kind) → lines_of text ≡ header_lines ++ mutator_word ∷ m ∷ []
     → IsCut (m ∷ []) kind → IsFirstFault text kind 13
@@ -127,12 +193,12 @@ show_first : IsFirstOfCommand names 4 (words_of (codes "show x")) faults.Undefin
 unfolding words_of is_name
 show_first = first_of_words names 4 (words_of (codes "show x")) (codes "show")
     (codes "x" ∷ []) Show refl refl refl faults.Undefined (record {
-  place = 0;
-  kind = arguments.Read;
-  among = refl;
-  has = (refl, refl);
-  least = least;
-})
+      place = 0;
+      kind = arguments.Read;
+      among = refl;
+      has = (refl, refl);
+      least = least;
+    })
   where
     by : (f : Kind) → ArgumentFault names 4 arguments.Read (codes "x") f → rank faults.Undefined ≤ rank f
     by faults.Word wrong = absurd (true≢false wrong)
@@ -156,12 +222,12 @@ large_first : IsFirstOfCommand names 4 (words_of (codes "num n 4294967296")) fau
 unfolding words_of digits
 large_first = first_of_words names 4 (words_of (codes "num n 4294967296")) (codes "num")
     (codes "n" ∷ codes "4294967296" ∷ []) Num refl refl refl faults.Range (record {
-  place = 1;
-  kind = arguments.Number;
-  among = refl;
-  has = (4294967296, is, inr (omega arith));
-  least = least;
-})
+      place = 1;
+      kind = arguments.Number;
+      among = refl;
+      has = (4294967296, is, inr (omega arith));
+      least = least;
+    })
   where
     is : IsNumber (codes "4294967296") 4294967296
     is = (refl, omega arith)
@@ -190,12 +256,12 @@ zero_first : IsFirstOfCommand names 4 (words_of (codes "num n 07")) faults.Numbe
 unfolding words_of
 zero_first = first_of_words names 4 (words_of (codes "num n 07")) (codes "num")
     (codes "n" ∷ codes "07" ∷ []) Num refl refl refl faults.Number (record {
-  place = 1;
-  kind = arguments.Number;
-  among = refl;
-  has = no_zero;
-  least = least;
-})
+      place = 1;
+      kind = arguments.Number;
+      among = refl;
+      has = no_zero;
+      least = least;
+    })
   where
     by : (f : Kind) → ArgumentFault names 4 arguments.Number (codes "07") f → rank faults.Number ≤ rank f
     by faults.Number wrong = omega arith
@@ -254,9 +320,9 @@ pub wrong_word : IsFirstFault spaced_text faults.Word 13
 unfolding lines_of words_of
 wrong_word =
     line_fault spaced_text (codes "new a  1") (codes "num n 7")
-        (codes "put a 0 n" ∷ codes "get b a 0" ∷ codes "end" ∷ [] ∷ []) faults.Word refl refl refl
+    (codes "put a 0 n" ∷ codes "get b a 0" ∷ codes "end" ∷ [] ∷ []) faults.Word refl refl refl
     (no_count names 4 (words_of (codes "new a  1")) (codes "new") (codes "a" ∷ [] ∷ codes "1" ∷ []) New refl refl
-        (λ same. omega (arith, same)))
+    (λ same. omega (arith, same)))
 
 -- ---- settings
 
@@ -265,10 +331,14 @@ no_setting text kind fault = setting_first text 0 kind (omega arith) (λ k below
 
 pub other_key : IsFirstFault (codes "servers 1\n") faults.Header 1
 unfolding lines_of words_of
-other_key = no_setting (codes "servers 1\n") faults.Header
-    (omega arith, refl, inl
-        ((λ word same. (let key = ap (λ (ws : List (List ℕ)). length (word_in ws 0)) same in omega (arith, key))),
-        refl))
+other_key = no_setting (codes "servers 1\n") faults.Header (
+  omega arith,
+  refl,
+  inl (
+    (λ word same. (let key = ap (λ (ws : List (List ℕ)). length (word_in ws 0)) same in omega (arith, key))),
+    refl,
+  ),
+)
 
 -- ---- too many sections
 
@@ -287,24 +357,24 @@ unfolding sections_of
 walk text same zero left sum few_sections =
     let all : 17 ≡ left = omega (arith, sum) in
     subst (λ (k : ℕ). Between text 4 0 0 11 (sections_of k)) all
-        (start text mutator_word (end_word ∷ sections_of 16) same)
+    (start text mutator_word (end_word ∷ sections_of 16) same)
 walk text same (suc n) left sum few_sections =
     let before = walk text same n (suc left) (omega (arith, sum)) (omega (arith, few_sections)) in
     let inside = go_open text 4 n 0 (11 + 2 * n) (sections_of (suc left)) before mutator_word
-        (end_word ∷ sections_of left) (refl, omega arith, refl) refl (omega arith) (omega (arith, few_sections)) in
+    (end_word ∷ sections_of left) (refl, omega arith, refl) refl (omega arith) (omega (arith, few_sections)) in
     let after = go_end text 4 (n + 1) 0 (11 + 2 * n + 1) (board_name ∷ []) (end_word ∷ sections_of left) inside end_word
-        (sections_of left) (refl, some_left left, refl) refl in
+    (sections_of left) (refl, some_left left, refl) refl in
     let more : n + 1 ≡ suc n = omega arith in
     let next : 11 + 2 * n + 1 + 1 ≡ 11 + 2 * suc n = omega arith in
     subst (λ (k : ℕ). Between text 4 k 0 (11 + 2 * suc n) (sections_of left)) more
-        (subst (λ (k : ℕ). Between text 4 (n + 1) 0 k (sections_of left)) next after)
+    (subst (λ (k : ℕ). Between text 4 (n + 1) 0 k (sections_of left)) next after)
 
 pub one_section_more : IsFirstFault many_sections_text faults.Many 44
 unfolding lines_of sections_of
 one_section_more =
     many_sections many_sections_text 4 16 0 43 (mutator_word ∷ end_word ∷ [] ∷ [])
-        (walk many_sections_text refl 16 1 refl (omega arith)) mutator_word (end_word ∷ [] ∷ [])
-        (refl, omega arith, refl) refl
+    (walk many_sections_text refl 16 1 refl (omega arith)) mutator_word (end_word ∷ [] ∷ [])
+    (refl, omega arith, refl) refl
     (omega arith) 44 refl
 
 -- ---- too many names
@@ -316,12 +386,12 @@ new_first : IsFirstOfCommand four_names 4 (words_of (codes "num d 1")) faults.Na
 unfolding words_of is_name digits
 new_first = first_of_words four_names 4 (words_of (codes "num d 1")) (codes "num")
     (codes "d" ∷ codes "1" ∷ []) Num refl refl refl faults.Names (record {
-  place = 0;
-  kind = arguments.Defined;
-  among = refl;
-  has = (refl, refl, omega arith);
-  least = least;
-})
+      place = 0;
+      kind = arguments.Defined;
+      among = refl;
+      has = (refl, refl, omega arith);
+      least = least;
+    })
   where
     is : IsNumber (codes "1") 1
     is = (refl, omega arith)
@@ -363,13 +433,13 @@ one_name_more =
     let b = codes "num b 1" ∷ c in
     let s0 = opened names_text (codes "num a 1") b refl in
     let s1 = go_inside names_text 4 1 0 12 names (codes "num a 1" ∷ b) s0 (codes "num a 1") b
-        (refl, omega arith, refl) refl (board_name ∷ codes "a" ∷ []) (calls.Num 1 1, refl) (omega arith) in
+    (refl, omega arith, refl) refl (board_name ∷ codes "a" ∷ []) (calls.Num 1 1, refl) (omega arith) in
     let s2 = go_inside names_text 4 1 1 13 (board_name ∷ codes "a" ∷ []) b s1 (codes "num b 1") c
-        (refl, omega arith, refl) refl (board_name ∷ codes "a" ∷ codes "b" ∷ []) (calls.Num 2 1, refl) (omega arith) in
+    (refl, omega arith, refl) refl (board_name ∷ codes "a" ∷ codes "b" ∷ []) (calls.Num 2 1, refl) (omega arith) in
     let s3 = go_inside names_text 4 1 2 14 (board_name ∷ codes "a" ∷ codes "b" ∷ []) c s2 (codes "num c 1") d
-        (refl, omega arith, refl) refl four_names (calls.Num 3 1, refl) (omega arith) in
+    (refl, omega arith, refl) refl four_names (calls.Num 3 1, refl) (omega arith) in
     command_first names_text 4 1 3 15 four_names d s3 (codes "num d 1") ([] ∷ [])
-        (refl, omega arith, refl) refl faults.Names 16 new_first refl
+    (refl, omega arith, refl) refl faults.Names 16 new_first refl
 
 -- ---- all settings together
 
@@ -378,31 +448,97 @@ many_entries = 1 ∷ 8 ∷ 256 ∷ 513 ∷ 16 ∷ 1 ∷ 2 ∷ 4 ∷ 10 ∷ 8 ∷
 
 have_many_entries : HaveSettings (lines_of many_entries_text) many_entries
 unfolding lines_of words_of digits
-have_many_entries zero below = record { ended = omega arith; printable = refl; words = refl; few = omega arith;
-    low = omega arith; high = omega arith }
-have_many_entries (suc zero) below = record { ended = omega arith; printable = refl; words = refl; few = omega arith;
-    low = omega arith; high = omega arith }
-have_many_entries (suc (suc zero)) below = record { ended = omega arith; printable = refl; words = refl;
-    few = omega arith; low = omega arith; high = omega arith }
-have_many_entries (suc (suc (suc zero))) below = record { ended = omega arith; printable = refl; words = refl;
-    few = omega arith; low = omega arith; high = omega arith }
-have_many_entries (suc (suc (suc (suc zero)))) below = record { ended = omega arith; printable = refl; words = refl;
-    few = omega arith; low = omega arith; high = omega arith }
-have_many_entries (suc (suc (suc (suc (suc zero))))) below = record { ended = omega arith; printable = refl;
-    words = refl; few = omega arith; low = omega arith; high = omega arith }
-have_many_entries (suc (suc (suc (suc (suc (suc zero)))))) below = record { ended = omega arith; printable = refl;
-    words = refl; few = omega arith; low = omega arith; high = omega arith }
-have_many_entries (suc (suc (suc (suc (suc (suc (suc zero))))))) below = record { ended = omega arith; printable = refl;
-    words = refl; few = omega arith; low = omega arith; high = omega arith }
+have_many_entries zero below = record {
+  ended = omega arith;
+  printable = refl;
+  words = refl;
+  few = omega arith;
+  low = omega arith;
+  high = omega arith;
+}
+have_many_entries (suc zero) below = record {
+  ended = omega arith;
+  printable = refl;
+  words = refl;
+  few = omega arith;
+  low = omega arith;
+  high = omega arith;
+}
+have_many_entries (suc (suc zero)) below = record {
+  ended = omega arith;
+  printable = refl;
+  words = refl;
+  few = omega arith;
+  low = omega arith;
+  high = omega arith;
+}
+have_many_entries (suc (suc (suc zero))) below = record {
+  ended = omega arith;
+  printable = refl;
+  words = refl;
+  few = omega arith;
+  low = omega arith;
+  high = omega arith;
+}
+have_many_entries (suc (suc (suc (suc zero)))) below = record {
+  ended = omega arith;
+  printable = refl;
+  words = refl;
+  few = omega arith;
+  low = omega arith;
+  high = omega arith;
+}
+have_many_entries (suc (suc (suc (suc (suc zero))))) below = record {
+  ended = omega arith;
+  printable = refl;
+  words = refl;
+  few = omega arith;
+  low = omega arith;
+  high = omega arith;
+}
+have_many_entries (suc (suc (suc (suc (suc (suc zero)))))) below = record {
+  ended = omega arith;
+  printable = refl;
+  words = refl;
+  few = omega arith;
+  low = omega arith;
+  high = omega arith;
+}
+have_many_entries (suc (suc (suc (suc (suc (suc (suc zero))))))) below = record {
+  ended = omega arith;
+  printable = refl;
+  words = refl;
+  few = omega arith;
+  low = omega arith;
+  high = omega arith;
+}
 have_many_entries (suc (suc (suc (suc (suc (suc (suc (suc zero)))))))) below =
-    record { ended = omega arith; printable = refl; words = refl; few = omega arith; low = omega arith;
-    high = omega arith }
+    record {
+      ended = omega arith;
+      printable = refl;
+      words = refl;
+      few = omega arith;
+      low = omega arith;
+      high = omega arith;
+    }
 have_many_entries (suc (suc (suc (suc (suc (suc (suc (suc (suc zero))))))))) below =
-    record { ended = omega arith; printable = refl; words = refl; few = omega arith; low = omega arith;
-    high = omega arith }
+    record {
+      ended = omega arith;
+      printable = refl;
+      words = refl;
+      few = omega arith;
+      low = omega arith;
+      high = omega arith;
+    }
 have_many_entries (suc (suc (suc (suc (suc (suc (suc (suc (suc (suc zero)))))))))) below =
-    record { ended = omega arith; printable = refl; words = refl; few = omega arith; low = omega arith;
-    high = omega arith }
+    record {
+      ended = omega arith;
+      printable = refl;
+      words = refl;
+      few = omega arith;
+      low = omega arith;
+      high = omega arith;
+    }
 have_many_entries (suc (suc (suc (suc (suc (suc (suc (suc (suc (suc (suc at))))))))))) below =
     absurd (omega (arith, below))
 
@@ -414,31 +550,97 @@ many_words = 1 ∷ 8 ∷ 7 ∷ 9 ∷ 65520 ∷ 1 ∷ 2 ∷ 11 ∷ 10 ∷ 8 ∷ 1
 
 have_many_words : HaveSettings (lines_of many_words_text) many_words
 unfolding lines_of words_of digits
-have_many_words zero below = record { ended = omega arith; printable = refl; words = refl; few = omega arith;
-    low = omega arith; high = omega arith }
-have_many_words (suc zero) below = record { ended = omega arith; printable = refl; words = refl; few = omega arith;
-    low = omega arith; high = omega arith }
-have_many_words (suc (suc zero)) below = record { ended = omega arith; printable = refl; words = refl;
-    few = omega arith; low = omega arith; high = omega arith }
-have_many_words (suc (suc (suc zero))) below = record { ended = omega arith; printable = refl; words = refl;
-    few = omega arith; low = omega arith; high = omega arith }
-have_many_words (suc (suc (suc (suc zero)))) below = record { ended = omega arith; printable = refl; words = refl;
-    few = omega arith; low = omega arith; high = omega arith }
-have_many_words (suc (suc (suc (suc (suc zero))))) below = record { ended = omega arith; printable = refl; words = refl;
-    few = omega arith; low = omega arith; high = omega arith }
-have_many_words (suc (suc (suc (suc (suc (suc zero)))))) below = record { ended = omega arith; printable = refl;
-    words = refl; few = omega arith; low = omega arith; high = omega arith }
-have_many_words (suc (suc (suc (suc (suc (suc (suc zero))))))) below = record { ended = omega arith; printable = refl;
-    words = refl; few = omega arith; low = omega arith; high = omega arith }
+have_many_words zero below = record {
+  ended = omega arith;
+  printable = refl;
+  words = refl;
+  few = omega arith;
+  low = omega arith;
+  high = omega arith;
+}
+have_many_words (suc zero) below = record {
+  ended = omega arith;
+  printable = refl;
+  words = refl;
+  few = omega arith;
+  low = omega arith;
+  high = omega arith;
+}
+have_many_words (suc (suc zero)) below = record {
+  ended = omega arith;
+  printable = refl;
+  words = refl;
+  few = omega arith;
+  low = omega arith;
+  high = omega arith;
+}
+have_many_words (suc (suc (suc zero))) below = record {
+  ended = omega arith;
+  printable = refl;
+  words = refl;
+  few = omega arith;
+  low = omega arith;
+  high = omega arith;
+}
+have_many_words (suc (suc (suc (suc zero)))) below = record {
+  ended = omega arith;
+  printable = refl;
+  words = refl;
+  few = omega arith;
+  low = omega arith;
+  high = omega arith;
+}
+have_many_words (suc (suc (suc (suc (suc zero))))) below = record {
+  ended = omega arith;
+  printable = refl;
+  words = refl;
+  few = omega arith;
+  low = omega arith;
+  high = omega arith;
+}
+have_many_words (suc (suc (suc (suc (suc (suc zero)))))) below = record {
+  ended = omega arith;
+  printable = refl;
+  words = refl;
+  few = omega arith;
+  low = omega arith;
+  high = omega arith;
+}
+have_many_words (suc (suc (suc (suc (suc (suc (suc zero))))))) below = record {
+  ended = omega arith;
+  printable = refl;
+  words = refl;
+  few = omega arith;
+  low = omega arith;
+  high = omega arith;
+}
 have_many_words (suc (suc (suc (suc (suc (suc (suc (suc zero)))))))) below =
-    record { ended = omega arith; printable = refl; words = refl; few = omega arith; low = omega arith;
-    high = omega arith }
+    record {
+      ended = omega arith;
+      printable = refl;
+      words = refl;
+      few = omega arith;
+      low = omega arith;
+      high = omega arith;
+    }
 have_many_words (suc (suc (suc (suc (suc (suc (suc (suc (suc zero))))))))) below =
-    record { ended = omega arith; printable = refl; words = refl; few = omega arith; low = omega arith;
-    high = omega arith }
+    record {
+      ended = omega arith;
+      printable = refl;
+      words = refl;
+      few = omega arith;
+      low = omega arith;
+      high = omega arith;
+    }
 have_many_words (suc (suc (suc (suc (suc (suc (suc (suc (suc (suc zero)))))))))) below =
-    record { ended = omega arith; printable = refl; words = refl; few = omega arith; low = omega arith;
-    high = omega arith }
+    record {
+      ended = omega arith;
+      printable = refl;
+      words = refl;
+      few = omega arith;
+      low = omega arith;
+      high = omega arith;
+    }
 have_many_words (suc (suc (suc (suc (suc (suc (suc (suc (suc (suc (suc at))))))))))) below =
     absurd (omega (arith, below))
 
@@ -447,10 +649,10 @@ unfolding lines_of total
 too_many_words =
     let few : ¬ (max_entries < all_entries (numbers_in many_words 0)) = (λ many. omega (arith, many)) in
     let begin = begins_at many_words_text many_words have_many_words refl few 11 11
-        (mutator_word ∷ end_word ∷ [] ∷ []) refl refl refl in
+    (mutator_word ∷ end_word ∷ [] ∷ []) refl refl refl in
     let inside = go_open many_words_text 11 0 0 11 (mutator_word ∷ end_word ∷ [] ∷ []) begin mutator_word
-        (end_word ∷ [] ∷ []) (refl, omega arith, refl) refl (omega arith) (omega arith) in
+    (end_word ∷ [] ∷ []) (refl, omega arith, refl) refl (omega arith) (omega arith) in
     let end = go_end many_words_text 11 1 0 12 (board_name ∷ []) (end_word ∷ [] ∷ []) inside end_word ([] ∷ [])
-        (refl, omega arith, refl) refl in
+    (refl, omega arith, refl) refl in
     words_first many_words_text 11 1 0 13 ([] ∷ []) end refl (omega arith) many_words
-        (are_settings (lines_of many_words_text) many_words have_many_words refl) (omega arith)
+    (are_settings (lines_of many_words_text) many_words have_many_words refl) (omega arith)

@@ -46,7 +46,7 @@ SettingFault lines at Unclosed = (list_all is_printable (line_in lines at) ≡ t
 SettingFault lines at NotAscii = list_all is_printable (line_in lines at) ≡ false
 SettingFault lines at kind =
     (at < ended lines) × (list_all is_printable (line_in lines at) ≡ true)
-        × IsSettingLine (key_at at) (words_at lines at) (Err kind)
+    × IsSettingLine (key_at at) (words_at lines at) (Err kind)
 
 -- the lines before this one have their settings
 abbrev pub HaveSettings : List (List ℕ) → List ℕ → Type 0

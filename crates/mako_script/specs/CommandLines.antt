@@ -43,7 +43,7 @@ ArgumentFault names roots Number word fault = IsValue 0 4294967295 word (Err fau
 abbrev pub AreArguments : List (List ℕ) → ℕ → List Argument → List (List ℕ) → Type 0
 AreArguments names roots kinds words =
     (place : ℕ) → (kind : Argument) → slice_get kinds place ≡ Some kind
-        → IsArgument names roots kind (word_in words place)
+    → IsArgument names roots kind (word_in words place)
 
 -- one of the words has this fault, and none a fault that is told before it
 pub record IsLeastFault (names : List (List ℕ)) (roots : ℕ) (kinds : List Argument) (words : List (List ℕ))
@@ -66,10 +66,10 @@ abbrev pub CommandFault : List (List ℕ) → ℕ → List (List ℕ) → Kind �
 CommandFault names roots words faults.Word = (command : Command) → ¬ IsCommand words command
 CommandFault names roots words faults.Number =
     (kind : Argument) × (word : List ℕ) × (most : ℕ) × HasArgument words kind word × (greatest kind ≡ Some most)
-        × ((n : ℕ) → ¬ IsNumber word n)
+    × ((n : ℕ) → ¬ IsNumber word n)
 CommandFault names roots words faults.Range =
     (kind : Argument) × (word : List ℕ) × (most : ℕ) × (n : ℕ) × HasArgument words kind word
-        × (greatest kind ≡ Some most) × IsNumber word n × (most < n)
+    × (greatest kind ≡ Some most) × IsNumber word n × (most < n)
 CommandFault names roots words faults.Undefined = (name : List ℕ) × HasArgument words Read name
     × (is_among names name ≡ false)
 CommandFault names roots words faults.Names =

@@ -24,7 +24,7 @@ abbrev pub ShouldBe : List (List ℕ) → ℕ → List ℕ → ℕ × ℕ → Ty
 ShouldBe lines at word range =
     ((at < 11) × (word ≡ word_in (words_at lines at) 1) × (range ≡ (key_at at).1))
     ⊎ ((from : ℕ) × (kind : Argument) × IsIn lines from at × HasArgument (words_at lines at) kind word × (range.0 ≡ 0)
-        × (greatest kind ≡ Some range.1))
+    × (greatest kind ≡ Some range.1))
 
 -- the setting is not its key and one word
 abbrev pub IsNoSetting : List (List ℕ) → ℕ → Type 0
@@ -38,7 +38,7 @@ OpensNone lines at = IsBetween lines at × (line_in lines at ≢ mutator_word)
 abbrev pub IsNoCommand : List (List ℕ) → ℕ → Type 0
 IsNoCommand lines at =
     (from : ℕ) × IsIn lines from at × (line_in lines at ≢ end_word)
-        × ((command : Command) → ¬ IsCommand (words_at lines at) command)
+    × ((command : Command) → ¬ IsCommand (words_at lines at) command)
 
 -- the line opens a section behind 16 others
 abbrev pub OpensOneMore : List (List ℕ) → ℕ → Type 0
@@ -57,15 +57,15 @@ LineFault lines at Number = (word : List ℕ) × (range : ℕ × ℕ) × ShouldB
     × ((n : ℕ) → ¬ IsNumber word n)
 LineFault lines at Range =
     (word : List ℕ) × (range : ℕ × ℕ) × (n : ℕ) × ShouldBe lines at word range × IsNumber word n
-        × ((n < range.0) ⊎ (range.1 < n))
+    × ((n < range.0) ⊎ (range.1 < n))
 LineFault lines at Entries = (at ≡ 10) × (v : List ℕ) × AreSettings lines v
     × (max_entries < all_entries (numbers_in v 0))
 LineFault lines at Undefined =
     (from : ℕ) × (name : List ℕ) × IsIn lines from at × HasArgument (words_at lines at) arguments.Read name
-        × ¬ IsDefined lines from at name
+    × ¬ IsDefined lines from at name
 LineFault lines at Names =
     (from : ℕ) × (name : List ℕ) × (roots : ℕ) × IsIn lines from at
-        × HasArgument (words_at lines at) arguments.Defined name
+    × HasArgument (words_at lines at) arguments.Defined name
     × ¬ IsDefined lines from at name × IsNumber (word_in (words_at lines 7) 1) roots × AreDefined lines from at roots
 LineFault lines at Many = OpensOneMore lines at ⊎ IsOneMore lines at
 LineFault lines at NotAscii = ⊥

@@ -86,7 +86,7 @@ pub record IsCommand (words : List (List ℕ)) (command : Command) : Type 0 wher
 abbrev pub HasArgument : List (List ℕ) → Argument → List ℕ → Type 0
 HasArgument words kind word =
     (command : Command) × (place : ℕ) × IsCommand words command × (slice_get (kinds_of command) place ≡ Some kind)
-        × (word ≡ word_in words (place + 1))
+    × (word ≡ word_in words (place + 1))
 
 -- ---- names
 

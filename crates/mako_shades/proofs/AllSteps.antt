@@ -6,9 +6,15 @@ use Rattle.mako_model.specs.Legal.{Facts}
 use Rattle.mako_ring.specs.Shades.{IsShadeSlot}
 use Rattle.mako_shades.specs.Serving.{Tracks}
 use Rattle.mako_shades.specs.Stands.{HeapStands}
-use Rattle.mako_shades.specs.Steps.{TraceScene, IsIncoming, TraceStep, Unseen, Decides, Makes, Finds, Passes, GivesUp, Shades, Stores, Forwards, Gathers, Takes, Dismisses, LooksUp, Marks, Pushes, TakesOff, Locates, Skips, Begins, ScansOwn, ScansForeign, ScansOn, Sends}
-use Rattle.mako_shades.proofs.Servers.{server_takes, server_dismisses, server_looks_up, server_marks, server_pushes, server_takes_off, server_locates, server_skips, server_begins, server_finds_own, server_finds_foreign, server_finds_none, server_sends}
-use Rattle.mako_shades.proofs.Mutators.{goes_unseen, decides, mutator_finds, mutator_passes, mutator_gives_up, mutator_shades, mutator_stores, mutator_makes, collector_forwards, collector_gathers}
+use Rattle.mako_shades.specs.Steps.{TraceScene, IsIncoming, TraceStep, Unseen, Decides, Makes, Finds, Passes, GivesUp}
+use Rattle.mako_shades.specs.Steps.{Shades, Stores, Forwards, Gathers, Takes, Dismisses, LooksUp, Marks, Pushes}
+use Rattle.mako_shades.specs.Steps.{TakesOff, Locates, Skips, Begins, ScansOwn, ScansForeign, ScansOn, Sends}
+use Rattle.mako_shades.proofs.Servers.{server_takes, server_dismisses, server_looks_up, server_marks, server_pushes}
+use Rattle.mako_shades.proofs.Servers.{server_takes_off, server_locates, server_skips, server_begins, server_finds_own}
+use Rattle.mako_shades.proofs.Servers.{server_finds_foreign, server_finds_none, server_sends}
+use Rattle.mako_shades.proofs.Mutators.{goes_unseen, decides, mutator_finds, mutator_passes, mutator_gives_up}
+use Rattle.mako_shades.proofs.Mutators.{mutator_shades, mutator_stores, mutator_makes, collector_forwards}
+use Rattle.mako_shades.proofs.Mutators.{collector_gathers}
 
 incoming_slot : (p : Place) → IsIncoming p → IsShadeSlot p
 incoming_slot (work s slot) is = tt

@@ -1,5 +1,6 @@
 -- Steps that write an entry: a mark, and a name made.
-use Rattle.std.proofs.Common.{◌≡◌, ◌≢◌, ℕ, ◌⊎◌, inl, inr, ⊎_elim, List, [], ◌∷◌, ◌++◌, set, replicate, slice_get, Some, None, true, false, sym, ap, subst, refl, ◌∙◌, append-nil}
+use Rattle.std.proofs.Common.{◌≡◌, ◌≢◌, ℕ, ◌⊎◌, inl, inr, ⊎_elim, List, [], ◌∷◌, ◌++◌, set, replicate, slice_get, Some}
+use Rattle.std.proofs.Common.{None, true, false, sym, ap, subst, refl, ◌∙◌, append-nil}
 use Rattle.std.proofs.lemmas.Option.{none-some}
 use Rattle.std.proofs.lemmas.List.Elements.{Contains-push, Contains-push_cases}
 use Rattle.mako_words.specs.declared.name.Name.{Name}

@@ -1,5 +1,6 @@
 -- The tracing invariant is kept by one step: the general law.
-use Rattle.std.proofs.Common.{◌≡◌, ℕ, ◌*◌, ◌⊎◌, inl, inr, ⊎_elim, List, ◌∷◌, ◌++◌, Contains, flat_map, length, set, slice_get, Some, true, false, sym, ap, subst, ◌∙◌, arith, append_assoc}
+use Rattle.std.proofs.Common.{◌≡◌, ℕ, ◌*◌, ◌⊎◌, inl, inr, ⊎_elim, List, ◌∷◌, ◌++◌, Contains, flat_map, length, set}
+use Rattle.std.proofs.Common.{slice_get, Some, true, false, sym, ap, subst, ◌∙◌, arith, append_assoc}
 use Rattle.std.proofs.lemmas.Bool.{cases_eq, cases_lt, cases_Bool}
 use Rattle.std.proofs.lemmas.List.Concat.{flat_map-append}
 use Rattle.std.proofs.lemmas.List.Elements.{Contains-append_cases}

@@ -1,6 +1,7 @@
 -- A heap in which the board names an object that no root names, while the board is marked: where its entry is on a
 -- server's stack the invariant holds.
-use Rattle.std.proofs.Common.{◌≡◌, ℕ, zero, suc, ◌+◌, ◌^◌, inl, inr, ⊎_elim, List, [], ◌∷◌, Contains, slice_get, Some, None, sym, ap, subst, refl, ◌∙◌, arith}
+use Rattle.std.proofs.Common.{◌≡◌, ℕ, zero, suc, ◌+◌, ◌^◌, inl, inr, ⊎_elim, List, [], ◌∷◌, Contains, slice_get, Some}
+use Rattle.std.proofs.Common.{None, sym, ap, subst, refl, ◌∙◌, arith}
 use Rattle.std.specs.FinMap as map
 use Rattle.std.proofs.lemmas.Option.{same_Some, none-some}
 use Rattle.std.proofs.lemmas.List.Elements.{Contains-push}

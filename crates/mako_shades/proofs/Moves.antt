@@ -8,7 +8,9 @@ use Rattle.mako_model.proofs.Lists.{get_set_same, get_set_other, get_set_cases}
 use Rattle.mako_ring.specs.Shades.{entry_of, StandsInSlot, IsHeld, IsWorkedOn, IsWaiting}
 use Rattle.mako_ring.specs.TraceFacets.{GreyIn, WorksOn}
 use Rattle.mako_shades.specs.Holding.{Keeps, PutKnows}
-use Rattle.mako_shades.proofs.General.{Act, Before, After, next_facets, Marked, NextMarked, Shaded, NextShaded, EverShaded, NextGood, Holds, NextHolds, AtSnap, Stands, Keeping, marked_cases, go_on}
+use Rattle.mako_shades.proofs.General.{Act, Before, After, next_facets, Marked, NextMarked, Shaded, NextShaded}
+use Rattle.mako_shades.proofs.General.{EverShaded, NextGood, Holds, NextHolds, AtSnap, Stands, Keeping, marked_cases}
+use Rattle.mako_shades.proofs.General.{go_on}
 
 abbrev pub Slot : Act → Name → Type 0
 Slot a x = StandsInSlot a.numbers a.words x

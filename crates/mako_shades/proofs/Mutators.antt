@@ -1,5 +1,6 @@
 -- The steps of mutators and of the collector keep what is kept of tracing.
-use Rattle.std.proofs.Common.{◌≡◌, ℕ, ◌+◌, ◌<◌, ⊎_elim, List, [], ◌∷◌, ◌++◌, Contains, length, set, slice_get, slice_index, get_or, Some, None, true, false, sym, ap, subst, refl, ◌∙◌}
+use Rattle.std.proofs.Common.{◌≡◌, ℕ, ◌+◌, ◌<◌, ⊎_elim, List, [], ◌∷◌, ◌++◌, Contains, length, set, slice_get}
+use Rattle.std.proofs.Common.{slice_index, get_or, Some, None, true, false, sym, ap, subst, refl, ◌∙◌}
 use Rattle.std.proofs.lemmas.Option.{slice_get-get_or, same_Some}
 use Rattle.std.proofs.lemmas.Bool.{cases_eq}
 use Rattle.mako_words.specs.declared.name.Name.{Name}
@@ -21,16 +22,19 @@ use Rattle.mako_model.specs.Heaps.{fields_of, root_of}
 use Rattle.mako_model.specs.Lawful.{IsNoRef, HasRoot, RefersTo, IsLawful}
 use Rattle.mako_model.specs.Legal.{Facts, state_of, IsLegal}
 use Rattle.mako_ring.specs.Shades.{entry_of}
-use Rattle.mako_ring.specs.TraceFacets.{Hand, empty, considering, marking, pushing, TraceFacet, apart, looking, storing, serving, collecting, InHand}
+use Rattle.mako_ring.specs.TraceFacets.{Hand, empty, considering, marking, pushing, TraceFacet, apart, looking, storing}
+use Rattle.mako_ring.specs.TraceFacets.{serving, collecting, InHand}
 use Rattle.mako_names.specs.Tables.{IsTaken}
 use Rattle.mako_shades.specs.Holding.{AgreeOnTrace}
-use Rattle.mako_shades.specs.Serving.{HandStands, StandOnce, HandIsFresh, OffStands, ScanFits, SeatTracks, ServerIs, AreSole, AreServing, Tracks}
+use Rattle.mako_shades.specs.Serving.{HandStands, StandOnce, HandIsFresh, OffStands, ScanFits, SeatTracks, ServerIs}
+use Rattle.mako_shades.specs.Serving.{AreSole, AreServing, Tracks}
 use Rattle.mako_shades.specs.Stands.{HeapStands, SizesStay, SameEntries}
 use Rattle.mako_shades.specs.Steps.{IsAtRest, IsReady, LeavesObjects}
 use Rattle.mako_shades.proofs.Goods.{root_good}
 use Rattle.mako_shades.proofs.Words.{entries_same, entry_written, marked_same, slot_is_traced}
 use Rattle.mako_shades.proofs.Taken.{taken_word, marked_taken}
-use Rattle.mako_shades.proofs.Serving.{SeatKept, HandKept, seat_kept, leaves_entries, sizes_same, sizes_stay, Leaves, serving_on, serving_rest}
+use Rattle.mako_shades.proofs.Serving.{SeatKept, HandKept, seat_kept, leaves_entries, sizes_same, sizes_stay, Leaves}
+use Rattle.mako_shades.proofs.Serving.{serving_on, serving_rest}
 use Rattle.mako_shades.proofs.Turns.{no_member, put_finds, put_passes, put_gives_up}
 use Rattle.mako_shades.proofs.Slots.{put_shades, forwards, gathers}
 use Rattle.mako_shades.proofs.Entries.{publishes}

@@ -1,5 +1,6 @@
 -- Which steps can end quiet, and completeness.
-use Rattle.std.proofs.Common.{◌≡◌, ◌≢◌, ℕ, Bool, ⊎_elim, List, [], ◌∷◌, ◌++◌, Contains, length, set, slice_get, Some, sym, subst, refl, ◌∙◌, arith}
+use Rattle.std.proofs.Common.{◌≡◌, ◌≢◌, ℕ, Bool, ⊎_elim, List, [], ◌∷◌, ◌++◌, Contains, length, set, slice_get, Some}
+use Rattle.std.proofs.Common.{sym, subst, refl, ◌∙◌, arith}
 use Rattle.std.proofs.lemmas.Option.{none-some}
 use Rattle.std.proofs.lemmas.List.Elements.{Contains-push}
 use Rattle.mako_words.specs.declared.name.Name.{Name}
@@ -11,9 +12,13 @@ use Rattle.mako_shape.proofs.PlaceLaws.{word_other}
 use Rattle.mako_model.specs.Legal.{Facts}
 use Rattle.mako_model.proofs.Lists.{get_set_cases}
 use Rattle.mako_ring.specs.Shades.{IsQuiet, IsComplete}
-use Rattle.mako_ring.specs.TraceFacets.{Hand, empty, considering, marking, pushing, Off, nothing, popped, located, Work, TraceFacet, apart, looking, storing, serving, collecting, IsIdle}
+use Rattle.mako_ring.specs.TraceFacets.{Hand, empty, considering, marking, pushing, Off, nothing, popped, located, Work}
+use Rattle.mako_ring.specs.TraceFacets.{TraceFacet, apart, looking, storing, serving, collecting, IsIdle}
 use Rattle.mako_shades.specs.Holding.{AgreeOnTrace}
-use Rattle.mako_shades.specs.Steps.{TraceScene, IsIncoming, TraceStep, Unseen, Decides, Makes, Finds, Passes, GivesUp, Shades, Stores, Forwards, Gathers, Takes, Dismisses, LooksUp, Marks, Pushes, TakesOff, Locates, Skips, Begins, ScansOwn, ScansForeign, ScansOn, Sends, IsGathering, IsShading}
+use Rattle.mako_shades.specs.Steps.{TraceScene, IsIncoming, TraceStep, Unseen, Decides, Makes, Finds, Passes, GivesUp}
+use Rattle.mako_shades.specs.Steps.{Shades, Stores, Forwards, Gathers, Takes, Dismisses, LooksUp, Marks, Pushes}
+use Rattle.mako_shades.specs.Steps.{TakesOff, Locates, Skips, Begins, ScansOwn, ScansForeign, ScansOn, Sends}
+use Rattle.mako_shades.specs.Steps.{IsGathering, IsShading}
 use Rattle.mako_shades.proofs.Turns.{no_member}
 use Rattle.mako_shades.proofs.Words.{no_zero_name}
 

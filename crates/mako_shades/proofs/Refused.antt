@@ -1,5 +1,6 @@
 -- What the worked examples refuse.
-use Rattle.std.proofs.Common.{◌≡◌, ℕ, zero, suc, ◌+◌, ◌^◌, inl, inr, ⊎_elim, List, [], ◌∷◌, ◌++◌, slice_get, Some, sym, ap, subst, refl, ◌∙◌, arith}
+use Rattle.std.proofs.Common.{◌≡◌, ℕ, zero, suc, ◌+◌, ◌^◌, inl, inr, ⊎_elim, List, [], ◌∷◌, ◌++◌, slice_get, Some, sym}
+use Rattle.std.proofs.Common.{ap, subst, refl, ◌∙◌, arith}
 use Rattle.std.proofs.lemmas.Option.{same_Some, none-some}
 use Rattle.std.proofs.lemmas.List.Elements.{Contains-push}
 use Rattle.mako_words.specs.declared.name.Name.{Name}
@@ -18,7 +19,9 @@ use Rattle.mako_model.specs.Legal.{state_of}
 use Rattle.mako_model.specs.Reachable.{StandsInRoot, IsReachable}
 use Rattle.mako_ring.specs.Shades.{entry_of, IsHeld, IsGrey, IsShaded}
 use Rattle.mako_ring.specs.TraceFacets.{TraceFacet, apart, serving, collecting, IsIdle}
-use Rattle.mako_shades.specs.Examples.{small, small_facts, small_words, small_history, words_with, stacked, forgetful_seats, inventive_seats, hasty_seats, words_too_soon, linking, linked_history, linked_words}
+use Rattle.mako_shades.specs.Examples.{small, small_facts, small_words, small_history, words_with, stacked}
+use Rattle.mako_shades.specs.Examples.{forgetful_seats, inventive_seats, hasty_seats, words_too_soon, linking}
+use Rattle.mako_shades.specs.Examples.{linked_history, linked_words}
 use Rattle.mako_shades.specs.Holding.{HoldsName, TracingHolds}
 use Rattle.mako_shades.specs.Serving.{Tracks}
 use Rattle.mako_shades.specs.Stands.{HeapStands}

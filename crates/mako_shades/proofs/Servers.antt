@@ -1,5 +1,7 @@
 -- The steps of a server keep what is kept of tracing.
-use Rattle.std.proofs.Common.{◌≡◌, ◌≢◌, ℕ, ◌+◌, ◌<◌, inl, inr, ⊎_elim, List, [], ◌∷◌, ◌++◌, Contains, length, set, slice_get, slice_index, get_or, Option, Some, None, if◌then◌else◌, ◌==◌, true, sym, ap, subst, refl, ◌∙◌, arith}
+use Rattle.std.proofs.Common.{◌≡◌, ◌≢◌, ℕ, ◌+◌, ◌<◌, inl, inr, ⊎_elim, List, [], ◌∷◌, ◌++◌, Contains, length, set}
+use Rattle.std.proofs.Common.{slice_get, slice_index, get_or, Option, Some, None, if◌then◌else◌, ◌==◌, true, sym, ap}
+use Rattle.std.proofs.Common.{subst, refl, ◌∙◌, arith}
 use Rattle.std.proofs.lemmas.Bool.{cond_both, eqb-true, eqb-false}
 use Rattle.std.proofs.lemmas.Option.{slice_get-get_or}
 use Rattle.std.proofs.lemmas.List.Elements.{Contains-append_left, Contains-push, Contains-push_cases}
@@ -22,17 +24,21 @@ use Rattle.mako_model.specs.Laws.{HasObject}
 use Rattle.mako_model.proofs.Closed.{made_are_objects}
 use Rattle.mako_ring.specs.declared.tracing.Scan.{Scan}
 use Rattle.mako_ring.specs.Shades.{entry_of, IsMarked, IsShadeSlot}
-use Rattle.mako_ring.specs.TraceFacets.{Hand, empty, considering, marking, pushing, nothing, popped, located, Work, TraceFacet, serving, InHand}
+use Rattle.mako_ring.specs.TraceFacets.{Hand, empty, considering, marking, pushing, nothing, popped, located, Work}
+use Rattle.mako_ring.specs.TraceFacets.{TraceFacet, serving, InHand}
 use Rattle.mako_names.specs.Tables.{IsTaken}
 use Rattle.mako_names.specs.Uses.{IsGood}
-use Rattle.mako_shades.specs.Serving.{IsEntryMarked, HandStands, StandOnce, HandIsFresh, OffStands, IsScan, ScanFits, ServerStands, SeatTracks, AreServing, Tracks}
+use Rattle.mako_shades.specs.Serving.{IsEntryMarked, HandStands, StandOnce, HandIsFresh, OffStands, IsScan, ScanFits}
+use Rattle.mako_shades.specs.Serving.{ServerStands, SeatTracks, AreServing, Tracks}
 use Rattle.mako_shades.specs.Stands.{HeapStands, SameEntries}
 use Rattle.mako_shades.proofs.General.{Holding}
 use Rattle.mako_shades.proofs.Words.{entries_same, entry_written}
 use Rattle.mako_shades.proofs.Stacks.{once_push, once_front, fresh_front}
 use Rattle.mako_shades.proofs.Taken.{taken_word, taken_generation, taken_marked, marked_taken}
-use Rattle.mako_shades.proofs.Serving.{SeatKept, HandKept, seat_kept, leaves_entries, sizes_same, Leaves, serving_on, server_stays}
-use Rattle.mako_shades.proofs.Turns.{Loads, GoesOn, good_held, pushes, dismisses, looks_up, takes_off, locates, begins_scan, skips_scan, scan_takes, scan_sends, scan_passes}
+use Rattle.mako_shades.proofs.Serving.{SeatKept, HandKept, seat_kept, leaves_entries, sizes_same, Leaves, serving_on}
+use Rattle.mako_shades.proofs.Serving.{server_stays}
+use Rattle.mako_shades.proofs.Turns.{Loads, GoesOn, good_held, pushes, dismisses, looks_up, takes_off, locates}
+use Rattle.mako_shades.proofs.Turns.{begins_scan, skips_scan, scan_takes, scan_sends, scan_passes}
 use Rattle.mako_shades.proofs.Slots.{takes, sends}
 use Rattle.mako_shades.proofs.Entries.{marks, mark_stays, mark_address}
 

@@ -1,5 +1,6 @@
 -- What servers keep stands after one step: the general law.
-use Rattle.std.proofs.Common.{◌≡◌, ◌≢◌, ℕ, ⊎_elim, List, [], ◌∷◌, ◌++◌, length, set, slice_get, Option, Some, None, sym, ap, subst, refl, ◌∙◌, length-set}
+use Rattle.std.proofs.Common.{◌≡◌, ◌≢◌, ℕ, ⊎_elim, List, [], ◌∷◌, ◌++◌, length, set, slice_get, Option, Some, None, sym}
+use Rattle.std.proofs.Common.{ap, subst, refl, ◌∙◌, length-set}
 use Rattle.std.proofs.lemmas.Option.{same_Some, none-some}
 use Rattle.mako_words.specs.declared.name.Name.{Name}
 use Rattle.mako_words.specs.declared.value.Value.{Value}
@@ -17,8 +18,10 @@ use Rattle.mako_model.proofs.Changes.{Change, Nothing, Snapped, Rooted, Written,
 use Rattle.mako_model.proofs.Histories.{state_push}
 use Rattle.mako_ring.specs.declared.tracing.Scan.{Scan}
 use Rattle.mako_ring.specs.Shades.{entry_of, IsMarked}
-use Rattle.mako_ring.specs.TraceFacets.{Hand, empty, considering, marking, pushing, Off, nothing, popped, located, Work, TraceFacet, serving}
-use Rattle.mako_shades.specs.Serving.{IsEntryMarked, HandStands, OffStands, ScanFits, ServerStands, SeatTracks, ServerIs, AreServing}
+use Rattle.mako_ring.specs.TraceFacets.{Hand, empty, considering, marking, pushing, Off, nothing, popped, located, Work}
+use Rattle.mako_ring.specs.TraceFacets.{TraceFacet, serving}
+use Rattle.mako_shades.specs.Serving.{IsEntryMarked, HandStands, OffStands, ScanFits, ServerStands, SeatTracks}
+use Rattle.mako_shades.specs.Serving.{ServerIs, AreServing}
 use Rattle.mako_shades.specs.Stands.{SizesStay, SameEntries}
 use Rattle.mako_shades.proofs.Words.{marked_same}
 use Rattle.mako_shades.proofs.Taken.{is_taken, taken_word, taken_generation}

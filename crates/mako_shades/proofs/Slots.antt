@@ -1,7 +1,9 @@
 -- Each kind of step that fills or empties a slot keeps the tracing invariant.
-use Rattle.std.proofs.Common.{◌≡◌, ℕ, ◌⊎◌, inl, inr, ⊎_elim, List, [], ◌∷◌, ◌++◌, set, slice_get, Some, None, sym, subst, refl, ◌∙◌, append-nil}
+use Rattle.std.proofs.Common.{◌≡◌, ℕ, ◌⊎◌, inl, inr, ⊎_elim, List, [], ◌∷◌, ◌++◌, set, slice_get, Some, None, sym}
+use Rattle.std.proofs.Common.{subst, refl, ◌∙◌, append-nil}
 use Rattle.std.proofs.lemmas.Option.{same_Some, none-some}
-use Rattle.std.proofs.lemmas.List.Elements.{Contains-append_cases, Contains-append_left, Contains-append_right, Contains-push, Contains-push_cases}
+use Rattle.std.proofs.lemmas.List.Elements.{Contains-append_cases, Contains-append_left, Contains-append_right}
+use Rattle.std.proofs.lemmas.List.Elements.{Contains-push, Contains-push_cases}
 use Rattle.mako_words.specs.declared.name.Name.{Name}
 use Rattle.mako_words.specs.Names.{name_word, FitsName}
 use Rattle.mako_shape.specs.declared.numbers.Numbers.{Numbers}
@@ -9,7 +11,8 @@ use Rattle.mako_shape.specs.Places.{Place, barrier, work, ghost, index, Within, 
 use Rattle.mako_model.specs.declared.point.Point.{Point}
 use Rattle.mako_model.specs.Legal.{Facts}
 use Rattle.mako_ring.specs.Shades.{entry_of, IsShadeSlot, StandsInSlot, IsShaded}
-use Rattle.mako_ring.specs.TraceFacets.{Hand, empty, considering, Work, TraceFacet, looking, storing, serving, collecting, InHand, IsPushing, GreyIn, WorksOn}
+use Rattle.mako_ring.specs.TraceFacets.{Hand, empty, considering, Work, TraceFacet, looking, storing, serving}
+use Rattle.mako_ring.specs.TraceFacets.{collecting, InHand, IsPushing, GreyIn, WorksOn}
 use Rattle.mako_names.specs.Uses.{IsGood}
 use Rattle.mako_shades.specs.Holding.{Keeps, PutKnows, TracingHolds}
 use Rattle.mako_shades.proofs.General.{Holding, Act, EverShaded, put_more}

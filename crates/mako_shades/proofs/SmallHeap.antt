@@ -1,5 +1,6 @@
 -- At the first snapshot of a small heap all that is asked is met.
-use Rattle.std.proofs.Common.{◌≡◌, ◌≢◌, ℕ, zero, suc, ◌+◌, ◌*◌, ◌^◌, ⊎_elim, List, [], ◌∷◌, Contains, slice_get, slice_index, Some, true, false, sym, ap, subst, refl, ◌∙◌, arith}
+use Rattle.std.proofs.Common.{◌≡◌, ◌≢◌, ℕ, zero, suc, ◌+◌, ◌*◌, ◌^◌, ⊎_elim, List, [], ◌∷◌, Contains, slice_get}
+use Rattle.std.proofs.Common.{slice_index, Some, true, false, sym, ap, subst, refl, ◌∙◌, arith}
 use Rattle.std.specs.FinMap as map
 use Rattle.std.proofs.lemmas.Option.{same_Some, none-some}
 use Rattle.std.proofs.lemmas.List.Elements.{Contains-push, Contains-push_cases}

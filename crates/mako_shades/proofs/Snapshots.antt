@@ -1,5 +1,6 @@
 -- The store of the phase Trace establishes the tracing invariant.
-use Rattle.std.proofs.Common.{◌≡◌, ℕ, ◌⊎◌, inl, inr, ⊎_elim, List, [], ◌∷◌, ◌++◌, Contains, slice_get, Some, sym, ap, subst, refl, ◌∙◌}
+use Rattle.std.proofs.Common.{◌≡◌, ℕ, ◌⊎◌, inl, inr, ⊎_elim, List, [], ◌∷◌, ◌++◌, Contains, slice_get, Some, sym, ap}
+use Rattle.std.proofs.Common.{subst, refl, ◌∙◌}
 use Rattle.std.proofs.lemmas.Bool.{cases_eq}
 use Rattle.std.proofs.lemmas.Option.{same_Some, none-some}
 use Rattle.mako_words.specs.declared.name.Name.{Name}
@@ -12,7 +13,8 @@ use Rattle.mako_model.specs.Heaps.{Heap}
 use Rattle.mako_model.proofs.DeadApart.{snap_number}
 use Rattle.mako_model.proofs.Histories.{state_push}
 use Rattle.mako_ring.specs.Shades.{IsShaded}
-use Rattle.mako_ring.specs.TraceFacets.{Hand, Off, TraceFacet, looking, storing, expecting, swapping, serving, collecting, InHand, IsPushing, IsOff, ScanAwaits, GreyIn, WorksOn, IsIdle}
+use Rattle.mako_ring.specs.TraceFacets.{Hand, Off, TraceFacet, looking, storing, expecting, swapping, serving}
+use Rattle.mako_ring.specs.TraceFacets.{collecting, InHand, IsPushing, IsOff, ScanAwaits, GreyIn, WorksOn, IsIdle}
 use Rattle.mako_names.specs.Uses.{IsGood}
 use Rattle.mako_shades.specs.Holding.{HoldsName, Keeps, PutKnows, TracingHolds}
 use Rattle.mako_shades.specs.Steps.{IsAtRest, IsReady}

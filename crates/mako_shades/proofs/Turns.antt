@@ -1,5 +1,6 @@
 -- Each kind of step keeps the tracing invariant.
-use Rattle.std.proofs.Common.{◌≡◌, ℕ, ◌+◌, ◌<◌, ◌⊎◌, inl, inr, ⊎_elim, List, [], ◌∷◌, ◌++◌, Contains, flat_map, length, set, slice_get, Option, Some, None, sym, ap, subst, refl, ◌∙◌, arith, append-nil}
+use Rattle.std.proofs.Common.{◌≡◌, ℕ, ◌+◌, ◌<◌, ◌⊎◌, inl, inr, ⊎_elim, List, [], ◌∷◌, ◌++◌, Contains, flat_map, length}
+use Rattle.std.proofs.Common.{set, slice_get, Option, Some, None, sym, ap, subst, refl, ◌∙◌, arith, append-nil}
 use Rattle.std.proofs.lemmas.Bool.{cases_eq}
 use Rattle.std.proofs.lemmas.Option.{same_Some, none-some, slice_get_within}
 use Rattle.std.proofs.lemmas.List.Elements.{Contains-append_left, Contains-push, Contains-push_cases}
@@ -20,12 +21,15 @@ use Rattle.mako_model.specs.Laws.{HasObject}
 use Rattle.mako_model.proofs.Closed.{same_ref, made_are_objects}
 use Rattle.mako_ring.specs.declared.tracing.Scan.{Scan}
 use Rattle.mako_ring.specs.Shades.{entry_of, IsMarked, IsShaded}
-use Rattle.mako_ring.specs.TraceFacets.{Hand, empty, considering, marking, pushing, Off, nothing, popped, located, Work, TraceFacet, apart, looking, storing, swapping, serving, InHand, IsPushing, IsOff, ScanAwaits, GreyIn, WorksOn}
+use Rattle.mako_ring.specs.TraceFacets.{Hand, empty, considering, marking, pushing, Off, nothing, popped, located, Work}
+use Rattle.mako_ring.specs.TraceFacets.{TraceFacet, apart, looking, storing, swapping, serving, InHand, IsPushing}
+use Rattle.mako_ring.specs.TraceFacets.{IsOff, ScanAwaits, GreyIn, WorksOn}
 use Rattle.mako_names.specs.Uses.{IsGood}
 use Rattle.mako_shades.specs.Holding.{HoldsName, Keeps, PutKnows, TracingHolds}
 use Rattle.mako_shades.proofs.Goods.{root_good, field_good}
 use Rattle.mako_shades.proofs.Words.{marked_same}
-use Rattle.mako_shades.proofs.General.{Holding, Act, Before, After, Marked, NextMarked, Shaded, EverShaded, NextGood, Holds, NextHolds, AtSnap, Stands}
+use Rattle.mako_shades.proofs.General.{Holding, Act, Before, After, Marked, NextMarked, Shaded, EverShaded, NextGood}
+use Rattle.mako_shades.proofs.General.{Holds, NextHolds, AtSnap, Stands}
 use Rattle.mako_shades.proofs.Moves.{Slot, NextSlot, address, moved}
 
 pub no_member : {A : Type 0} (x : A) → Contains [] x → ⊥

@@ -11,7 +11,8 @@ use Rattle.mako_model.specs.Heaps.{fields_of}
 use Rattle.mako_model.specs.Legal.{Facts, state_of}
 use Rattle.mako_ring.specs.declared.tracing.Scan.{Scan}
 use Rattle.mako_ring.specs.Shades.{entry_of, IsMarked}
-use Rattle.mako_ring.specs.TraceFacets.{Hand, empty, considering, marking, pushing, Off, nothing, popped, located, Work, TraceFacet, serving, InHand}
+use Rattle.mako_ring.specs.TraceFacets.{Hand, empty, considering, marking, pushing, Off, nothing, popped, located, Work}
+use Rattle.mako_ring.specs.TraceFacets.{TraceFacet, serving, InHand}
 use Rattle.mako_names.specs.Tables.{IsTaken}
 use Rattle.mako_shades.specs.Holding.{TracingHolds}
 

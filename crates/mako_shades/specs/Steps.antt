@@ -1,5 +1,6 @@
 -- The kinds of step in the tracing of a cycle, and the snapshot that begins it.
-use Rattle.std.specs.Prelude.{ℕ, ◌≡◌, ◌≢◌, ◌+◌, ◌<◌, ◌==◌, List, [], ◌∷◌, ◌++◌, length, slice_get, slice_set, slice_index, Option, Some, None, true, false, if◌then◌else◌}
+use Rattle.std.specs.Prelude.{ℕ, ◌≡◌, ◌≢◌, ◌+◌, ◌<◌, ◌==◌, List, [], ◌∷◌, ◌++◌, length, slice_get, slice_set}
+use Rattle.std.specs.Prelude.{slice_index, Option, Some, None, true, false, if◌then◌else◌}
 use Rattle.std.specs.List.{Contains}
 use Rattle.mako_words.specs.declared.name.Name.{Name}
 use Rattle.mako_words.specs.declared.value.Value.{Value}
@@ -23,7 +24,9 @@ use Rattle.mako_model.specs.Legal.{Facts, state_of}
 use Rattle.mako_model.specs.Reachable.{StandsInRoot}
 use Rattle.mako_ring.specs.declared.tracing.Scan.{Scan}
 use Rattle.mako_ring.specs.Shades.{entry_of, IsMarked, IsShadeSlot}
-use Rattle.mako_ring.specs.TraceFacets.{empty, considering, marking, pushing, nothing, popped, located, Work, TraceFacet, apart, looking, storing, expecting, swapping, serving, collecting, IsIdle}
+use Rattle.mako_ring.specs.TraceFacets.{empty, considering, marking, pushing, nothing, popped, located, Work}
+use Rattle.mako_ring.specs.TraceFacets.{TraceFacet, apart, looking, storing, expecting, swapping, serving, collecting}
+use Rattle.mako_ring.specs.TraceFacets.{IsIdle}
 use Rattle.mako_shades.specs.Holding.{AgreeOnTrace}
 
 -- what tracing reads of a state

@@ -1,6 +1,8 @@
 //! Worked examples: a small heap at its first snapshot, and states of it that are refused.
 
-ghost use Rattle.mako_shades.specs.Examples.{small, small_facts, small_words, small_seats, small_history, forgetful_seats, inventive_seats, hasty_seats, words_too_soon, linked_words, linked_seats, linked_history};
+ghost use Rattle.mako_shades.specs.Examples.{small, small_facts, small_words, small_seats, small_history};
+ghost use Rattle.mako_shades.specs.Examples.{forgetful_seats, inventive_seats, hasty_seats, words_too_soon};
+ghost use Rattle.mako_shades.specs.Examples.{linked_words, linked_seats, linked_history};
 ghost use Rattle.mako_shades.specs.Holding.{TracingHolds};
 ghost use Rattle.mako_shades.specs.Serving.{Tracks};
 ghost use Rattle.mako_shades.specs.Stands.{HeapStands};

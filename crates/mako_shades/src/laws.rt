@@ -1,7 +1,11 @@
 //! What holds while the servers trace a cycle, and what follows from it. The functions do nothing; what they ensure is
 //! for contracts and proofs.
 
-ghost use Rattle.mako_shades.specs.Laws.{NamesGiveTheHeap, TracingBegins, StepsKeepTracing, StepsFollow, LastFacetsCount, CompleteMarksTheGood, CompleteIsTraced, TracedStays, QuietHeapsStay, CompleteHeapsStay, UnmarkedAreOld, StacksHaveRoom, SlotNamesAreGood, HeldNamesAreGood, EpochsAreTraced, CompleteMarksAll, TracedGiveEpochs};
+ghost use Rattle.mako_shades.specs.Laws.{NamesGiveTheHeap, TracingBegins, StepsKeepTracing, StepsFollow};
+ghost use Rattle.mako_shades.specs.Laws.{LastFacetsCount, CompleteMarksTheGood, CompleteIsTraced, TracedStays};
+ghost use Rattle.mako_shades.specs.Laws.{QuietHeapsStay, CompleteHeapsStay, UnmarkedAreOld, StacksHaveRoom};
+ghost use Rattle.mako_shades.specs.Laws.{SlotNamesAreGood, HeldNamesAreGood, EpochsAreTraced, CompleteMarksAll};
+ghost use Rattle.mako_shades.specs.Laws.{TracedGiveEpochs};
 
 /// What ties entries and names to the front, with a record at the address of each object, is all that tracing asks of
 /// words and history.

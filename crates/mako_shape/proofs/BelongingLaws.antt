@@ -3,7 +3,9 @@ use Rattle.std.proofs.Common.{◌≡◌, ℕ, ◌+◌, ◌-◌, ◌*◌, ◌/◌
 use Rattle.std.proofs.lemmas.Nat.{div-mul-add, same_from_place}
 use Rattle.mako_shape.specs.declared.numbers.Numbers.{Numbers}
 use Rattle.mako_shape.specs.Places.{total, index, region_word}
-use Rattle.mako_shape.specs.Belongings.{server_of_tablet, server_of_region, IsAddress, region_of_address, word_of_address, IsInRegion, opening_home, BelongingsAreInRange, PartsBelong, AddressesBelong, OpeningHomesAreGood}
+use Rattle.mako_shape.specs.Belongings.{server_of_tablet, server_of_region, IsAddress, region_of_address}
+use Rattle.mako_shape.specs.Belongings.{word_of_address, IsInRegion, opening_home, BelongingsAreInRange, PartsBelong}
+use Rattle.mako_shape.specs.Belongings.{AddressesBelong, OpeningHomesAreGood}
 use Rattle.mako_shape.proofs.Rows.{row-below, div-below, mod-below, row-and-column}
 
 pub belongings_in_range : BelongingsAreInRange
@@ -24,7 +26,8 @@ parts_belong = record {
 }
 
 -- the index of a word of a region, from the first word of all regions on
-pub region_word-index : (n : Numbers) (r w : ℕ) → index n (region_word r w) ≡ index n (region_word 0 0) + (r * n.words + w)
+pub region_word-index : (n : Numbers) (r w : ℕ)
+    → index n (region_word r w) ≡ index n (region_word 0 0) + (r * n.words + w)
 unfolding index
 region_word-index n r w = omega arith
 
@@ -34,18 +37,27 @@ unfolding index total
 regions-end n = omega arith
 
 -- an address is below the words of all regions, from their first word on
-pub address-below : (n : Numbers) (a : ℕ) → IsAddress n a → a - index n (region_word 0 0) < n.servers * (n.tablets + n.spare) * n.words
+pub address-below : (n : Numbers) (a : ℕ) → IsAddress n a
+    → a - index n (region_word 0 0) < n.servers * (n.tablets + n.spare) * n.words
 address-below n a h = omega (arith, regions-end n)
 
 pub address_in_range : (n : Numbers) (a : ℕ) → IsAddress n a → region_of_address n a < n.servers * (n.tablets + n.spare)
-address_in_range n a h = div-below (a - index n (region_word 0 0)) n.words (n.servers * (n.tablets + n.spare)) (address-below n a h)
+address_in_range n a h =
+    div-below (a - index n (region_word 0 0)) n.words (n.servers * (n.tablets + n.spare)) (address-below n a h)
 
 pub address_word : (n : Numbers) (a : ℕ) → IsAddress n a → word_of_address n a < n.words
-address_word n a h = mod-below (a - index n (region_word 0 0)) n.words (n.servers * (n.tablets + n.spare)) (address-below n a h)
+address_word n a h =
+    mod-below (a - index n (region_word 0 0)) n.words (n.servers * (n.tablets + n.spare)) (address-below n a h)
 
-pub address_place : (n : Numbers) (a : ℕ) → IsAddress n a → index n (region_word (region_of_address n a) (word_of_address n a)) ≡ a
+pub address_place : (n : Numbers) (a : ℕ) → IsAddress n a
+    → index n (region_word (region_of_address n a) (word_of_address n a)) ≡ a
 address_place n a h =
-    omega (arith, region_word-index n (region_of_address n a) (word_of_address n a), row-and-column (a - index n (region_word 0 0)) n.words)
+    omega (
+      arith,
+      region_word-index n (region_of_address n a) (word_of_address n a),
+      row-and-column
+          (a - index n (region_word 0 0)) n.words,
+    )
 
 pub word_after : (n : Numbers) (r w : ℕ) → index n (region_word r w) ≡ index n (region_word r 0) + w
 word_after n r w = omega (arith, region_word-index n r w, region_word-index n r 0)
@@ -54,16 +66,19 @@ pub address_in_region : (n : Numbers) (a : ℕ) → IsAddress n a → IsInRegion
 address_in_region n a h =
     let r : ℕ = region_of_address n a in
     let e : index n (region_word r (word_of_address n a)) ≡ a = address_place n a h in
-    let f : index n (region_word r (word_of_address n a)) ≡ index n (region_word r 0) + word_of_address n a = word_after n r (word_of_address n a) in
+    let f : index n (region_word r (word_of_address n a)) ≡ index n (region_word r 0) + word_of_address n a =
+    word_after n r (word_of_address n a) in
     let b : word_of_address n a < n.words = address_word n a h in
     (omega arith, omega arith)
 
-pub region_words : (n : Numbers) (r a : ℕ) → r < n.servers * (n.tablets + n.spare) → IsInRegion n r a → IsAddress n a × (region_of_address n a ≡ r)
+pub region_words : (n : Numbers) (r a : ℕ) → r < n.servers * (n.tablets + n.spare) → IsInRegion n r a → IsAddress n a
+    × (region_of_address n a ≡ r)
 region_words n r a h k =
     let first : index n (region_word r 0) ≡ index n (region_word 0 0) + (r * n.words + 0) = region_word-index n r 0 in
     let w : ℕ = a - index n (region_word r 0) in
     let inside : w < n.words = omega arith in
-    let below : r * n.words + w < n.servers * (n.tablets + n.spare) * n.words = row-below r n.words w (n.servers * (n.tablets + n.spare)) h inside in
+    let below : r * n.words + w < n.servers * (n.tablets + n.spare) * n.words =
+    row-below r n.words w (n.servers * (n.tablets + n.spare)) h inside in
     let here : a - index n (region_word 0 0) ≡ r * n.words + w = omega arith in
     ((omega arith, omega (arith, regions-end n)), ap (λ x. x / n.words) here ∙ div-mul-add r n.words w inside)
 
@@ -81,16 +96,22 @@ addresses_belong = record {
 column-below : (n : Numbers) (t : ℕ) → t < n.servers * n.tablets → t % n.tablets < n.tablets + n.spare
 column-below n t h = omega (arith, mod-below t n.tablets n.servers h)
 
-pub home_in_range : (n : Numbers) (t : ℕ) → t < n.servers * n.tablets → opening_home n t < n.servers * (n.tablets + n.spare)
-home_in_range n t h = row-below (t / n.tablets) (n.tablets + n.spare) (t % n.tablets) n.servers (div-below t n.tablets n.servers h) (column-below n t h)
+pub home_in_range : (n : Numbers) (t : ℕ) → t < n.servers * n.tablets
+    → opening_home n t < n.servers * (n.tablets + n.spare)
+home_in_range n t h =
+    row-below (t / n.tablets) (n.tablets + n.spare) (t % n.tablets) n.servers (div-below t n.tablets n.servers h)
+    (column-below n t h)
 
-pub home_server : (n : Numbers) (t : ℕ) → t < n.servers * n.tablets → server_of_region n (opening_home n t) ≡ server_of_tablet n t
+pub home_server : (n : Numbers) (t : ℕ) → t < n.servers * n.tablets
+    → server_of_region n (opening_home n t) ≡ server_of_tablet n t
 home_server n t h = div-mul-add (t / n.tablets) (n.tablets + n.spare) (t % n.tablets) (column-below n t h)
 
-pub one_home : (n : Numbers) (t u : ℕ) → t < n.servers * n.tablets → u < n.servers * n.tablets → opening_home n t ≡ opening_home n u → t ≡ u
+pub one_home : (n : Numbers) (t u : ℕ) → t < n.servers * n.tablets → u < n.servers * n.tablets
+    → opening_home n t ≡ opening_home n u → t ≡ u
 one_home n t u h k e =
     let same : (t / n.tablets ≡ u / n.tablets) × (t % n.tablets ≡ u % n.tablets) =
-    same_from_place (t / n.tablets) (t % n.tablets) (u / n.tablets) (u % n.tablets) (n.tablets + n.spare) (column-below n t h) (column-below n u k) e in
+    same_from_place (t / n.tablets) (t % n.tablets) (u / n.tablets) (u % n.tablets) (n.tablets + n.spare)
+    (column-below n t h) (column-below n u k) e in
     sym (row-and-column t n.tablets) ∙ (λ i. same.0 i * n.tablets + same.1 i) ∙ row-and-column u n.tablets
 
 pub opening_homes_are_good : OpeningHomesAreGood

@@ -23,7 +23,8 @@ one_cell (s ∷ sizes) zero zero a b h k e = (refl, omega arith)
 one_cell (s ∷ sizes) zero (suc j) a b h k e = absurd (omega (arith, sum-cons s (take j sizes)))
 one_cell (s ∷ sizes) (suc i) zero a b h k e = absurd (omega (arith, sum-cons s (take i sizes)))
 one_cell (s ∷ sizes) (suc i) (suc j) a b h k e =
-    let rest : sum (take i sizes) + a ≡ sum (take j sizes) + b = omega (arith, sum-cons s (take i sizes), sum-cons s (take j sizes)) in
+    let rest : sum (take i sizes) + a ≡ sum (take j sizes) + b =
+    omega (arith, sum-cons s (take i sizes), sum-cons s (take j sizes)) in
     let both : (i ≡ j) × (a ≡ b) = one_cell sizes i j a b h k rest in
     (ap suc both.0, both.1)
 
@@ -34,6 +35,7 @@ cell-of [] w h = absurd (omega arith)
 cell-of (s ∷ sizes) w h = elim (cases_lt w s) [
   | inl below ↦ (0, (w, (below, omega arith)))
   | inr above ↦
-      let rest : (area : ℕ) × ((a : ℕ) × ((a < get_or sizes area 0) × (sum (take area sizes) + a ≡ w - s))) = cell-of sizes (w - s) (omega (arith, sum-cons s sizes)) in
+      let rest : (area : ℕ) × ((a : ℕ) × ((a < get_or sizes area 0) × (sum (take area sizes) + a ≡ w - s))) =
+      cell-of sizes (w - s) (omega (arith, sum-cons s sizes)) in
       (suc rest.0, (rest.1.0, (rest.1.1.0, omega (arith, sum-cons s (take rest.0 sizes), rest.1.1.1))))
 ]

@@ -3,7 +3,9 @@ use Rattle.std.proofs.Common.{◌≡◌, ℕ, zero, suc, ◌+◌, ◌*◌, ◌/�
 use Rattle.std.proofs.lemmas.Nat.{div-mul-add, mod-mul-add}
 use Rattle.mako_shape.proofs.Rows.{row-below, div-below, mod-below, row-and-column}
 use Rattle.mako_shape.specs.declared.numbers.Numbers.{Numbers}
-use Rattle.mako_shape.specs.Places.{Place, phase, demand, finished, mutator_gate, root, barrier, flags, work, ghost, notice, tablet_gate, turn, home, top, leaving, live, entry, region_word, sizes, rank, offset, Within}
+use Rattle.mako_shape.specs.Places.{Place, phase, demand, finished, mutator_gate, root, barrier, flags, work, ghost}
+use Rattle.mako_shape.specs.Places.{notice, tablet_gate, turn, home, top, leaving, live, entry, region_word, sizes}
+use Rattle.mako_shape.specs.Places.{rank, offset, Within}
 
 -- the places of each area by their offsets, in the order of the areas
 abbrev pub decoders : Numbers → List (ℕ → Place)
@@ -69,7 +71,8 @@ offset-below n (root m q) h = row-below m n.roots q n.mutators h.0 h.1
 offset-below n (barrier m slot) h = row-below m n.ring slot n.mutators h.0 h.1
 offset-below n (flags s) h = h
 offset-below n (work s slot) h = row-below s n.ring slot n.servers h.0 h.1
-offset-below n (ghost a b slot) h = row-below (a * n.servers + b) n.ring slot (n.servers * n.servers) (row-below a n.servers b n.servers h.0 h.1) h.2
+offset-below n (ghost a b slot) h =
+    row-below (a * n.servers + b) n.ring slot (n.servers * n.servers) (row-below a n.servers b n.servers h.0 h.1) h.2
 offset-below n (notice s slot) h = row-below s n.ring slot n.servers h.0 h.1
 offset-below n (tablet_gate t) h = h
 offset-below n (turn t) h = h
@@ -92,18 +95,24 @@ CoverFrom n area [] (s ∷ ss) = ⊥
 CoverFrom n area (d ∷ ds) [] = ⊥
 
 -- so each area of the row meets it
-covers-at : (n : Numbers) (from : ℕ) (ds : List (ℕ → Place)) (ss : List ℕ) → CoverFrom n from ds ss → (i a : ℕ) → a < get_or ss i 0 →
-    Within n (get_or ds i (λ b. phase) a) × (rank (get_or ds i (λ b. phase) a) ≡ from + i) × (offset n (get_or ds i (λ b. phase) a) ≡ a)
+covers-at : (n : Numbers) (from : ℕ) (ds : List (ℕ → Place)) (ss : List ℕ) → CoverFrom n from ds ss → (i a : ℕ)
+    → a < get_or ss i 0 →
+    Within n (get_or ds i (λ b. phase) a) × (rank (get_or ds i (λ b. phase) a) ≡ from + i)
+    × (offset n (get_or ds i (λ b. phase) a) ≡ a)
 covers-at n from [] [] c i a h = absurd (omega arith)
 covers-at n from [] (s ∷ ss) c i a h = absurd c
 covers-at n from (d ∷ ds) [] c i a h = absurd c
-covers-at n from (d ∷ ds) (s ∷ ss) c zero a h = let k : Within n (d a) × (rank (d a) ≡ from) × (offset n (d a) ≡ a) = c.0 a h in (k.0, k.1 ∙ omega arith, k.2)
+covers-at n from (d ∷ ds) (s ∷ ss) c zero a h = let k : Within n (d a) × (rank (d a) ≡ from)
+    × (offset n (d a) ≡ a) = c.0 a h in (k.0, k.1 ∙ omega arith, k.2)
 covers-at n from (d ∷ ds) (s ∷ ss) c (suc i) a h =
-    let k : Within n (get_or ds i (λ b. phase) a) × (rank (get_or ds i (λ b. phase) a) ≡ suc from + i) × (offset n (get_or ds i (λ b. phase) a) ≡ a) = covers-at n (suc from) ds ss c.1 i a h in
+    let k : Within n (get_or ds i (λ b. phase) a) × (rank (get_or ds i (λ b. phase) a) ≡ suc from + i)
+    × (offset n (get_or ds i (λ b. phase) a) ≡ a) = covers-at n (suc from) ds ss c.1 i a h in
     (k.0, k.1 ∙ omega arith, k.2)
 
 -- the ring from one server to another has two numbers to find
-ghosts-cover : (n : Numbers) → Covers n 8 (λ a. ghost (a / n.ring / n.servers) (a / n.ring % n.servers) (a % n.ring)) (n.servers * n.servers * n.ring)
+ghosts-cover : (n : Numbers)
+    → Covers n 8 (λ a. ghost (a / n.ring / n.servers) (a / n.ring % n.servers) (a % n.ring))
+    (n.servers * n.servers * n.ring)
 ghosts-cover n a h =
     let row : a / n.ring < n.servers * n.servers = div-below a n.ring (n.servers * n.servers) h in
     let column : a % n.ring < n.ring = mod-below a n.ring (n.servers * n.servers) h in (
@@ -129,11 +138,19 @@ covers-all n = (
             (
               λ a h. (h, refl, refl),
               (
-                λ a h. ((div-below a n.ring n.servers h, mod-below a n.ring n.servers h), refl, row-and-column a n.ring),
+                λ a h. (
+                  (div-below a n.ring n.servers h, mod-below a n.ring n.servers h),
+                  refl,
+                  row-and-column a n.ring,
+                ),
                 (
                   ghosts-cover n,
                   (
-                    λ a h. ((div-below a n.ring n.servers h, mod-below a n.ring n.servers h), refl, row-and-column a n.ring),
+                    λ a h. (
+                      (div-below a n.ring n.servers h, mod-below a n.ring n.servers h),
+                      refl,
+                      row-and-column a n.ring,
+                    ),
                     (
                       λ a h. (h, refl, refl),
                       (
@@ -149,7 +166,14 @@ covers-all n = (
                                 (
                                   λ a h. (h, refl, refl),
                                   (
-                                    λ a h. ((div-below a n.words (n.servers * (n.tablets + n.spare)) h, mod-below a n.words (n.servers * (n.tablets + n.spare)) h), refl, row-and-column a n.words),
+                                    λ a h. (
+                                      (
+                                        div-below a n.words (n.servers * (n.tablets + n.spare)) h,
+                                        mod-below a n.words (n.servers * (n.tablets + n.spare)) h,
+                                      ),
+                                      refl,
+                                      row-and-column a n.words,
+                                    ),
                                     tt,
                                   ),
                                 ),
@@ -174,5 +198,6 @@ covers-all n = (
 pub place_of-covers : (n : Numbers) (area a : ℕ) → a < get_or (sizes n) area 0 →
     Within n (place_of n area a) × (rank (place_of n area a) ≡ area) × (offset n (place_of n area a) ≡ a)
 place_of-covers n area a h =
-    let k : Within n (place_of n area a) × (rank (place_of n area a) ≡ 0 + area) × (offset n (place_of n area a) ≡ a) = covers-at n 0 (decoders n) (sizes n) (covers-all n) area a h in
+    let k : Within n (place_of n area a) × (rank (place_of n area a) ≡ 0 + area)
+    × (offset n (place_of n area a) ≡ a) = covers-at n 0 (decoders n) (sizes n) (covers-all n) area a h in
     (k.0, k.1 ∙ omega arith, k.2)

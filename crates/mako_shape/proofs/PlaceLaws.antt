@@ -42,17 +42,21 @@ one_place n p r h k e =
 pub some_place : (n : Numbers) (w : ℕ) → w < total n → (p : Place) × (Within n p × (index n p ≡ w))
 unfolding index total
 some_place n w h =
-    let cell : (area : ℕ) × ((a : ℕ) × ((a < get_or (sizes n) area 0) × (start n area + a ≡ w))) = cell-of (sizes n) w h in
+    let cell : (area : ℕ)
+    × ((a : ℕ) × ((a < get_or (sizes n) area 0) × (start n area + a ≡ w))) = cell-of (sizes n) w h in
     let place : Place = place_of n cell.0 cell.1.0 in
-    let known : Within n place × (rank place ≡ cell.0) × (offset n place ≡ cell.1.0) = place_of-covers n cell.0 cell.1.0 cell.1.1.0 in
+    let known : Within n place × (rank place ≡ cell.0)
+    × (offset n place ≡ cell.1.0) = place_of-covers n cell.0 cell.1.0 cell.1.1.0 in
     (place, (known.0, (λ i. start n (known.1 i) + known.2 i) ∙ cell.1.1.1))
 
 -- a word that is written at a place is read there
 pub word_same : (n : Numbers) (words : List ℕ) (p : Place) (x : ℕ) → length words ≡ total n → Within n p →
     word_at n (set words (index n p) x) p ≡ x
-word_same n words p x size h = let below : index n p < total n = index_below n p h in get_or-set_same words (index n p) x 0 (omega arith)
+word_same n words p x size h = let below : index n p < total n = index_below n p h in
+    get_or-set_same words (index n p) x 0 (omega arith)
 
 -- a write at a place leaves the words at all other places in range
 pub word_other : (n : Numbers) (words : List ℕ) (p r : Place) (x : ℕ) → Within n p → Within n r → r ≢ p →
     word_at n (set words (index n p) x) r ≡ word_at n words r
-word_other n words p r x h k other = get_or-set_other words (index n p) (index n r) x 0 (λ e. other (one_place n r p k h e))
+word_other n words p r x h k other =
+    get_or-set_other words (index n p) (index n r) x 0 (λ e. other (one_place n r p k h e))

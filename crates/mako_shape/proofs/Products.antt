@@ -22,9 +22,23 @@ are_small n h =
     let barriers : n.mutators * n.ring ≤ 1024 = mul-le n.mutators n.ring 16 64 (omega arith) (omega arith) in
     let works : n.servers * n.ring ≤ 512 = mul-le n.servers n.ring 8 64 (omega arith) (omega arith) in
     let pairs : n.servers * n.servers ≤ 64 = mul-le n.servers n.servers 8 8 (omega arith) (omega arith) in
-    let ghosts : n.servers * n.servers * n.ring ≤ 4096 = mul-le (n.servers * n.servers) n.ring 64 64 pairs (omega arith) in
+    let ghosts : n.servers * n.servers * n.ring ≤ 4096 =
+    mul-le (n.servers * n.servers) n.ring 64 64 pairs (omega arith) in
     let tablets : n.servers * n.tablets ≤ 2048 = mul-le n.servers n.tablets 8 256 (omega arith) (omega arith) in
-    let entries : n.servers * n.tablets * n.entries ≤ 2097152 = mul-le (n.servers * n.tablets) n.entries 2048 1024 tablets (omega arith) in
-    let regions : n.servers * (n.tablets + n.spare) ≤ 2112 = mul-le n.servers (n.tablets + n.spare) 8 264 (omega arith) (omega arith) in
-    let words : n.servers * (n.tablets + n.spare) * n.words ≤ 138412032 = mul-le (n.servers * (n.tablets + n.spare)) n.words 2112 65536 regions (omega arith) in
-    record { roots = roots; barriers = barriers; works = works; pairs = pairs; ghosts = ghosts; tablets = tablets; entries = entries; regions = regions; words = words }
+    let entries : n.servers * n.tablets * n.entries ≤ 2097152 =
+    mul-le (n.servers * n.tablets) n.entries 2048 1024 tablets (omega arith) in
+    let regions : n.servers * (n.tablets + n.spare) ≤ 2112 =
+    mul-le n.servers (n.tablets + n.spare) 8 264 (omega arith) (omega arith) in
+    let words : n.servers * (n.tablets + n.spare) * n.words ≤ 138412032 =
+    mul-le (n.servers * (n.tablets + n.spare)) n.words 2112 65536 regions (omega arith) in
+    record {
+      roots = roots;
+      barriers = barriers;
+      works = works;
+      pairs = pairs;
+      ghosts = ghosts;
+      tablets = tablets;
+      entries = entries;
+      regions = regions;
+      words = words;
+    }

@@ -1,5 +1,6 @@
 -- The first number out of range, against all of them in range.
-use Rattle.std.proofs.Common.{◌≡◌, ℕ, ◌≤◌, not, List, [], ◌∷◌, length, refl, Some, None, Result, Ok, Err, ap, subst, arith}
+use Rattle.std.proofs.Common.{◌≡◌, ℕ, ◌≤◌, not, List, [], ◌∷◌, length, refl, Some, None, Result, Ok, Err, ap, subst}
+use Rattle.std.proofs.Common.{arith}
 use Rattle.std.specs.List.{position, position_or_len}
 use Rattle.std.proofs.lemmas.Bool.Decides.{nat_tests}
 use Rattle.std.proofs.lemmas.List.Sums.{prefix_len-le-length}
@@ -25,7 +26,8 @@ in_range-from_none (t ∷ ts) e =
 -- where there is no first number out of range, all are in range
 pub in_range-from_no_first : (ts : List (ℕ × (ℕ × ℕ))) → position is_outside ts ≡ None → EachInRange ts
 in_range-from_no_first ts e =
-    let none : position_or_len is_outside ts ≡ length ts = grind (arith, nat_tests, prefix_len-le-length (λ t. not (is_outside t)) ts) in
+    let none : position_or_len is_outside ts ≡ length ts =
+    grind (arith, nat_tests, prefix_len-le-length (λ t. not (is_outside t)) ts) in
     in_range-from_none ts none
 
 pub all_in_range : (n : Numbers) → position is_outside (tested n) ≡ None → AllInRange n
@@ -33,7 +35,8 @@ all_in_range n e = record { each = in_range-from_no_first (tested n) e }
 
 -- with all numbers in range there is no first one out of range
 pub in_range-no_first : (ts : List (ℕ × (ℕ × ℕ))) (place : ℕ) → EachInRange ts → position is_outside ts ≡ Some place → ⊥
-in_range-no_first ts place h e = let none : position_or_len is_outside ts ≡ length ts = in_range-none ts h in grind (arith, nat_tests)
+in_range-no_first ts place h e = let none : position_or_len is_outside ts ≡ length ts = in_range-none ts h in
+    grind (arith, nat_tests)
 
 -- the numbers have one fault at most
 pub one_fault : (n : Numbers) (f g : ShapeFault) → IsFault n f → IsFault n g → f ≡ g

@@ -1,6 +1,7 @@
 //! Laws of places and belongings. The functions do nothing; what they ensure is for contracts and proofs.
 
-ghost use Rattle.mako_shape.specs.Places.{WordsAddUp, IndexesAreBelow, AreasAreDisjoint, AreasCover, WriteIsRead, WriteLeavesOthers};
+ghost use Rattle.mako_shape.specs.Places.{WordsAddUp, IndexesAreBelow, AreasAreDisjoint, AreasCover, WriteIsRead};
+ghost use Rattle.mako_shape.specs.Places.{WriteLeavesOthers};
 ghost use Rattle.mako_shape.specs.Belongings.{BelongingsAreInRange, PartsBelong, AddressesBelong, OpeningHomesAreGood};
 
 /// The areas are disjoint and cover all words.

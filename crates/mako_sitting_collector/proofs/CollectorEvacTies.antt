@@ -95,7 +95,7 @@ module _ (n : Numbers) (w : Facts) (s : JointScene) (seats : List Seat) (a : All
 abbrev laden_at : TracerView → TraceStage → Bool
 laden_at t stage =
     (has_hand (hand_of stage) ||
-        (has_off (off_of stage) || (is_some t.outgoing || (is_some t.scan || is_filled t.stack))))
+    (has_off (off_of stage) || (is_some t.outgoing || (is_some t.scan || is_filled t.stack))))
     || is_taking (doing_of t stage)
 
 -- who has not counted a name yet has it in hand

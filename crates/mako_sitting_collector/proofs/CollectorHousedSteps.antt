@@ -71,7 +71,7 @@ module _ (w : Facts) (s : JointScene) (places : ℕ → ℕ) (k : Holdings) wher
       fits tt
       (λ t low. h.stored t low
       ∙ ap (λ (us : List ℕ). word_at n us (home t))
-          (sym (load_leaves s.words (index n (live (r * n.tablets + place))))))
+      (sym (load_leaves s.words (index n (live (r * n.tablets + place))))))
   housed_at (LoadingTop r place number) is x fits h =
       goes_on n s.words (words_next (at k (Choosing (LoadingTop r place number))) s.words)
       (at k (Choosing (LoadingTop r place number))) _
@@ -82,7 +82,7 @@ module _ (w : Facts) (s : JointScene) (places : ℕ → ℕ) (k : Holdings) wher
       goes_on n s.words (words_next (at k (Choosing (LoadingHome i))) s.words) (at k (Choosing (LoadingHome i))) _
       (finds (next_of (at k (Choosing (LoadingHome i)))) s.words) h refl fits
       (sym (h.stored (chosen_tablet k i) (x.known.chosen i 0 x.keeps.stage.1))) (λ t low. h.stored t low
-          ∙ same_home i t)
+      ∙ same_home i t)
   housed_at (StoringLeaving i gift) is x fits h =
       let inside = x.known.chosen i 0 x.keeps.stage.1.0 in
       goes_on n s.words (words_next (at k (Choosing (StoringLeaving i gift))) s.words)

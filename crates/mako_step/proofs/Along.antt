@@ -23,8 +23,11 @@ is_act step act next = subst IsAct (sym next) tt
 module _ {M : Type 0} (next_of : M → Step) (Fits : M → ℕ → Type 0) (fed : M → ℕ → M) where
   -- the fact is kept by the step that makes this act and finds this word
   abbrev pub Keeps : (M → List Observation → Type 0) → Type 0
-  Keeps P = (l : M) (trail : List Observation) (act : Act) (w : ℕ) → next_of l ≡ Do act → Fits l w → P l trail → P (fed l w) (trail ++ record { act = act; found = w } ∷ [])
+  Keeps P = (l : M) (trail : List Observation) (act : Act) (w : ℕ) → next_of l ≡ Do act → Fits l w → P l trail
+      → P (fed l w) (trail ++ record { act = act; found = w } ∷ [])
 
-  pub along : (P : M → List Observation → Type 0) → Keeps P → (m l : M) (trail : List Observation) → P m [] → Goes next_of Fits fed m trail l → P l trail
+  pub along : (P : M → List Observation → Type 0) → Keeps P → (m l : M) (trail : List Observation) → P m []
+      → Goes next_of Fits fed m trail l → P l trail
   along P keeps m l trail start (stays _) = start
-  along P keeps m l trail start (steps _ j before act w goes next fits) = keeps j before act w next fits (along P keeps m j before start goes)
+  along P keeps m l trail start (steps _ j before act w goes next fits) =
+      keeps j before act w next fits (along P keeps m j before start goes)

@@ -1,5 +1,6 @@
 -- What acts make of words, and what they find. The equations are those of a shared table of atomic words.
-use Rattle.std.specs.Prelude.{◌≡◌, ◌≢◌, ℕ, ◌+◌, ◌-◌, ◌%◌, ◌<◌, ◌≤◌, ◌^◌, ◌==◌, max, bit_and, bit_or, List, length, slice_index, slice_set}
+use Rattle.std.specs.Prelude.{◌≡◌, ◌≢◌, ℕ, ◌+◌, ◌-◌, ◌%◌, ◌<◌, ◌≤◌, ◌^◌, ◌==◌, max, bit_and, bit_or, List, length}
+use Rattle.std.specs.Prelude.{slice_index, slice_set}
 use prog.Atomic.{either}
 use Rattle.mako_step.specs.declared.act.Op.{Op}
 use Rattle.mako_step.specs.declared.act.Op.TheVariants.{Load, Store, Add, Sub, Or, And, Max, Exchange}
@@ -70,6 +71,8 @@ pub record SumsAreExact : Type 0 where
 
 -- the named word is changed as the operation says, and no other
 pub record ChangesOneWord : Type 0 where
-  pub here : (a : Act) (words : List ℕ) → a.word < length words → slice_index (words_after a words) a.word ≡ after_op a.op (slice_index words a.word)
-  pub others : (a : Act) (words : List ℕ) (i : ℕ) → i ≢ a.word → slice_index (words_after a words) i ≡ slice_index words i
+  pub here : (a : Act) (words : List ℕ) → a.word < length words
+      → slice_index (words_after a words) a.word ≡ after_op a.op (slice_index words a.word)
+  pub others : (a : Act) (words : List ℕ) (i : ℕ) → i ≢ a.word
+      → slice_index (words_after a words) i ≡ slice_index words i
   pub count : (a : Act) (words : List ℕ) → length (words_after a words) ≡ length words

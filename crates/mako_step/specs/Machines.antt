@@ -16,7 +16,8 @@ Lowers false before after = after < before
 
 -- the act is of a word that there is, stays within it, and finds what fits
 abbrev pub CanStep : Step → List ℕ → (ℕ → Type 0) → Type 0
-CanStep (Do a) words Fits = (a.word < length words) × FitsOp a.op (slice_index words a.word) × Fits (found a.op (slice_index words a.word))
+CanStep (Do a) words Fits = (a.word < length words) × FitsOp a.op (slice_index words a.word)
+    × Fits (found a.op (slice_index words a.word))
 CanStep Ended words Fits = Unit {0}
 
 -- the machine after its step, which at its end is itself

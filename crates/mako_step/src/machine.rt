@@ -48,5 +48,6 @@ pub trait Machine {
         requires fits { Fits self.old before }
         ensures fed { self.new ≡ fed self.old before }
         ensures event { result ≡ event_of self.old before }
-        ensures rank { is_waiting self.old before ≡ false → Lowers (is_renewed self.old before) (rank self.old) (rank self.new) };
+        ensures rank { is_waiting self.old before ≡ false
+            → Lowers (is_renewed self.old before) (rank self.old) (rank self.new) };
 }

@@ -15,10 +15,12 @@ use std::test::Fail;
 const ROUNDS: u32 = 1000;
 
 /// The third object finds no room until a cycle has freed the first and moved the second.
-const USED_AGAIN: &[u8] = b"mako 1\nservers 1\ntablets 1\nentries 4\nwords 16\nspare 1\nring 2\nroots 4\ncycles 10\ngens 8\nboard 1\nmutator\nnew a 6\nnew b 5\ndrop a\nnew c 6\nshow b\nend\n";
+const USED_AGAIN: &[u8] =
+    b"mako 1\nservers 1\ntablets 1\nentries 4\nwords 16\nspare 1\nring 2\nroots 4\ncycles 10\ngens 8\nboard 1\nmutator\nnew a 6\nnew b 5\ndrop a\nnew c 6\nshow b\nend\n";
 
 /// Two dropped objects on two servers name each other.
-const CIRCLE: &[u8] = b"mako 1\nservers 2\ntablets 1\nentries 2\nwords 16\nspare 1\nring 2\nroots 4\ncycles 10\ngens 8\nboard 1\nmutator\nnew a 1\nnew b 1\nput a 0 b\nput b 0 a\ndrop a\ndrop b\ncollect\nend\n";
+const CIRCLE: &[u8] =
+    b"mako 1\nservers 2\ntablets 1\nentries 2\nwords 16\nspare 1\nring 2\nroots 4\ncycles 10\ngens 8\nboard 1\nmutator\nnew a 1\nnew b 1\nput a 0 b\nput b 0 a\ndrop a\ndrop b\ncollect\nend\n";
 
 /// Scripts with one tablet, a retired entry and a starved `new` among them.
 const OF_ONE_TABLET: [&[u8]; 5] = [

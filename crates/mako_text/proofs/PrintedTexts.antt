@@ -1,5 +1,6 @@
 -- A text that is printed word by word and line by line.
-use Rattle.std.proofs.Common.{◌≡◌, ℕ, ◌+◌, ◌<◌, ◌≤◌, List, [], ◌∷◌, ◌++◌, length, drop, get_or, map, sym, ap, refl, ◌∙◌, append_assoc}
+use Rattle.std.proofs.Common.{◌≡◌, ℕ, ◌+◌, ◌<◌, ◌≤◌, List, [], ◌∷◌, ◌++◌, length, drop, get_or, map, sym, ap, refl, ◌∙◌}
+use Rattle.std.proofs.Common.{append_assoc}
 use Rattle.std.specs.List.{flat_map, join_with_byte}
 use Rattle.std.specs.Fmt.{decimal}
 use Rattle.std.proofs.lemmas.List.{append-nil, drop_more, drop_all}
@@ -7,7 +8,8 @@ use Rattle.std.proofs.lemmas.List.Folds.{flat_map-map}
 use Rattle.std.proofs.lemmas.Grind.{flat_map-append}
 use Rattle.mako_model.specs.declared.call.Call.{Call}
 use Rattle.mako_text.specs.Programs.{ProgramView}
-use Rattle.mako_text.specs.Texts.{command_words, command_word, argument_words, end_word, mutator_word, section_lines, line_text}
+use Rattle.mako_text.specs.Texts.{command_words, command_word, argument_words, end_word, mutator_word, section_lines}
+use Rattle.mako_text.specs.Texts.{line_text}
 use Rattle.mako_text.specs.Printed.{words_text, setting_lines}
 
 -- words with one space between them are the first and each other behind a space
@@ -15,53 +17,74 @@ pub joined_words : (w : List ℕ) (ws : List (List ℕ)) → join_with_byte 32 (
 joined_words w [] = sym (append-nil w)
 joined_words w (v ∷ ws) = ap (λ (t : List ℕ). w ++ 32 ∷ t) (joined_words v ws)
 
-pub line_of_words : (start first mid last : List ℕ) (names : List (List ℕ)) (call : Call) → first ≡ start ++ command_word call → mid ≡ first ++ words_text (argument_words names call)
+pub line_of_words : (start first mid last : List ℕ) (names : List (List ℕ)) (call : Call)
+    → first ≡ start ++ command_word call → mid ≡ first ++ words_text (argument_words names call)
     → last ≡ mid ++ 10 ∷ [] → last ≡ start ++ line_text (command_words names call)
 line_of_words start first mid last names call a b c =
-    let words : join_with_byte 32 (command_words names call) ≡ command_word call ++ words_text (argument_words names call) = joined_words (command_word call) (argument_words names call) in
+    let words : join_with_byte 32 (command_words names call) ≡ command_word call ++ words_text
+    (argument_words names call) = joined_words (command_word call) (argument_words names call) in
     c ∙ ap (λ (t : List ℕ). t ++ 10 ∷ []) (b ∙ ap (λ (t : List ℕ). t ++ words_text (argument_words names call)) a)
-    ∙ ap (λ (t : List ℕ). t ++ 10 ∷ []) (append_assoc start (command_word call) (words_text (argument_words names call)))
+    ∙ ap (λ (t : List ℕ). t ++ 10 ∷
+    []) (append_assoc start (command_word call) (words_text (argument_words names call)))
     ∙ append_assoc start (command_word call ++ words_text (argument_words names call)) (10 ∷ [])
     ∙ ap (λ (t : List ℕ). start ++ (t ++ 10 ∷ [])) (sym words)
 
 -- one more of a list is added, and what is left to add is the others
-pub goes_on : {X : Type 0} (f : X → List ℕ) (xs : List X) (i : ℕ) (d : X) (before after whole : List ℕ) → i < length xs → before ++ flat_map f (drop i xs) ≡ whole → after ≡ before ++ f (get_or xs i d)
+pub goes_on : {X : Type 0} (f : X → List ℕ) (xs : List X) (i : ℕ) (d : X) (before after whole : List ℕ) → i < length xs
+    → before ++ flat_map f (drop i xs) ≡ whole → after ≡ before ++ f (get_or xs i d)
     → after ++ flat_map f (drop (i + 1) xs) ≡ whole
 goes_on f xs i d before after whole within h a =
-    rw a (append_assoc before (f (get_or xs i d)) (flat_map f (drop (i + 1) xs)) ∙ ap (λ (t : List ℕ). before ++ t) (ap (flat_map f) (sym (drop_more xs i d within))) ∙ h)
+    rw a (append_assoc before (f (get_or xs i d)) (flat_map f (drop (i + 1) xs))
+    ∙ ap (λ (t : List ℕ). before ++ t) (ap (flat_map f) (sym (drop_more xs i d within))) ∙ h)
 
-pub all_gone : {X : Type 0} (f : X → List ℕ) (xs : List X) (i : ℕ) (text whole : List ℕ) → length xs ≤ i → text ++ flat_map f (drop i xs) ≡ whole → text ≡ whole
-all_gone f xs i text whole past h = sym (append-nil text) ∙ ap (λ t. text ++ flat_map f t) (sym (drop_all i xs past)) ∙ h
+pub all_gone : {X : Type 0} (f : X → List ℕ) (xs : List X) (i : ℕ) (text whole : List ℕ) → length xs ≤ i
+    → text ++ flat_map f (drop i xs) ≡ whole → text ≡ whole
+all_gone f xs i text whole past h = sym (append-nil text) ∙ ap (λ t. text ++ flat_map f t) (sym (drop_all i xs past))
+    ∙ h
 
 -- and of settings
-pub setting_goes_on : (table : List (List ℕ × (ℕ × ℕ))) (vs : List ℕ) (i : ℕ) (d : List ℕ × (ℕ × ℕ)) (before after whole : List ℕ) → i < length table → i < length vs
-    → before ++ flat_map line_text (setting_lines (drop i table) (drop i vs)) ≡ whole → after ≡ before ++ line_text ((get_or table i d).0 ∷ decimal (get_or vs i 0) ∷ [])
+pub setting_goes_on : (table : List (List ℕ × (ℕ × ℕ))) (vs : List ℕ) (i : ℕ) (d : List ℕ
+    × (ℕ × ℕ)) (before after whole : List ℕ) → i < length table → i < length vs
+    → before ++ flat_map line_text (setting_lines (drop i table) (drop i vs)) ≡ whole
+    → after ≡ before ++ line_text ((get_or table i d).0 ∷ decimal (get_or vs i 0) ∷ [])
     → after ++ flat_map line_text (setting_lines (drop (i + 1) table) (drop (i + 1) vs)) ≡ whole
 setting_goes_on table vs i d before after whole within short h a =
     let line = line_text ((get_or table i d).0 ∷ decimal (get_or vs i 0) ∷ []) in
     let rest = flat_map line_text (setting_lines (drop (i + 1) table) (drop (i + 1) vs)) in
-    let same : flat_map line_text (setting_lines (drop i table) (drop i vs)) ≡ line ++ rest = rw (drop_more table i d within, drop_more vs i 0 short) refl in
+    let same : flat_map line_text (setting_lines (drop i table) (drop i vs)) ≡ line ++ rest =
+    rw (drop_more table i d within, drop_more vs i 0 short) refl in
     rw a (append_assoc before line rest ∙ ap (λ (t : List ℕ). before ++ t) (sym same) ∙ h)
 
-pub settings_gone : (table : List (List ℕ × (ℕ × ℕ))) (vs : List ℕ) (i : ℕ) (text whole : List ℕ) → length table ≤ i → text ++ flat_map line_text (setting_lines (drop i table) (drop i vs)) ≡ whole → text ≡ whole
-settings_gone table vs i text whole past h = sym (append-nil text) ∙ ap (λ t. text ++ flat_map line_text (setting_lines t (drop i vs))) (sym (drop_all i table past)) ∙ h
+pub settings_gone : (table : List (List ℕ × (ℕ × ℕ))) (vs : List ℕ) (i : ℕ) (text whole : List ℕ) → length table ≤ i
+    → text ++ flat_map line_text (setting_lines (drop i table) (drop i vs)) ≡ whole → text ≡ whole
+settings_gone table vs i text whole past h = sym (append-nil text)
+    ∙ ap (λ t. text ++ flat_map line_text (setting_lines t (drop i vs))) (sym (drop_all i table past)) ∙ h
 
 -- a section is its first line, its calls and its last line
-pub section_of_calls : (start first mid last : List ℕ) (p : ProgramView) → first ≡ start ++ (mutator_word ++ 10 ∷ []) → mid ≡ first ++ flat_map (λ c. line_text (command_words p.names c)) p.calls
+pub section_of_calls : (start first mid last : List ℕ) (p : ProgramView) → first ≡ start ++ (mutator_word ++ 10 ∷ [])
+    → mid ≡ first ++ flat_map (λ c. line_text (command_words p.names c)) p.calls
     → last ≡ mid ++ (end_word ++ 10 ∷ []) → last ≡ start ++ flat_map line_text (section_lines p)
 section_of_calls start first mid last p a b c =
     let calls = flat_map (λ c. line_text (command_words p.names c)) p.calls in
-    let one : flat_map line_text (map (command_words p.names) p.calls ++ (end_word ∷ []) ∷ []) ≡ calls ++ (end_word ++ 10 ∷ []) =
-    flat_map-append line_text (map (command_words p.names) p.calls) ((end_word ∷ []) ∷ []) ∙ ap (λ (t : List ℕ). t ++ (end_word ++ 10 ∷ [])) (flat_map-map line_text (command_words p.names) p.calls) in
-    c ∙ ap (λ (t : List ℕ). t ++ (end_word ++ 10 ∷ [])) (b ∙ ap (λ (t : List ℕ). t ++ calls) a ∙ append_assoc start (mutator_word ++ 10 ∷ []) calls)
+    let one : flat_map line_text (map (command_words p.names) p.calls ++ (end_word ∷ []) ∷
+    []) ≡ calls ++ (end_word ++ 10 ∷ []) =
+    flat_map-append line_text (map (command_words p.names) p.calls) ((end_word ∷ []) ∷ [])
+    ∙ ap (λ (t : List ℕ). t ++ (end_word ++ 10 ∷ [])) (flat_map-map line_text (command_words p.names) p.calls) in
+    c ∙ ap (λ (t : List ℕ). t ++ (end_word ++ 10 ∷ [])) (b ∙ ap (λ (t : List ℕ). t ++ calls) a
+    ∙ append_assoc start (mutator_word ++ 10 ∷ []) calls)
     ∙ append_assoc start ((mutator_word ++ 10 ∷ []) ++ calls) (end_word ++ 10 ∷ [])
-    ∙ ap (λ (t : List ℕ). start ++ t) (append_assoc (mutator_word ++ 10 ∷ []) calls (end_word ++ 10 ∷ []) ∙ ap (λ (t : List ℕ). (mutator_word ++ 10 ∷ []) ++ t) (sym one))
+    ∙ ap (λ (t : List ℕ). start ++ t) (append_assoc (mutator_word ++ 10 ∷ []) calls (end_word ++ 10 ∷ [])
+    ∙ ap (λ (t : List ℕ). (mutator_word ++ 10 ∷ []) ++ t) (sym one))
 
 -- all sections behind the settings
 pub all_sections : (lines : List (List (List ℕ))) (ps : List ProgramView)
-    → flat_map line_text (lines ++ flat_map section_lines ps) ≡ flat_map line_text lines ++ flat_map (λ p. flat_map line_text (section_lines p)) ps
-all_sections lines ps = flat_map-append line_text lines (flat_map section_lines ps) ∙ ap (λ (t : List ℕ). flat_map line_text lines ++ t) (nested ps)
+    → flat_map line_text (lines ++ flat_map section_lines ps) ≡ flat_map line_text lines ++ flat_map
+    (λ p. flat_map line_text (section_lines p)) ps
+all_sections lines ps = flat_map-append line_text lines (flat_map section_lines ps)
+    ∙ ap (λ (t : List ℕ). flat_map line_text lines ++ t) (nested ps)
   where
-    nested : (ps : List ProgramView) → flat_map line_text (flat_map section_lines ps) ≡ flat_map (λ p. flat_map line_text (section_lines p)) ps
+    nested : (ps : List ProgramView)
+        → flat_map line_text (flat_map section_lines ps) ≡ flat_map (λ p. flat_map line_text (section_lines p)) ps
     nested [] = refl
-    nested (p ∷ ps) = flat_map-append line_text (section_lines p) (flat_map section_lines ps) ∙ ap (λ (t : List ℕ). flat_map line_text (section_lines p) ++ t) (nested ps)
+    nested (p ∷ ps) = flat_map-append line_text (section_lines p) (flat_map section_lines ps)
+        ∙ ap (λ (t : List ℕ). flat_map line_text (section_lines p) ++ t) (nested ps)

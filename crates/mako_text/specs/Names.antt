@@ -1,5 +1,6 @@
 -- The names that stand for roots in a script.
-use Rattle.std.specs.Prelude.{◌≡◌, ◌≢◌, ℕ, ◌<◌, ◌&&◌, ◌||◌, Bool, true, nat_le, List, [], length, map, slice_index, slice_index_or, codes, string_bytes, String}
+use Rattle.std.specs.Prelude.{◌≡◌, ◌≢◌, ℕ, ◌<◌, ◌&&◌, ◌||◌, Bool, true, nat_le, List, [], length, map, slice_index}
+use Rattle.std.specs.Prelude.{slice_index_or, codes, string_bytes, String}
 use Rattle.std.specs.List.{list_all}
 use Rattle.std.specs.Char.{is_ascii_lowercase, is_ascii_digit}
 use Rattle.indexmap.specs.IndexSet.{IndexSet}

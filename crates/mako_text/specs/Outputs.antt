@@ -1,5 +1,6 @@
 -- The printed output of a run, and how much of it went out.
-use Rattle.std.specs.Prelude.{◌≡◌, ℕ, ◌+◌, ◌-◌, ◌^◌, ◌<◌, min, Bool, if◌then◌else◌, List, [], ◌∷◌, ◌++◌, length, take, codes}
+use Rattle.std.specs.Prelude.{◌≡◌, ℕ, ◌+◌, ◌-◌, ◌^◌, ◌<◌, min, Bool, if◌then◌else◌, List, [], ◌∷◌, ◌++◌, length, take}
+use Rattle.std.specs.Prelude.{codes}
 use Rattle.std.specs.List.{flat_map, range_with_len, enumerate_from}
 use Rattle.std.specs.Fmt.{decimal}
 use Rattle.std.specs.declared.option.Option.{Option}
@@ -51,7 +52,8 @@ last_line finished = if finished then codes "end\n" else codes "unfinished\n"
 -- the output of so many mutators: their sections, the finished cycles, and the last line
 abbrev pub output_text : ℕ → Seen → Bool → List ℕ
 output_text mutators front finished =
-    flat_map (mutator_text front.history) (range_with_len 0 mutators) ++ flat_map cycle_text (enumerate_from 1 front.finished) ++ last_line finished
+    flat_map (mutator_text front.history) (range_with_len 0 mutators) ++ flat_map cycle_text
+    (enumerate_from 1 front.finished) ++ last_line finished
 
 -- only a prefix of the text went out; its bytes, behind so many others, are counted up to the last number
 pub record WentOut (text : List ℕ) (old new : Option (List ℕ)) (before went : ℕ) : Type 0 where

@@ -9,7 +9,8 @@ pub record ProgramView : Type 0 where
   pub names : List (List ℕ)
   pub calls : List Call
 
--- with so many names defined, roots that are read have a name, one that is set has a name or gets the next, and numbers are in range
+-- with so many names defined, roots that are read have a name, one that is set has a name or gets the next, and numbers
+-- are in range
 abbrev pub IsCall : ℕ → Call → Type 0
 IsCall defined (New root fields) = (root ≤ defined) × (fields ≤ 14)
 IsCall defined (Num root value) = (root ≤ defined) × (value < 2 ^ 32)

@@ -1,5 +1,6 @@
 -- What a writer of a part of the output did.
-use Rattle.std.specs.Prelude.{◌≡◌, ℕ, ◌+◌, ◌-◌, ◌^◌, ◌<◌, ◌≤◌, slice_index_or, min, List, [], ◌∷◌, ◌++◌, length, Result, Ok, Err}
+use Rattle.std.specs.Prelude.{◌≡◌, ℕ, ◌+◌, ◌-◌, ◌^◌, ◌<◌, ◌≤◌, slice_index_or, min, List, [], ◌∷◌, ◌++◌, length, Result}
+use Rattle.std.specs.Prelude.{Ok, Err}
 use Rattle.std.specs.declared.option.Option.{Option}
 use Rattle.std.specs.Io.KnownBytes.{Appends}
 use Rattle.mako_io.specs.declared.writing.WriteFault.{WriteFault}
@@ -22,8 +23,10 @@ lines_text (call ∷ calls) (reply ∷ replies) = point_text (call, reply) ++ li
 abbrev pub sections_text : ℕ → List (List Call) → List (List Reply) → List ℕ
 sections_text m programs [] = []
 sections_text m [] (replies ∷ lists) = []
-sections_text m (calls ∷ programs) (replies ∷ lists) = mutator_line m ++ lines_text calls replies ++ sections_text (m + 1) programs lists
+sections_text m (calls ∷ programs) (replies ∷ lists) =
+    mutator_line m ++ lines_text calls replies ++ sections_text (m + 1) programs lists
 
 -- each list of replies has a program of at least as many calls
 abbrev pub FitPrograms : List (List Call) → List (List Reply) → Type 0
-FitPrograms programs lists = (m : ℕ) → m < length lists → length (slice_index_or lists m []) ≤ length (slice_index_or programs m [])
+FitPrograms programs lists = (m : ℕ) → m < length lists
+    → length (slice_index_or lists m []) ≤ length (slice_index_or programs m [])

@@ -1,6 +1,7 @@
 //! The printed output of a run.
 
-ghost use Rattle.std.specs.Prelude.{◌≡◌, ◌≤◌, ◌<◌, ◌+◌, ◌++◌, ◌∷◌, [], length, map, codes, slice_get, slice_index_or, OnErr, OnOk, IfErr};
+ghost use Rattle.std.specs.Prelude.{◌≡◌, ◌≤◌, ◌<◌, ◌+◌, ◌++◌, ◌∷◌, [], length, map, codes, slice_get, slice_index_or};
+ghost use Rattle.std.specs.Prelude.{OnErr, OnOk, IfErr};
 ghost use Rattle.std.specs.Fmt.{decimal};
 ghost use Rattle.std.specs.List.{flat_map, enumerate_from};
 ghost use Rattle.std.specs.Io.KnownBytes.{Appends};
@@ -11,7 +12,8 @@ ghost use Rattle.mako_words.specs.Values.{value_text};
 ghost use Rattle.mako_model.specs.Fronts.{FollowsPrograms};
 ghost use Rattle.mako_model.specs.Outcomes.{IsWhole, AreCyclesOfFront, reply_lists};
 ghost use Rattle.mako_text.specs.Texts.{command_word};
-ghost use Rattle.mako_text.specs.Outputs.{point_text, reply_text, mutator_line, freed_text, cycle_text, last_line, output_text, WentOut};
+ghost use Rattle.mako_text.specs.Outputs.{point_text, reply_text, mutator_line, freed_text, cycle_text, last_line};
+ghost use Rattle.mako_text.specs.Outputs.{output_text, WentOut};
 ghost use Rattle.mako_text.specs.Written.{Writes, lines_text, sections_text, FitPrograms};
 
 use crate::line::{Line, add, add_number};
@@ -153,7 +155,8 @@ fn write_section<K: Sink>(
     replies: &[Reply],
 ) -> Result<usize, WriteFault>
     requires { length replies.now ≤ length calls.now }
-    ensures written { Writes (mutator_line mutator ++ lines_text calls.now replies.now) (K.taken sink.old) (K.taken sink.new) before result }
+    ensures written { Writes (mutator_line mutator ++ lines_text calls.now replies.now) (K.taken sink.old)
+        (K.taken sink.new) before result }
     ensures fault { OnErr result (Rose (K.faults sink.old) (K.faults sink.new)) }
     ensures counted { K.faults sink.old ≤ K.faults sink.new }
 {
@@ -194,7 +197,8 @@ fn write_sections<K: Sink>(
 ) -> Result<usize, WriteFault>
     requires same { length lists.now ≡ length programs.now }
     requires fit { FitPrograms (map (λ p. p.calls) programs.now) (map (λ v. v.items) lists.now) }
-    ensures written { Writes (sections_text 0 (map (λ p. p.calls) programs.now) (map (λ v. v.items) lists.now)) (K.taken sink.old) (K.taken sink.new) 0 result }
+    ensures written { Writes (sections_text 0 (map (λ p. p.calls) programs.now) (map (λ v. v.items) lists.now))
+        (K.taken sink.old) (K.taken sink.new) 0 result }
     ensures fault { OnErr result (Rose (K.faults sink.old) (K.faults sink.new)) }
     ensures counted { K.faults sink.old ≤ K.faults sink.new }
 {
@@ -238,7 +242,8 @@ fn write_cycle<K: Sink>(
 
 /// Writes the lines of all finished cycles.
 fn write_cycles<K: Sink>(sink: &mut K, before: usize, cycles: &Cycles) -> Result<usize, WriteFault>
-    ensures written { Writes (flat_map cycle_text (enumerate_from 1 cycles.now.lists)) (K.taken sink.old) (K.taken sink.new) before result }
+    ensures written { Writes (flat_map cycle_text (enumerate_from 1 cycles.now.lists)) (K.taken sink.old)
+        (K.taken sink.new) before result }
     ensures fault { OnErr result (Rose (K.faults sink.old) (K.faults sink.new)) }
     ensures counted { K.faults sink.old ≤ K.faults sink.new }
 {

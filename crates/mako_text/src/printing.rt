@@ -5,7 +5,8 @@ ghost use Rattle.std.specs.Fmt.{decimal};
 ghost use Rattle.std.specs.List.{flat_map};
 ghost use Rattle.mako_text.specs.Names.{name_of, texts};
 ghost use Rattle.mako_text.specs.Programs.{ProgramView};
-ghost use Rattle.mako_text.specs.Texts.{IsScript, argument_words, command_word, command_words, line_text, section_lines, setting_words};
+ghost use Rattle.mako_text.specs.Texts.{IsScript, argument_words, command_word, command_words, line_text};
+ghost use Rattle.mako_text.specs.Texts.{section_lines, setting_words};
 ghost use Rattle.mako_text.specs.Keys.{keys, key_view};
 ghost use Rattle.mako_text.specs.Printed.{values_of, words_text, setting_lines};
 
@@ -89,7 +90,8 @@ fn add_call(text: &mut Vec<u8>, names: &IndexSet<String>, call: &Call) -> Result
 
 /// Adds the lines of calls.
 fn add_calls(text: &mut Vec<u8>, names: &IndexSet<String>, calls: &[Call]) -> Result<(), AllocError>
-    ensures { OnOk result (text.new.items ≡ text.old.items ++ flat_map (λ c. line_text (command_words (texts names.now) c)) calls.now) }
+    ensures { OnOk result
+        (text.new.items ≡ text.old.items ++ flat_map (λ c. line_text (command_words (texts names.now) c)) calls.now) }
 {
     for call in calls {
         add_call(text, names, call)?;
@@ -109,7 +111,8 @@ fn add_section(text: &mut Vec<u8>, program: &Program) -> Result<(), AllocError>
 
 /// Adds the sections of all programs.
 fn add_sections(text: &mut Vec<u8>, programs: &[Program]) -> Result<(), AllocError>
-    ensures { OnOk result (text.new.items ≡ text.old.items ++ flat_map (λ p. flat_map line_text (section_lines p)) programs.now) }
+    ensures { OnOk result
+        (text.new.items ≡ text.old.items ++ flat_map (λ p. flat_map line_text (section_lines p)) programs.now) }
 {
     for program in programs {
         add_section(text, program)?;
@@ -150,7 +153,8 @@ fn add_setting(text: &mut Vec<u8>, key: &[u8], value: u32) -> Result<(), AllocEr
 /// Adds the lines of the settings.
 fn add_settings(text: &mut Vec<u8>, table: &[Key], values: &[u32]) -> Result<(), AllocError>
     requires { length table.now ≡ length values.now }
-    ensures { OnOk result (text.new.items ≡ text.old.items ++ flat_map line_text (setting_lines (map key_view table.now) values.now)) }
+    ensures { OnOk result
+        (text.new.items ≡ text.old.items ++ flat_map line_text (setting_lines (map key_view table.now) values.now)) }
 {
     for i in 0..table.len() {
         add_setting(text, table[i].word, values[i])?;

@@ -14,11 +14,13 @@ use Rattle.mako_ring.specs.declared.tracing.ScanStage.TheVariants.{FieldLoad, En
 use Rattle.mako_ring.specs.declared.tracing.ReceiveStage.{ReceiveStage}
 use Rattle.mako_ring.specs.declared.tracing.ReceiveStage.TheVariants.{SlotLook, BusyRaise, SlotClear}
 use Rattle.mako_ring.specs.declared.tracing.MarkStage.{MarkStage}
-use Rattle.mako_ring.specs.declared.tracing.MarkStage.TheVariants.{Considering, Measuring, Marking as EntryMark, Counting}
+use Rattle.mako_ring.specs.declared.tracing.MarkStage.TheVariants.{Considering, Measuring, Marking as EntryMark}
+use Rattle.mako_ring.specs.declared.tracing.MarkStage.TheVariants.{Counting}
 use Rattle.mako_ring.specs.declared.tracing.RestStage.{RestStage}
 use Rattle.mako_ring.specs.declared.tracing.RestStage.TheVariants.{BusyLower, TailLook, GhostLower}
 use Rattle.mako_ring.specs.declared.tracing.TraceStage.{TraceStage}
-use Rattle.mako_ring.specs.declared.tracing.TraceStage.TheVariants.{Sending, Scanning, Receiving, Marking, Resting, Ended}
+use Rattle.mako_ring.specs.declared.tracing.TraceStage.TheVariants.{Sending, Scanning, Receiving, Marking, Resting}
+use Rattle.mako_ring.specs.declared.tracing.TraceStage.TheVariants.{Ended}
 
 abbrev pub is_name : Value → Bool
 is_name (Ref x) = true
@@ -40,7 +42,8 @@ scan_renews (HeaderLoad x address) w = w == 0
 
 -- a slot holds a name, whose work begins, or all rings are looked at and the outgoing name is tried again
 abbrev pub receive_renews : TracerView → ReceiveStage → ℕ → Bool
-receive_renews t (SlotLook source) w = not (w == 0) || (not (nat_lt (after_source t source) t.shape.servers) && is_some t.outgoing)
+receive_renews t (SlotLook source) w =
+    not (w == 0) || (not (nat_lt (after_source t source) t.shape.servers) && is_some t.outgoing)
 receive_renews t (BusyRaise source x) w = false
 receive_renews t (SlotClear source x) w = false
 

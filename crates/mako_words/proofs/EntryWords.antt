@@ -15,11 +15,13 @@ address_of : (t : Bool) (a p g : ℕ) → a < 2 ^ 23 → (a + p * 2 ^ 23 + g * 2
 address_of true a p g within = omega arith
 address_of false a p g within = omega arith
 
-epoch_of : (t : Bool) (a p g : ℕ) → a < 2 ^ 23 → p < 2 ^ 20 → (a + p * 2 ^ 23 + g * 2 ^ 43 + cond t (2 ^ 63) 0) / 2 ^ 23 % 2 ^ 20 ≡ p
+epoch_of : (t : Bool) (a p g : ℕ) → a < 2 ^ 23 → p < 2 ^ 20
+    → (a + p * 2 ^ 23 + g * 2 ^ 43 + cond t (2 ^ 63) 0) / 2 ^ 23 % 2 ^ 20 ≡ p
 epoch_of true a p g within small = omega arith
 epoch_of false a p g within small = omega arith
 
-generation_of : (t : Bool) (a p g : ℕ) → a < 2 ^ 23 → p < 2 ^ 20 → g < 2 ^ 20 → (a + p * 2 ^ 23 + g * 2 ^ 43 + cond t (2 ^ 63) 0) / 2 ^ 43 % 2 ^ 20 ≡ g
+generation_of : (t : Bool) (a p g : ℕ) → a < 2 ^ 23 → p < 2 ^ 20 → g < 2 ^ 20
+    → (a + p * 2 ^ 23 + g * 2 ^ 43 + cond t (2 ^ 63) 0) / 2 ^ 43 % 2 ^ 20 ≡ g
 generation_of true a p g within small low = omega arith
 generation_of false a p g within small low = omega arith
 
@@ -35,7 +37,8 @@ entry_at-entry_word e fits =
 entry_word-lt : (e : EntryWord) → FitsEntry e → entry_word e < 2 ^ 64
 entry_word-lt e fits = within e.taken e.address e.epoch e.generation fits.address fits.epoch fits.generation
   where
-    within : (t : Bool) (a p g : ℕ) → a < 2 ^ 23 → p < 2 ^ 20 → g < 2 ^ 20 → a + p * 2 ^ 23 + g * 2 ^ 43 + cond t (2 ^ 63) 0 < 2 ^ 64
+    within : (t : Bool) (a p g : ℕ) → a < 2 ^ 23 → p < 2 ^ 20 → g < 2 ^ 20
+        → a + p * 2 ^ 23 + g * 2 ^ 43 + cond t (2 ^ 63) 0 < 2 ^ 64
     within true a p g low small first = omega arith
     within false a p g low small first = omega arith
 
@@ -45,4 +48,7 @@ entry_words = unpacking.packing FitsEntry entry_word entry_at entry_at-entry_wor
 
 -- each word is that of an entry
 pub entry_forms : (w : ℕ) → w < 2 ^ 64 → IsPackedEntry w
-entry_forms w within = record { fits = record { address = omega arith; epoch = omega arith; generation = omega arith }; same = grind (arith, nat_tests) }
+entry_forms w within = record {
+  fits = record { address = omega arith; epoch = omega arith; generation = omega arith };
+  same = grind (arith, nat_tests);
+}

@@ -8,14 +8,20 @@ use Rattle.mako_words.specs.Words.{IsPacking, all_but}
 use Rattle.mako_words.proofs.Unpacking as unpacking
 
 -- what holds at any three truth values holds of all flags
-each : (P : FlagWord → Type 0) → ((b g c : Bool) → P (record { busy = b; ghost_ = g; changed = c })) → (f : FlagWord) → P f
+each : (P : FlagWord → Type 0) → ((b g c : Bool) → P (record { busy = b; ghost_ = g; changed = c })) → (f : FlagWord)
+    → P f
 each P h f = h f.busy f.ghost_ f.changed
 
 -- the word of flags gives the flags back
 pub flag_at-flag_word : (f : FlagWord) → FitsFlags f → flag_at (flag_word f) ≡ f
 flag_at-flag_word f fits = each (λ (f : FlagWord). flag_at (flag_word f) ≡ f) back f
   where
-    back : (b g c : Bool) → flag_at (flag_word (record { busy = b; ghost_ = g; changed = c })) ≡ record { busy = b; ghost_ = g; changed = c }
+    back : (b g c : Bool)
+        → flag_at (flag_word (record { busy = b; ghost_ = g; changed = c })) ≡ record {
+          busy = b;
+          ghost_ = g;
+          changed = c;
+        }
     back true true true = refl
     back true true false = refl
     back true false true = refl
@@ -42,14 +48,94 @@ pub steps : (f : FlagWord) → Steps f
 steps f = each Steps by_bits f
   where
     by_bits : (b g c : Bool) → Steps (record { busy = b; ghost_ = g; changed = c })
-    by_bits true true true = record { below = omega arith; busy_up = refl; busy_down = refl; ghost_up = refl; ghost_down = refl; changed_up = refl; changed_down = refl; ghost_changed_up = refl; busy_changed_up = refl }
-    by_bits true true false = record { below = omega arith; busy_up = refl; busy_down = refl; ghost_up = refl; ghost_down = refl; changed_up = refl; changed_down = refl; ghost_changed_up = refl; busy_changed_up = refl }
-    by_bits true false true = record { below = omega arith; busy_up = refl; busy_down = refl; ghost_up = refl; ghost_down = refl; changed_up = refl; changed_down = refl; ghost_changed_up = refl; busy_changed_up = refl }
-    by_bits true false false = record { below = omega arith; busy_up = refl; busy_down = refl; ghost_up = refl; ghost_down = refl; changed_up = refl; changed_down = refl; ghost_changed_up = refl; busy_changed_up = refl }
-    by_bits false true true = record { below = omega arith; busy_up = refl; busy_down = refl; ghost_up = refl; ghost_down = refl; changed_up = refl; changed_down = refl; ghost_changed_up = refl; busy_changed_up = refl }
-    by_bits false true false = record { below = omega arith; busy_up = refl; busy_down = refl; ghost_up = refl; ghost_down = refl; changed_up = refl; changed_down = refl; ghost_changed_up = refl; busy_changed_up = refl }
-    by_bits false false true = record { below = omega arith; busy_up = refl; busy_down = refl; ghost_up = refl; ghost_down = refl; changed_up = refl; changed_down = refl; ghost_changed_up = refl; busy_changed_up = refl }
-    by_bits false false false = record { below = omega arith; busy_up = refl; busy_down = refl; ghost_up = refl; ghost_down = refl; changed_up = refl; changed_down = refl; ghost_changed_up = refl; busy_changed_up = refl }
+    by_bits true true true = record {
+      below = omega arith;
+      busy_up = refl;
+      busy_down = refl;
+      ghost_up = refl;
+      ghost_down = refl;
+      changed_up = refl;
+      changed_down = refl;
+      ghost_changed_up = refl;
+      busy_changed_up = refl;
+    }
+    by_bits true true false = record {
+      below = omega arith;
+      busy_up = refl;
+      busy_down = refl;
+      ghost_up = refl;
+      ghost_down = refl;
+      changed_up = refl;
+      changed_down = refl;
+      ghost_changed_up = refl;
+      busy_changed_up = refl;
+    }
+    by_bits true false true = record {
+      below = omega arith;
+      busy_up = refl;
+      busy_down = refl;
+      ghost_up = refl;
+      ghost_down = refl;
+      changed_up = refl;
+      changed_down = refl;
+      ghost_changed_up = refl;
+      busy_changed_up = refl;
+    }
+    by_bits true false false = record {
+      below = omega arith;
+      busy_up = refl;
+      busy_down = refl;
+      ghost_up = refl;
+      ghost_down = refl;
+      changed_up = refl;
+      changed_down = refl;
+      ghost_changed_up = refl;
+      busy_changed_up = refl;
+    }
+    by_bits false true true = record {
+      below = omega arith;
+      busy_up = refl;
+      busy_down = refl;
+      ghost_up = refl;
+      ghost_down = refl;
+      changed_up = refl;
+      changed_down = refl;
+      ghost_changed_up = refl;
+      busy_changed_up = refl;
+    }
+    by_bits false true false = record {
+      below = omega arith;
+      busy_up = refl;
+      busy_down = refl;
+      ghost_up = refl;
+      ghost_down = refl;
+      changed_up = refl;
+      changed_down = refl;
+      ghost_changed_up = refl;
+      busy_changed_up = refl;
+    }
+    by_bits false false true = record {
+      below = omega arith;
+      busy_up = refl;
+      busy_down = refl;
+      ghost_up = refl;
+      ghost_down = refl;
+      changed_up = refl;
+      changed_down = refl;
+      ghost_changed_up = refl;
+      busy_changed_up = refl;
+    }
+    by_bits false false false = record {
+      below = omega arith;
+      busy_up = refl;
+      busy_down = refl;
+      ghost_up = refl;
+      ghost_down = refl;
+      changed_up = refl;
+      changed_down = refl;
+      ghost_changed_up = refl;
+      busy_changed_up = refl;
+    }
 
 -- packing flags loses nothing
 pub flag_words : IsPacking FitsFlags flag_word flag_at
@@ -63,7 +149,8 @@ pub flag_forms : (w : ℕ) → IsPackedFlags w ↔ (w < 8)
 flag_forms w = (λ p. subst (λ (y : ℕ). y < 8) p.same (steps (flag_at w)).below, flags_below w)
 
 -- a step that makes of the word of some flags that of others
-stepped : (w : ℕ) (h : FlagWord) (step : ℕ → ℕ) → w < 8 → step (flag_word (flag_at w)) ≡ flag_word h → IsFlagWord (step w) h
+stepped : (w : ℕ) (h : FlagWord) (step : ℕ → ℕ) → w < 8 → step (flag_word (flag_at w)) ≡ flag_word h
+    → IsFlagWord (step w) h
 stepped w h step within e =
     let same : flag_word h ≡ step w = sym e ∙ ap step (flags_below w within).same in
     (subst (λ (y : ℕ). y < 8) same (steps h).below, ap flag_at (sym same) ∙ flag_at-flag_word h tt)
@@ -73,22 +160,32 @@ pub busy_up : (w : ℕ) → w < 8 → IsFlagWord (bit_or w 1) (record (flag_at w
 busy_up w within = stepped w (record (flag_at w) { busy = true }) (λ y. bit_or y 1) within (steps (flag_at w)).busy_up
 
 pub busy_down : (w : ℕ) → w < 8 → IsFlagWord (bit_and w (all_but 1)) (record (flag_at w) { busy = false })
-busy_down w within = stepped w (record (flag_at w) { busy = false }) (λ y. bit_and y (all_but 1)) within (steps (flag_at w)).busy_down
+busy_down w within =
+    stepped w (record (flag_at w) { busy = false }) (λ y. bit_and y (all_but 1)) within (steps (flag_at w)).busy_down
 
 pub ghost_up : (w : ℕ) → w < 8 → IsFlagWord (bit_or w 2) (record (flag_at w) { ghost_ = true })
-ghost_up w within = stepped w (record (flag_at w) { ghost_ = true }) (λ y. bit_or y 2) within (steps (flag_at w)).ghost_up
+ghost_up w within = stepped w (record (flag_at w) { ghost_ = true }) (λ y. bit_or y 2) within
+    (steps (flag_at w)).ghost_up
 
 pub ghost_down : (w : ℕ) → w < 8 → IsFlagWord (bit_and w (all_but 2)) (record (flag_at w) { ghost_ = false })
-ghost_down w within = stepped w (record (flag_at w) { ghost_ = false }) (λ y. bit_and y (all_but 2)) within (steps (flag_at w)).ghost_down
+ghost_down w within =
+    stepped w (record (flag_at w) { ghost_ = false }) (λ y. bit_and y (all_but 2)) within (steps (flag_at w)).ghost_down
 
 pub changed_up : (w : ℕ) → w < 8 → IsFlagWord (bit_or w 4) (record (flag_at w) { changed = true })
-changed_up w within = stepped w (record (flag_at w) { changed = true }) (λ y. bit_or y 4) within (steps (flag_at w)).changed_up
+changed_up w within =
+    stepped w (record (flag_at w) { changed = true }) (λ y. bit_or y 4) within (steps (flag_at w)).changed_up
 
 pub changed_down : (w : ℕ) → w < 8 → IsFlagWord (bit_and w (all_but 4)) (record (flag_at w) { changed = false })
-changed_down w within = stepped w (record (flag_at w) { changed = false }) (λ y. bit_and y (all_but 4)) within (steps (flag_at w)).changed_down
+changed_down w within =
+    stepped w (record (flag_at w) { changed = false }) (λ y. bit_and y (all_but 4)) within
+    (steps (flag_at w)).changed_down
 
 pub ghost_changed_up : (w : ℕ) → w < 8 → IsFlagWord (bit_or w 6) (record (flag_at w) { ghost_ = true; changed = true })
-ghost_changed_up w within = stepped w (record (flag_at w) { ghost_ = true; changed = true }) (λ y. bit_or y 6) within (steps (flag_at w)).ghost_changed_up
+ghost_changed_up w within =
+    stepped w (record (flag_at w) { ghost_ = true; changed = true }) (λ y. bit_or y 6) within
+    (steps (flag_at w)).ghost_changed_up
 
 pub busy_changed_up : (w : ℕ) → w < 8 → IsFlagWord (bit_or w 5) (record (flag_at w) { busy = true; changed = true })
-busy_changed_up w within = stepped w (record (flag_at w) { busy = true; changed = true }) (λ y. bit_or y 5) within (steps (flag_at w)).busy_changed_up
+busy_changed_up w within =
+    stepped w (record (flag_at w) { busy = true; changed = true }) (λ y. bit_or y 5) within
+    (steps (flag_at w)).busy_changed_up

@@ -1,5 +1,6 @@
 -- The words of gates, and what the steps on a gate do to them.
-use Rattle.std.proofs.Common.{◌≡◌, ℕ, ◌+◌, ◌-◌, ◌*◌, ◌%◌, ◌^◌, ◌<◌, Bool, true, false, cond, leb, ◌↔◌, ap, sym, subst, ◌∙◌, arith}
+use Rattle.std.proofs.Common.{◌≡◌, ℕ, ◌+◌, ◌-◌, ◌*◌, ◌%◌, ◌^◌, ◌<◌, Bool, true, false, cond, leb, ◌↔◌, ap, sym, subst}
+use Rattle.std.proofs.Common.{◌∙◌, arith}
 use Rattle.std.specs.Prelude.{bit_and, bit_or}
 use Rattle.std.specs.Int.Bits.{or_zero_r}
 use Rattle.std.proofs.lemmas.Bool.Decides.{nat_tests}
@@ -33,7 +34,8 @@ gate_word-lt g fits = within g.shut g.count fits
 
 -- packing gates loses nothing
 pub gate_words : IsPacking FitsGate gate_word gate_at
-gate_words = unpacking.packing FitsGate gate_word gate_at gate_at-gate_word (λ g fits. omega (arith, gate_word-lt g fits))
+gate_words = unpacking.packing FitsGate gate_word gate_at gate_at-gate_word
+    (λ g fits. omega (arith, gate_word-lt g fits))
 
 gate_below : (w : ℕ) → w < 2 ^ 17 → IsPackedGate w
 gate_below w within = record { fits = omega arith; same = grind (arith, nat_tests) }
@@ -46,25 +48,29 @@ gate_forms w = (λ p. subst (λ (y : ℕ). y < 2 ^ 17) p.same (gate_word-lt (gat
 
 -- to or it in adds it where it is not set
 pub or_shut : (w : ℕ) → w < 2 ^ 16 → bit_or w (2 ^ 16) ≡ w + 2 ^ 16
-or_shut w small = or_comm w (2 ^ 16) ∙ or_shifted 1 16 w small ∙ (let e : 1 * 2 ^ 16 + w ≡ w + 2 ^ 16 = omega arith in e)
+or_shut w small = or_comm w (2 ^ 16) ∙ or_shifted 1 16 w small
+    ∙ (let e : 1 * 2 ^ 16 + w ≡ w + 2 ^ 16 = omega arith in e)
 
 -- and changes nothing where it is set
 pub or_shut_again : (w : ℕ) → w < 2 ^ 16 → bit_or (w + 2 ^ 16) (2 ^ 16) ≡ w + 2 ^ 16
 or_shut_again w small =
     let e : w + 2 ^ 16 ≡ 1 * 2 ^ 16 + w = omega arith in
-    ap (λ (y : ℕ). bit_or y (2 ^ 16)) e ∙ or_block 16 1 1 w 0 small (omega arith) ∙ ap (λ (y : ℕ). 2 ^ 16 + y) (or_zero_r w) ∙ (omega arith)
+    ap (λ (y : ℕ). bit_or y (2 ^ 16)) e ∙ or_block 16 1 1 w 0 small (omega arith)
+    ∙ ap (λ (y : ℕ). 2 ^ 16 + y) (or_zero_r w) ∙ (omega arith)
 
 -- to and it away takes it where it is set
 pub and_open : (w : ℕ) → w < 2 ^ 16 → bit_and (w + 2 ^ 16) (all_but (2 ^ 16)) ≡ w
 and_open w small =
     let e : w + 2 ^ 16 ≡ 1 * 2 ^ 16 + w = omega arith in
-    ap (λ (y : ℕ). bit_and y (all_but (2 ^ 16))) e ∙ and_block 16 1 281474976710654 w 65535 small (omega arith) ∙ ap (λ (y : ℕ). 0 + y) (and_mask w 16) ∙ (omega arith)
+    ap (λ (y : ℕ). bit_and y (all_but (2 ^ 16))) e ∙ and_block 16 1 281474976710654 w 65535 small (omega arith)
+    ∙ ap (λ (y : ℕ). 0 + y) (and_mask w 16) ∙ (omega arith)
 
 -- and changes nothing where it is not
 pub and_open_again : (w : ℕ) → w < 2 ^ 16 → bit_and w (all_but (2 ^ 16)) ≡ w
 and_open_again w small =
     let e : w ≡ 0 * 2 ^ 16 + w = omega arith in
-    ap (λ (y : ℕ). bit_and y (all_but (2 ^ 16))) e ∙ and_block 16 0 281474976710654 w 65535 small (omega arith) ∙ ap (λ (y : ℕ). 0 + y) (and_mask w 16) ∙ (omega arith)
+    ap (λ (y : ℕ). bit_and y (all_but (2 ^ 16))) e ∙ and_block 16 0 281474976710654 w 65535 small (omega arith)
+    ∙ ap (λ (y : ℕ). 0 + y) (and_mask w 16) ∙ (omega arith)
 
 -- ---- steps on the word of a gate
 
@@ -81,7 +87,8 @@ gate_word-shut g fits = shut g.shut g.count fits
     shut true c small = or_shut_again c small
     shut false c small = or_shut (c + 0) (omega arith) ∙ (omega arith)
 
-pub gate_word-reopen : (g : GateWord) → FitsGate g → bit_and (gate_word g) (all_but (2 ^ 16)) ≡ gate_word (record g { shut = false })
+pub gate_word-reopen : (g : GateWord) → FitsGate g
+    → bit_and (gate_word g) (all_but (2 ^ 16)) ≡ gate_word (record g { shut = false })
 gate_word-reopen g fits = reopen g.shut g.count fits
   where
     reopen : (s : Bool) (c : ℕ) → c < 2 ^ 16 → bit_and (c + cond s (2 ^ 16) 0) (all_but (2 ^ 16)) ≡ c + 0
@@ -91,23 +98,32 @@ gate_word-reopen g fits = reopen g.shut g.count fits
 -- ---- the same by the gate that a packed word stands for
 
 -- a step that makes of the word of one gate that of another
-stepped : (w : ℕ) (h : GateWord) (step : ℕ → ℕ) → w < 2 ^ 17 → FitsGate h → step (gate_word (gate_at w)) ≡ gate_word h → IsGateWord (step w) h
+stepped : (w : ℕ) (h : GateWord) (step : ℕ → ℕ) → w < 2 ^ 17 → FitsGate h → step (gate_word (gate_at w)) ≡ gate_word h
+    → IsGateWord (step w) h
 stepped w h step within fits e =
     let same : gate_word h ≡ step w = sym e ∙ ap step (gate_below w within).same in
     (subst (λ (y : ℕ). y < 2 ^ 17) same (gate_word-lt h fits), ap gate_at (sym same) ∙ gate_at-gate_word h fits)
 
 -- to add 1 counts one more
-pub arrival : (w : ℕ) → w < 2 ^ 17 → count_of w + 1 < 2 ^ 16 → IsGateWord (w + 1) (record (gate_at w) { count = count_of w + 1 })
-arrival w within room = stepped w (record (gate_at w) { count = count_of w + 1 }) (λ y. y + 1) within room (gate_word-arrive (gate_at w))
+pub arrival : (w : ℕ) → w < 2 ^ 17 → count_of w + 1 < 2 ^ 16
+    → IsGateWord (w + 1) (record (gate_at w) { count = count_of w + 1 })
+arrival w within room =
+    stepped w (record (gate_at w) { count = count_of w + 1 }) (λ y. y + 1) within room (gate_word-arrive (gate_at w))
 
 -- to subtract 1 counts one less
-pub departure : (w : ℕ) → w < 2 ^ 17 → 0 < count_of w → IsGateWord (w - 1) (record (gate_at w) { count = count_of w - 1 })
-departure w within some = stepped w (record (gate_at w) { count = count_of w - 1 }) (λ y. y - 1) within (omega arith) (gate_word-leave (gate_at w) some)
+pub departure : (w : ℕ) → w < 2 ^ 17 → 0 < count_of w
+    → IsGateWord (w - 1) (record (gate_at w) { count = count_of w - 1 })
+departure w within some =
+    stepped w (record (gate_at w) { count = count_of w - 1 }) (λ y. y - 1) within (omega arith)
+    (gate_word-leave (gate_at w) some)
 
 -- to or the shut bit in shuts, and keeps the count
 pub shutting : (w : ℕ) → w < 2 ^ 17 → IsGateWord (bit_or w (2 ^ 16)) (record (gate_at w) { shut = true })
-shutting w within = stepped w (record (gate_at w) { shut = true }) (λ y. bit_or y (2 ^ 16)) within (omega arith) (gate_word-shut (gate_at w) (omega arith))
+shutting w within = stepped w (record (gate_at w) { shut = true }) (λ y. bit_or y (2 ^ 16)) within (omega arith)
+    (gate_word-shut (gate_at w) (omega arith))
 
 -- to and the shut bit away opens, and keeps the count
 pub reopening : (w : ℕ) → w < 2 ^ 17 → IsGateWord (bit_and w (all_but (2 ^ 16))) (record (gate_at w) { shut = false })
-reopening w within = stepped w (record (gate_at w) { shut = false }) (λ y. bit_and y (all_but (2 ^ 16))) within (omega arith) (gate_word-reopen (gate_at w) (omega arith))
+reopening w within =
+    stepped w (record (gate_at w) { shut = false }) (λ y. bit_and y (all_but (2 ^ 16))) within (omega arith)
+    (gate_word-reopen (gate_at w) (omega arith))

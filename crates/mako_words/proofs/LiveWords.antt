@@ -9,7 +9,8 @@ use Rattle.mako_words.proofs.Unpacking as unpacking
 pub live_at-live_word : (l : LiveWord) → FitsLive l → live_at (live_word l) ≡ l
 live_at-live_word l fits = fields l.cycle l.words fits.0
   where
-    fields : (c n : ℕ) → n < 2 ^ 32 → live_at (live_word (record { cycle = c; words = n })) ≡ record { cycle = c; words = n }
+    fields : (c n : ℕ) → n < 2 ^ 32
+        → live_at (live_word (record { cycle = c; words = n })) ≡ record { cycle = c; words = n }
     fields c n small =
         let a : (n + c * 2 ^ 32) / 2 ^ 32 ≡ c = omega arith in
         let b : (n + c * 2 ^ 32) % 2 ^ 32 ≡ n = omega arith in
@@ -24,4 +25,10 @@ live_words = unpacking.packing FitsLive live_word live_at live_at-live_word live
 
 -- the packed forms are the words below bit 52
 pub live_forms : (w : ℕ) → IsPackedLive w ↔ (w < 2 ^ 52)
-live_forms w = (λ p. omega (arith, p.fits.0, p.fits.1, p.same), λ h. record { fits = (omega arith, omega arith); same = omega arith })
+live_forms w = (
+  λ p. omega (arith, p.fits.0, p.fits.1, p.same),
+  λ h. record {
+    fits = (omega arith, omega arith);
+    same = omega arith;
+  },
+)

@@ -8,7 +8,9 @@ use Rattle.mako_words.specs.declared.name.Name.{Name}
 use Rattle.mako_words.specs.Names.{name_cmp}
 
 pub exact_names : CmpEqualImpliesEq name_cmp
-exact_names a b h = ap (λ (p : ℕ × ℕ). record { entry = p.0; generation = p.1 }) (exact_pairs nat_cmp nat_cmp exact_unsigned exact_unsigned (a.entry, a.generation) (b.entry, b.generation) h)
+exact_names a b h = ap (λ (p : ℕ × ℕ). record { entry = p.0; generation = p.1 })
+    (exact_pairs nat_cmp nat_cmp exact_unsigned exact_unsigned (a.entry, a.generation) (b.entry, b.generation) h)
 
 pub names_total : IsTotalOrder name_cmp
-names_total = then_total (on_total (λ (n : Name). n.entry) nat_cmp_total) (on_total (λ (n : Name). n.generation) nat_cmp_total)
+names_total = then_total (on_total (λ (n : Name). n.entry) nat_cmp_total)
+    (on_total (λ (n : Name). n.generation) nat_cmp_total)

@@ -15,7 +15,8 @@ use Rattle.mako_words.proofs.Unpacking as unpacking
 
 -- the word of a notice gives the notice back
 pub notice_at-notice_word : (n : NoticeWord) → FitsNotice n → notice_at (notice_word n) ≡ n
-notice_at-notice_word (Freed n) fits = rw (ne_eqb (name_word n) 1 (λ e. omega arith)) (ap (λ (m : Name). Freed m) (name_at-name_word n fits))
+notice_at-notice_word (Freed n) fits =
+    rw (ne_eqb (name_word n) 1 (λ e. omega arith)) (ap (λ (m : Name). Freed m) (name_at-name_word n fits))
 notice_at-notice_word Done fits = refl
 
 notice_word-lt : (n : NoticeWord) → FitsNotice n → notice_word n < 2 ^ 64
@@ -45,6 +46,7 @@ notice_forms w = (λ p. subst InForm p.same (form (notice_at w) p.fits), packed)
     packed (inr name) = by_notice (Freed (name_at w)) name.fits name.same
 
 -- a word that is neither that of a value nor 1 is that of no notice
-pub no_notice : (w : ℕ) → ((v : Value) → FitsValue v → value_word v ≢ w) → w ≢ 1 → (n : NoticeWord) → FitsNotice n → notice_word n ≢ w
+pub no_notice : (w : ℕ) → ((v : Value) → FitsValue v → value_word v ≢ w) → w ≢ 1 → (n : NoticeWord) → FitsNotice n
+    → notice_word n ≢ w
 no_notice w no_value not_done (Freed n) fits e = no_value (Ref n) fits e
 no_notice w no_value not_done Done fits e = not_done (sym e)

@@ -11,11 +11,22 @@ use Rattle.mako_words.proofs.Unpacking as unpacking
 pub phase_at-phase_word : (p : PhaseWord) → FitsPhase p → phase_at (phase_word p) ≡ p
 phase_at-phase_word (Idle c) fits = rw (lt-ltb c (2 ^ 32) (omega arith)) refl
 phase_at-phase_word (Trace c) fits =
-    rw (le-ltb (c + 2 ^ 32) (2 ^ 32) (omega arith), lt-ltb (c + 2 ^ 32) (2 * 2 ^ 32) (omega arith)) (ap (λ (y : ℕ). Trace y) (omega arith))
+    rw (le-ltb (c + 2 ^ 32) (2 ^ 32) (omega arith), lt-ltb (c + 2 ^ 32) (2 * 2 ^ 32) (omega arith))
+    (ap (λ (y : ℕ). Trace y) (omega arith))
 phase_at-phase_word (Evac c) fits =
-    rw (le-ltb (c + 2 * 2 ^ 32) (2 ^ 32) (omega arith), le-ltb (c + 2 * 2 ^ 32) (2 * 2 ^ 32) (omega arith), lt-ltb (c + 2 * 2 ^ 32) (3 * 2 ^ 32) (omega arith)) (ap (λ (y : ℕ). Evac y) (omega arith))
+    rw (
+      le-ltb (c + 2 * 2 ^ 32) (2 ^ 32) (omega arith),
+      le-ltb (c + 2 * 2 ^ 32) (2 * 2 ^ 32) (omega arith),
+      lt-ltb
+          (c + 2 * 2 ^ 32) (3 * 2 ^ 32) (omega arith),
+    ) (ap (λ (y : ℕ). Evac y) (omega arith))
 phase_at-phase_word (Stop c) fits =
-    rw (le-ltb (c + 3 * 2 ^ 32) (2 ^ 32) (omega arith), le-ltb (c + 3 * 2 ^ 32) (2 * 2 ^ 32) (omega arith), le-ltb (c + 3 * 2 ^ 32) (3 * 2 ^ 32) (omega arith)) (ap (λ (y : ℕ). Stop y) (omega arith))
+    rw (
+      le-ltb (c + 3 * 2 ^ 32) (2 ^ 32) (omega arith),
+      le-ltb (c + 3 * 2 ^ 32) (2 * 2 ^ 32) (omega arith),
+      le-ltb
+          (c + 3 * 2 ^ 32) (3 * 2 ^ 32) (omega arith),
+    ) (ap (λ (y : ℕ). Stop y) (omega arith))
 
 phase_word-lt : (p : PhaseWord) → FitsPhase p → phase_word p < 2 ^ 64
 phase_word-lt (Idle c) fits = omega arith

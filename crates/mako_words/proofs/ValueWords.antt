@@ -1,5 +1,6 @@
 -- The words of names and values.
-use Rattle.std.proofs.Common.{◌≡◌, ℕ, ◌+◌, ◌-◌, ◌*◌, ◌/◌, ◌%◌, ◌^◌, ◌<◌, ◌≤◌, ◌↔◌, ◌⊎◌, inl, inr, ap, subst, refl, ◌∙◌, arith}
+use Rattle.std.proofs.Common.{◌≡◌, ℕ, ◌+◌, ◌-◌, ◌*◌, ◌/◌, ◌%◌, ◌^◌, ◌<◌, ◌≤◌, ◌↔◌, ◌⊎◌, inl, inr, ap, subst, refl, ◌∙◌}
+use Rattle.std.proofs.Common.{arith}
 use Rattle.std.proofs.lemmas.Bool.{ne_eqb, lt-ltb, le-ltb}
 use Rattle.std.proofs.lemmas.Nat.{shr_high, mod_low}
 use Rattle.mako_words.specs.declared.name.Name.{Name}
@@ -14,7 +15,8 @@ use Rattle.mako_words.proofs.Unpacking as unpacking
 pub name_at-name_word : (n : Name) → FitsName n → name_at (name_word n) ≡ n
 name_at-name_word n fits = fields n.entry n.generation fits.0
   where
-    fields : (e g : ℕ) → e < 2 ^ 20 → name_at (name_word (record { entry = e; generation = g })) ≡ record { entry = e; generation = g }
+    fields : (e g : ℕ) → e < 2 ^ 20
+        → name_at (name_word (record { entry = e; generation = g })) ≡ record { entry = e; generation = g }
     fields e g small =
         let n : e + g * 2 ^ 20 + 2 ^ 63 - 2 ^ 63 ≡ g * 2 ^ 20 + e = omega arith in
         let a = ap (λ (y : ℕ). y % 2 ^ 20) n ∙ mod_low g 20 e small in
@@ -33,9 +35,11 @@ name_words = unpacking.packing FitsName name_word name_at name_at-name_word (λ 
 pub value_at-value_word : (v : Value) → FitsValue v → value_at (value_word v) ≡ v
 value_at-value_word Null fits = refl
 value_at-value_word (Num x) fits =
-    rw (ne_eqb (x + 2 ^ 62) 0 (λ e. omega arith), lt-ltb (x + 2 ^ 62) (2 ^ 63) (omega arith)) (ap (λ (y : ℕ). Num y) (omega arith))
+    rw (ne_eqb (x + 2 ^ 62) 0 (λ e. omega arith), lt-ltb (x + 2 ^ 62) (2 ^ 63) (omega arith))
+    (ap (λ (y : ℕ). Num y) (omega arith))
 value_at-value_word (Ref n) fits =
-    rw (ne_eqb (name_word n) 0 (λ e. omega arith), le-ltb (name_word n) (2 ^ 63) (omega arith)) (ap (λ (m : Name). Ref m) (name_at-name_word n fits))
+    rw (ne_eqb (name_word n) 0 (λ e. omega arith), le-ltb (name_word n) (2 ^ 63) (omega arith))
+    (ap (λ (m : Name). Ref m) (name_at-name_word n fits))
 
 value_word-lt : (v : Value) → FitsValue v → value_word v < 2 ^ 64
 value_word-lt Null fits = omega arith
@@ -52,8 +56,11 @@ name_form w low high = ((omega arith, omega arith), omega arith)
 
 -- the words of names are bit 63 with 40 bits
 pub name_forms : (w : ℕ) → IsPackedName w ↔ ((2 ^ 63 ≤ w) × (w < 2 ^ 63 + 2 ^ 40))
-name_forms w =
-    (λ p. (omega (arith, p.same), omega (arith, p.same, p.fits.0, p.fits.1)), λ h. let f = name_form w h.0 h.1 in record { fits = f.0; same = f.1 })
+name_forms w = (
+  λ p. (omega (arith, p.same), omega (arith, p.same, p.fits.0, p.fits.1)),
+  λ h. let f = name_form w h.0 h.1 in
+      record { fits = f.0; same = f.1 },
+)
 
 -- the words of values are 0, bit 62 with 32 bits, and those of names
 pub value_forms : (w : ℕ) → IsPacked w ↔ ((w ≡ 0) ⊎ (((2 ^ 62 ≤ w) × (w < 2 ^ 62 + 2 ^ 32)) ⊎ IsPackedName w))

@@ -33,4 +33,6 @@ name_cmp a b = ordering_then (nat_cmp a.entry b.entry) (nat_cmp a.generation b.g
 
 -- as a pair of numbers
 abbrev pub coded_name : Coded Name
-coded_name = code_by (ℕ × ℕ) (coded× coded_ℕ coded_ℕ) (λ n. (n.entry, n.generation)) (λ p. record { entry = p.0; generation = p.1 }) (λ _. refl)
+coded_name = code_by (ℕ
+    × ℕ) (coded× coded_ℕ coded_ℕ) (λ n. (n.entry, n.generation)) (λ p. record { entry = p.0; generation = p.1 })
+    (λ _. refl)

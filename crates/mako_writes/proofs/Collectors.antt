@@ -63,7 +63,7 @@ module _ (k : Holdings) (known : IsKeptKnown k) where
   forwarding (Looking x) is = looks n W _
   forwarding (Storing x) is =
       at_place n W (collecting.head_slot k x) _
-          (owned x is.0, mod_below _ n.ring (let each = known.shape.in_range.each in omega (arith, each))) tt
+      (owned x is.0, mod_below _ n.ring (let each = known.shape.in_range.each in omega (arith, each))) tt
 
   barring : (s : BarrierStage) → keeping.BarrierIsKnown k s → Leaves n W (collecting.barrier_next k s)
   barring (Loading m) is = looks n W _

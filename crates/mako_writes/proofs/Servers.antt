@@ -159,7 +159,7 @@ module _ (o : Owner) (is_owner : IsOwner o) where
       let mine = own_tablet (x / m.entries) own in (
         subst (λ i. i < m.servers * m.tablets * m.entries) (row-and-column x m.entries)
             (row-below (x / m.entries) m.entries (x % m.entries) (m.servers * m.tablets) mine.0
-                (mod_below x m.entries some)),
+            (mod_below x m.entries some)),
         mine.1,
       )
 

@@ -111,9 +111,11 @@ impl Kept {
         requires runs { Runs self.old }
         requires region { gift.region < all_regions self.old }
         requires former { gift.former < all_regions self.old }
-        ensures { self.new ≡ record self.old { roles =
-            slice_set (slice_set self.old.roles gift.region roles.Home) gift.former
-            (roles.Spare (running self.old + 1)) } }
+        ensures { self.new ≡ record self.old {
+          roles =
+              slice_set (slice_set self.old.roles gift.region roles.Home) gift.former
+              (roles.Spare (running self.old + 1));
+        } }
     {
         let next = self.cycle + 2;
         self.roles[gift.region as usize] = Role::Home;

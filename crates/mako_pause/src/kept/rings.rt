@@ -77,9 +77,11 @@ impl Kept {
     /// A name was taken from a mutator's barrier ring.
     pub(crate) fn barrier_up(&mut self, mutator: u32)
         requires { mutator < self.old.shape.mutators }
-        ensures { self.new ≡ record self.old { barrier_at =
-            slice_set self.old.barrier_at mutator
-            (after_place self.old.shape.ring (slice_index self.old.barrier_at mutator)) } }
+        ensures { self.new ≡ record self.old {
+          barrier_at =
+              slice_set self.old.barrier_at mutator
+              (after_place self.old.shape.ring (slice_index self.old.barrier_at mutator));
+        } }
     {
         let at = next_place(
             u64::from(self.numbers().ring),
@@ -108,9 +110,11 @@ impl Kept {
     /// A notice was taken from a server's notice ring.
     pub(crate) fn notice_up(&mut self, server: u32)
         requires { server < self.old.shape.servers }
-        ensures { self.new ≡ record self.old { notice_at =
-            slice_set self.old.notice_at server
-            (after_place self.old.shape.ring (slice_index self.old.notice_at server)) } }
+        ensures { self.new ≡ record self.old {
+          notice_at =
+              slice_set self.old.notice_at server
+              (after_place self.old.shape.ring (slice_index self.old.notice_at server));
+        } }
     {
         let at = next_place(
             u64::from(self.numbers().ring),

@@ -9,9 +9,9 @@ use Rattle.mako_cli.proofs.commands.settle.Goals as goal
 pub returns-in-Err-Bad-clause-settled : goal.returns-in-Err-Bad-clause-settled
 returns-in-Err-Bad-clause-settled g c =
     let told = c.parse.ensures.refused c.in-Err-Bad.kind c.in-Err-Bad.line (c.in-Err-Bad.is
-        ∙ ap (λ e. Err e) c.in-Err-Bad.field-0-is) in
+    ∙ ap (λ e. Err e) c.in-Err-Bad.field-0-is) in
     let on_bytes : IsRefused c.in-Ok.bytes.items c.in-Err-Bad.kind c.in-Err-Bad.line =
-        subst (λ (bytes : List ℕ). IsRefused bytes c.in-Err-Bad.kind c.in-Err-Bad.line) c.deref.ensures.value told in
+    subst (λ (bytes : List ℕ). IsRefused bytes c.in-Err-Bad.kind c.in-Err-Bad.line) c.deref.ensures.value told in
     inr (record {
       bytes = c.in-Ok.bytes.items;
       whole = record { few = c.in-Ok.ensures.within; all = c.in-Ok.ensures.whole; ended = c.in-Ok.ensures.ended };
@@ -24,7 +24,7 @@ returns-clause-settled g c =
     let ran = c.in-Ok-replay.ensures in
     let replayed = c.in-Ok-replay.replayed in
     let facts : IsRead (g.S.Source.left c.args.source.now)
-        (g.S.Source.left c.read_all.new.source) c.in-Ok-parse.script = record {
+    (g.S.Source.left c.read_all.new.source) c.in-Ok-parse.script = record {
       bytes = c.in-Ok.bytes.items;
       whole = record { few = read.within; all = read.whole; ended = read.ended };
       spelled = subst (λ (bytes : List ℕ). IsScript bytes c.in-Ok-parse.script) c.deref.ensures.value

@@ -18,7 +18,7 @@ returns-then-ne c = λ x h.
     let number : c.in-Ok.number ≡ x = cc in
     let same : c.format.result.now ≡ c.args.word.now = c.format.ensures.text ∙ ap decimal number ∙ sym h.0 in
     let equal : bytes_eq c.format.result.now c.args.word.now ≡ true =
-        (bytes_eq-Decides c.format.result.now c.args.word.now).1 same in
+    (bytes_eq-Decides c.format.result.now c.args.word.now).1 same in
     let no : c.ne.result ≡ false = c.ne.ensures ∙ ap not equal in
     cc
 
@@ -27,5 +27,8 @@ returns-then-number-low c = λ x h.
     let small : x < 2 ^ 64 = omega (arith, h.2, c.ranges.high.fits) in
     let read = parse-decimal 64 x c.args.word.now c.parse.result small small h.0 c.parse.ensures.value.0 in
     let number : c.in-Ok.number ≡ x = cc in
-    elim c.then-number-low.either [ inl low ↦ omega (arith, low, number, h.1) | inr high ↦ omega
-        (arith, high.1, number, h.2) ]
+    elim c.then-number-low.either [
+      | inl low ↦ omega (arith, low, number, h.1)
+      | inr high ↦ omega
+          (arith, high.1, number, h.2)
+    ]

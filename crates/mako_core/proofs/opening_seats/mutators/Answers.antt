@@ -14,10 +14,10 @@ loop-mutator-preserved c =
     let many = ap (λ (t : ScriptView). length t.programs) c.script.view_is in
     let numbers = ap (λ (n : Numbers). n.mutators) c.numbers-numbers.ensures.numbers in
     let low : m < length s.programs =
-        omega (arith, many, numbers, c.script.invariant.mutators, c.loop-mutator-test.true) in
+    omega (arith, many, numbers, c.script.invariant.mutators, c.loop-mutator-test.true) in
     let program = some_at s.programs m low in
     c.in-Ok.ensures.items
     ∙ ap (λ (xs : List Seat). xs ++ Mutator c.in_ok-driver.driver ∷ []) c.loop-mutator.invariant
     ∙ ap (λ d. mutators_from s.numbers 0 (take m s.programs) ++ Mutator d ∷ [])
-        (c.in_ok-driver.ensures program.0 program.1)
+    (c.in_ok-driver.ensures program.0 program.1)
     ∙ sym (mutators_more s.numbers m s.programs program.0 program.1)

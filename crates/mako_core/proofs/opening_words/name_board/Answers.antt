@@ -10,7 +10,7 @@ loop-mutator-preserved g c =
     let m = c.loop-mutator.mutator in
     let ws = g.W.Words.words c.loop-mutator.words in
     let stored = c.store.ensures ∙ ap (λ k. set ws k c.pack-name.result) c.root.ensures.index
-        ∙ ap (λ x. set ws (index n (root (m - 1) 0)) x) c.pack-name.ensures in
+    ∙ ap (λ x. set ws (index n (root (m - 1) 0)) x) c.pack-name.ensures in
     record {
       size = ap length c.store.ensures ∙ length-set ws c.root.result c.pack-name.result ∙ c.loop-mutator.invariant.size;
       rest = ap (λ (us : List ℕ). written n us (board_roots (m - 1))) stored

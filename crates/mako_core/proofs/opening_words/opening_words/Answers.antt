@@ -23,5 +23,5 @@ pub returns : goal.returns
 returns g c =
     let zeros = c.in_ok-words.ensures ∙ ap (λ k. replicate {A = ℕ} k 0) c.words.ensures in
     all_written c.script.inside.shape c.script.inside.board _ _ _ _ zeros c.name_board.ensures c.settle_tablets.ensures
-        c.lay_board.ensures
+    c.lay_board.ensures
     ∙ ap (λ (s : ScriptView). words_at_start s.numbers s.board) c.script.view_is

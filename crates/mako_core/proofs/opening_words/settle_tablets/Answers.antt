@@ -10,7 +10,7 @@ loop-tablet-preserved g c =
     let t = c.loop-tablet.tablet in
     let ws = g.W.Words.words c.loop-tablet.words in
     let stored = c.store.ensures ∙ ap (λ k. set ws k c.from-home.result) c.home.ensures.index
-        ∙ ap (λ x. set ws (index n (home (t - 1))) x) (c.from-home.ensures ∙ c.opening_home.ensures) in
+    ∙ ap (λ x. set ws (index n (home (t - 1))) x) (c.from-home.ensures ∙ c.opening_home.ensures) in
     record {
       size = ap length c.store.ensures ∙ length-set ws c.home.result c.from-home.result ∙ c.loop-tablet.invariant.size;
       rest = ap (λ (us : List ℕ). written n us (first_homes n (t - 1))) stored

@@ -15,8 +15,8 @@ unreachable-requires-in_default-last c =
     let within = slice_get_within items (length items - 1) _ c.requires.last in
     let len : vec_len c.args.seats.now ≡ length items = omega (arith, c.args.seats.now.ok.0) in
     let at = same_Some d _ (c.in-Some.ensures.value d (omega (arith, within, len)))
-        ∙ ap (λ (k : ℕ). get_or items (k - 1) d) len
-        ∙ get_or_from_slice_get items (length items - 1) _ d c.requires.last in
+    ∙ ap (λ (k : ℕ). get_or items (k - 1) d) len
+    ∙ get_or_from_slice_get items (length items - 1) _ d c.requires.last in
     c.in_default-last.not-Collector c.requires.collector at
 
 pub returns-clause-collector : goal.returns-clause-collector
@@ -26,8 +26,8 @@ returns-clause-collector c =
     let within = slice_get_within items (length items - 1) _ c.requires.last in
     let len : vec_len c.args.seats.now ≡ length items = omega (arith, c.args.seats.now.ok.0) in
     let at = same_Some d _ (c.in-Some.ensures.value d (omega (arith, within, len)))
-        ∙ ap (λ (k : ℕ). get_or items (k - 1) d) len
-        ∙ get_or_from_slice_get items (length items - 1) _ d c.requires.last in
+    ∙ ap (λ (k : ℕ). get_or items (k - 1) d) len
+    ∙ get_or_from_slice_get items (length items - 1) _ d c.requires.last in
     c.requires.last ∙ ap (λ x. Some x) (sym at ∙ c.in-Collector.is)
 
 pub returns-clause-rest : goal.returns-clause-rest

@@ -25,7 +25,7 @@ keep_replies-requires c =
     let x = c.in-Some.seat in
     let rest = replies_in (into_iter_items c.next.new.self) in
     let there : length (replies_in (into_iter_items c.loop-seat.seat-iterator)) ≡ length (replies_kept x ++ rest) =
-        ap (λ l. length (replies_in l)) c.in-Some.ensures.steps.0 in
+    ap (λ l. length (replies_in l)) c.in-Some.ensures.steps.0 in
     omega (arith, there, length-append (replies_kept x) rest, c.loop-seat.invariant.room)
 
 pub loop-seat-preserved : goal.loop-seat-preserved
@@ -38,13 +38,19 @@ loop-seat-preserved c =
     let short = ap length steps in
     let there : replies_in (into_iter_items c.loop-seat.seat-iterator) ≡ replies_kept x ++ rest = ap replies_in steps in
     let many : length (replies_in (into_iter_items c.loop-seat.seat-iterator)) ≡ length (replies_kept x ++ rest) =
-        ap length there in
+    ap length there in
     record {
       all = ap (λ l. l ++ rest) c.keep_replies.ensures.items ∙ append_assoc before (replies_kept x) rest
           ∙ ap (λ l. before ++ l) (sym there) ∙ c.loop-seat.invariant.all;
       left = let was = c.loop-seat.invariant.left in omega (arith, was, gone, short);
-      room = omega (arith, many, length-append (replies_kept x) rest, c.loop-seat.invariant.room,
-          c.keep_replies.ensures.len, c.keep_replies.ensures.capacity);
+      room = omega (
+        arith,
+        many,
+        length-append (replies_kept x) rest,
+        c.loop-seat.invariant.room,
+        c.keep_replies.ensures.len,
+        c.keep_replies.ensures.capacity,
+      );
     }
 
 pub returns : goal.returns
@@ -55,4 +61,4 @@ returns c =
     let now = map (λ (v : Vec Reply Global). v.items) at.lists.items in
     let was = map (λ (v : Vec Reply Global). v.items) c.args.lists.items in
     sym (append-nil now) ∙ ap (λ l. now ++ replies_in l) (sym empty) ∙ at.invariant.all
-        ∙ ap (λ l. was ++ replies_in l) c.into_iter-seat-iterator.ensures.into_iter_gives.0
+    ∙ ap (λ l. was ++ replies_in l) c.into_iter-seat-iterator.ensures.into_iter_gives.0

@@ -29,9 +29,9 @@ loop-text-preserved c =
     let below : i < 7 = omega (arith, ap length c.requires, length-map texts now, c.loop-text-test.true) in
     let text : string_bytes key ≡ get_or names i [] =
     c.in_ok-from_str.ensures.ok
-        ∙ sym (get_or-map now texts i (record { ref_ptr = (0, 0); now = [] }) [] c.loop-text-test.true)
-        ∙ ap (λ (ts : List (List ℕ)). get_or ts i []) c.requires in
+    ∙ sym (get_or-map now texts i (record { ref_ptr = (0, 0); now = [] }) [] c.loop-text-test.true)
+    ∙ ap (λ (ts : List (List ℕ)). get_or ts i []) c.requires in
     let absent : is_some (place_at (map string_bytes set.keys) (string_bytes key)) ≡ false =
-        rw (c.loop-text.invariant, text) (absent_name i [] below) in
+    rw (c.loop-text.invariant, text) (absent_name i [] below) in
     ap (map string_bytes) (c.in_ok-insert.ensures.keys ∙ insert_new set key absent) ∙ map_push string_bytes set.keys key
     ∙ (λ j. c.loop-text.invariant j ++ text j ∷ []) ∙ sym (take_more names i [] below)

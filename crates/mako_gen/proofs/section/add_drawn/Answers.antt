@@ -4,8 +4,12 @@ use Rattle.mako_gen.proofs.Drawn.{adds_more}
 use Rattle.mako_gen.proofs.section.add_drawn.Goals as goal
 
 pub loop-drawn-init : goal.loop-drawn-init
-loop-drawn-init c = record { drawn = []; calls = sym (append-nil c.args.calls.now.items); count = refl;
-    drawn_by = refl }
+loop-drawn-init c = record {
+  drawn = [];
+  calls = sym (append-nil c.args.calls.now.items);
+  count = refl;
+  drawn_by = refl;
+}
 
 pub loop-drawn-preserved : goal.loop-drawn-preserved
 loop-drawn-preserved c =

@@ -6,8 +6,11 @@ use Rattle.mako_gen.proofs.workload.make.Goals as goal
 
 pub invariant_of-result : goal.invariant_of-result
 invariant_of-result c =
-    is_proper c.args.seed c.args.size (record { numbers = c.shape.result; board = 8;
-        programs = c.in-Ok.programs.items }) c.requires.1
+    is_proper c.args.seed c.args.size (record {
+      numbers = c.shape.result;
+      board = 8;
+      programs = c.in-Ok.programs.items;
+    }) c.requires.1
     (record {
       geometry = c.shape.ensures;
       board = refl;

@@ -21,6 +21,10 @@ loop-mutator-preserved c =
       drawn = subst (λ (ps : List ProgramView). AreSections c.args.size c.args.generator.now ps c.section.new.generator)
           (sym items)
           (sections_more _ _ _ _ _ _ c.loop-mutator.invariant.drawn c.in_ok-program.ensures);
-      count = omega (arith, ap length items, length_push c.loop-mutator.programs.items p,
-          c.loop-mutator.invariant.count);
+      count = omega (
+        arith,
+        ap length items,
+        length_push c.loop-mutator.programs.items p,
+        c.loop-mutator.invariant.count,
+      );
     }

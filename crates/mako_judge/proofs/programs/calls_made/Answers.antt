@@ -7,7 +7,8 @@ use Rattle.mako_judge.proofs.programs.calls_made.Goals as goal
 
 pub returns-then-not-is_at : goal.returns-then-not-is_at
 returns-then-not-is_at c =
-    other_made c.args.mutator c.args.points.now c.args.program.now c.loop-point.point-index c.loop-point.made c.in-Some.call c.loop-point-test.true c.loop-point.invariant.made c.in-Some.ensures
+    other_made c.args.mutator c.args.points.now c.args.program.now c.loop-point.point-index c.loop-point.made
+    c.in-Some.call c.loop-point-test.true c.loop-point.invariant.made c.in-Some.ensures
     c.loop-point.invariant.within (λ e. false_true (sym c.if-not-is_at.true ∙ c.is_at.ensures.1 e))
 
 pub loop-point-preserved : goal.loop-point-preserved
@@ -20,12 +21,15 @@ loop-point-preserved c =
           let there = w.is_at.ensures.0 w.if-not-is_at.false in
           let within = slice_get_within program made w.in-Some.call there in
           let is = w.made-is in record {
-            made = next_made c.args.mutator points program c.loop-point.point-index made w.in-Some.call c.loop-point-test.true c.loop-point.invariant.made w.in-Some.ensures there ∙ ap (λ n. take n program) (sym is);
+            made = next_made c.args.mutator points program c.loop-point.point-index made w.in-Some.call
+                c.loop-point-test.true c.loop-point.invariant.made w.in-Some.ensures there
+                ∙ ap (λ n. take n program) (sym is);
             within = omega arith;
           }
       | in_default w ↦
           let is = w.made-is in record {
-            made = none_made c.args.mutator points program c.loop-point.point-index made c.loop-point-test.true c.loop-point.invariant.made w.in_default.ensures ∙ ap (λ n. take n program) (sym is);
+            made = none_made c.args.mutator points program c.loop-point.point-index made c.loop-point-test.true
+                c.loop-point.invariant.made w.in_default.ensures ∙ ap (λ n. take n program) (sym is);
             within = omega arith;
           }
     ]

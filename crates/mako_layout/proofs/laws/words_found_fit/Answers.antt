@@ -1,4 +1,5 @@
-use Rattle.mako_layout.proofs.Found.{gates_are_found, homes_are_found, tops_are_found, addresses_are_found, records_are_found}
+use Rattle.mako_layout.proofs.Found.{gates_are_found, homes_are_found, tops_are_found, addresses_are_found}
+use Rattle.mako_layout.proofs.Found.{records_are_found}
 use Rattle.mako_layout.proofs.laws.words_found_fit.Goals as goal
 
 pub returns-clause-gates : goal.returns-clause-gates

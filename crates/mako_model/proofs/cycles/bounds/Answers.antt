@@ -4,7 +4,8 @@ use Rattle.mako_model.proofs.Pieces.{piece_bounds, start_behind}
 use Rattle.mako_model.proofs.cycles.bounds.Goals as goal
 
 pub returns-then-index-eq0-clause-last : goal.returns-then-index-eq0-clause-last
-returns-then-index-eq0-clause-last c = (piece_bounds 0 c.args.ends.now (length c.args.names.now) 0 0 c.requires.rise (omega arith)).1
+returns-then-index-eq0-clause-last c =
+    (piece_bounds 0 c.args.ends.now (length c.args.names.now) 0 0 c.requires.rise (omega arith)).1
 
 pub returns-else-index-eq0-clause-start : goal.returns-else-index-eq0-clause-start
 returns-else-index-eq0-clause-start c =
@@ -20,4 +21,5 @@ returns-else-index-eq0-clause-order c =
     omega (arith, b.0, start)
 
 pub returns-else-index-eq0-clause-last : goal.returns-else-index-eq0-clause-last
-returns-else-index-eq0-clause-last c = (piece_bounds 0 c.args.ends.now (length c.args.names.now) c.args.index 0 c.requires.rise c.requires.within).1
+returns-else-index-eq0-clause-last c =
+    (piece_bounds 0 c.args.ends.now (length c.args.names.now) c.args.index 0 c.requires.rise c.requires.within).1

@@ -6,7 +6,8 @@ use Rattle.mako_model.proofs.RootsIn.{row_more}
 use Rattle.mako_model.proofs.roots.opening_row.Goals as goal
 
 pub loop-preserved : goal.loop-preserved
-loop-preserved c = row_more c.loop.row.items _ c.loop.counter (Ref board_name) Null c.loop.invariant (grind (arith, common_steps))
+loop-preserved c = row_more c.loop.row.items _ c.loop.counter (Ref board_name) Null c.loop.invariant
+    (grind (arith, common_steps))
 
 pub returns : goal.returns
 returns c =

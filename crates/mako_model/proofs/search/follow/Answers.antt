@@ -12,16 +12,21 @@ loop-done-preserved c =
     let order = c.loop-done.search.order.items in
     let name = c.index-name.result.now in
     let less : done < length order = omega (arith, c.loop-done.search.order.ok.0) in
-    let here : slice_get order done ≡ Some name = slice_get_read order (length order) done name refl less c.index-name.ensures in
+    let here : slice_get order done ≡ Some name =
+    slice_get_read order (length order) done name refl less c.index-name.ensures in
     let after : c.expand.new.search.order.items ≡ expanded h order name = c.in_ok-expand.ensures.order in
     record {
       same = c.in_ok-expand.ensures.same;
-      roots = subst (AreRootsFound h (length h.roots)) (sym after) (roots_still h (length h.roots) order (unwrap_or (fields_of h name) []) c.loop-done.invariant.roots);
-      fields = subst (AreFieldsFound h (done + 1)) (sym after) (fields_more h done order name c.loop-done.invariant.fields here);
-      reachable = subst (AreReachable h) (sym after) (reachable_fields h order name c.loop-done.invariant.reachable (in_at order done name here));
+      roots = subst (AreRootsFound h (length h.roots)) (sym after)
+          (roots_still h (length h.roots) order (unwrap_or (fields_of h name) []) c.loop-done.invariant.roots);
+      fields = subst (AreFieldsFound h (done + 1)) (sym after)
+          (fields_more h done order name c.loop-done.invariant.fields here);
+      reachable = subst (AreReachable h) (sym after)
+          (reachable_fields h order name c.loop-done.invariant.reachable (in_at order done name here));
       within = omega (arith, longer h order c.expand.new.search.order.items name after);
     }
 
 pub returns-clause-fields : goal.returns-clause-fields
 returns-clause-fields c =
-    fields_at_end c.args.state.now c.loop-done.done c.loop-done.search.order.items (omega (arith, c.loop-done.search.order.ok.0)) c.loop-done.invariant.fields
+    fields_at_end c.args.state.now c.loop-done.done c.loop-done.search.order.items
+    (omega (arith, c.loop-done.search.order.ok.0)) c.loop-done.invariant.fields

@@ -10,7 +10,8 @@ loop-mutator-preserved c =
     let h = c.args.state.now in
     let m = c.loop-mutator.mutator in
     let order = c.loop-mutator.search.order.items in
-    let after : c.add_all.new.search.order.items ≡ fold added order (roots_of h m) = c.in_ok-add_all.ensures.order ∙ ap (fold added order) c.roots_of.ensures in
+    let after : c.add_all.new.search.order.items ≡ fold added order (roots_of h m) = c.in_ok-add_all.ensures.order
+    ∙ ap (fold added order) c.roots_of.ensures in
     record {
       same = c.in_ok-add_all.ensures.same;
       roots = subst (AreRootsFound h (m + 1)) (sym after) (roots_more h m order c.loop-mutator.invariant.roots);

@@ -3,8 +3,11 @@ use Rattle.mako_pause.proofs.Openings.{no_roles, roles_more}
 use Rattle.mako_pause.proofs.regions.opening_roles.Goals as goal
 
 pub loop-region-init : goal.loop-region-init
-loop-region-init c = record { items = c.in-Ok.ensures.items ∙ sym (no_roles c.args.shape.now);
-    len = c.in-Ok.ensures.len; capacity = refl }
+loop-region-init c = record {
+  items = c.in-Ok.ensures.items ∙ sym (no_roles c.args.shape.now);
+  len = c.in-Ok.ensures.len;
+  capacity = refl;
+}
 
 pub loop-region-preserved : goal.loop-region-preserved
 loop-region-preserved c =

@@ -1,4 +1,5 @@
-use Rattle.mako_phases.proofs.Says.{part_phase, names_rest, epochs_behind, tablets_stay, tablets_in_evac, ended_cleared, cycles_end}
+use Rattle.mako_phases.proofs.Says.{part_phase, names_rest, epochs_behind, tablets_stay, tablets_in_evac, ended_cleared}
+use Rattle.mako_phases.proofs.Says.{cycles_end}
 use Rattle.mako_phases.proofs.laws.the_order_tells.Goals as goal
 
 pub returns : goal.returns

@@ -23,7 +23,7 @@ loop-seat-preserved c =
     let tells : (v : Seat) → slice_get seats c.loop-seat.seat ≡ Some v → c.is_end.result ≡ is_end (place_of v) =
     λ v there. c.is_end.ensures ∙ ap is_end (c.place.ensures v there) in
     one_more seats c.loop-seat.seat c.loop-seat.seats.items _ c.is_end.result low c.loop-seat.invariant tells
-        (elim c.if-not-is_end.branch [
+    (elim c.if-not-is_end.branch [
       | then-not-is_end+in-Ok w ↦ with_seat c.is_end.result c.loop-seat.seats.items _ c.loop-seat.seat
           w.if-not-is_end.true
           (ap (λ (v : Vec ℕ Global). v.items) w.seats-is ∙ w.in-Ok.ensures.items)

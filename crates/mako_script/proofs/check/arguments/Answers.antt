@@ -9,7 +9,7 @@ pub returns-then-is_empty-clause-words : goal.returns-then-is_empty-clause-words
 returns-then-is_empty-clause-words c =
     let read = map (λ (word : Bor (List ℕ)). word.now) c.loop-word.words.items in
     let none : words_behind c.loop-word.rest.now ≡ [] = nil_is _ (no_words c.loop-word.rest.now
-        ∙ sym c.if-is_empty.ensures) in
+    ∙ sym c.if-is_empty.ensures) in
     sym (append-nil read) ∙ ap (λ (t : List (List ℕ)). read ++ t) (sym none) ∙ c.loop-word.invariant.read
 
 some_words : (words : List (List ℕ)) → is_nil words ≡ false → 0 < length words
@@ -20,7 +20,7 @@ pub returns-else-is_empty-clause-other : goal.returns-else-is_empty-clause-other
 returns-else-is_empty-clause-other c = λ same.
     let read = map (λ (word : Bor (List ℕ)). word.now) c.loop-word.words.items in
     let more = some_words (words_behind c.loop-word.rest.now) (no_words c.loop-word.rest.now
-        ∙ sym c.if-is_empty.ensures) in
+    ∙ sym c.if-is_empty.ensures) in
     omega (
       arith,
       more,

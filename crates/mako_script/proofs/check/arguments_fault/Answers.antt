@@ -15,11 +15,11 @@ loop-i-preserved c =
     let i = c.loop-i.i in
     let here = slice_get-get_or kinds i _ c.loop-i-test.true in
     let word = get_or-map word_now c.args.words.now i (record { ref_ptr = (0, 0); now = [] }) []
-        (omega (arith, c.requires, c.loop-i-test.true)) in
+    (omega (arith, c.requires, c.loop-i-test.true)) in
     let before = so_far names c.args.roots kinds words i _ here c.loop-i.first c.loop-i.invariant.none
-        c.loop-i.invariant.some in
+    c.loop-i.invariant.some in
     let now = word_is names c.args.roots kinds words i _ here c.argument_fault.result _ word
-        c.argument_fault.ensures.none c.argument_fault.ensures.some in
+    c.argument_fault.ensures.none c.argument_fault.ensures.some in
     let next = next_word names c.args.roots kinds words i _ here c.loop-i.first c.argument_fault.result before now in
     let told = subst (Arguments names c.args.roots kinds words i _ here (i + 1)) (sym c.earlier-first.ensures) next in
     record {

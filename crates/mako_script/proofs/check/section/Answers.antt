@@ -20,20 +20,20 @@ word_now w = w.now
 pub returns-then-eq-clause-read : goal.returns-then-eq-clause-read
 returns-then-eq-clause-read c =
     let end : bytes_eq c.in_ok-line.line.now end_word ≡ true =
-        ap (bytes_eq c.in_ok-line.line.now) (sym c.as_slice-in-commands.ensures) ∙ sym c.eq.ensures ∙ c.if-eq.true in
+    ap (bytes_eq c.in_ok-line.line.now) (sym c.as_slice-in-commands.ensures) ∙ sym c.eq.ensures ∙ c.if-eq.true in
     calls_finish c.args.roots c.args.before c.commands.commands (map word_now c.commands.names.items)
-        (lines_of c.args.lines.now.rest.now)
+    (lines_of c.args.lines.now.rest.now)
     (lines_of c.commands.lines.rest.now) c.in_ok-line.line.now
-        (lines_of c.expect.new.self.rest.now) c.commands.invariant.read c.in_ok-line.ensures.read end
+    (lines_of c.expect.new.self.rest.now) c.commands.invariant.read c.in_ok-line.ensures.read end
 
 pub returns-then-eq-clause-ended : goal.returns-then-eq-clause-ended
 returns-then-eq-clause-ended c = λ text sections start.
     let st = c.commands.invariant.inside text sections start in
     let line = c.in_ok-line.line.now in
     let end : bytes_eq line end_word ≡ true = ap (bytes_eq line) (sym c.as_slice-in-commands.ensures) ∙ sym c.eq.ensures
-        ∙ c.if-eq.true in
+    ∙ c.if-eq.true in
     ends text c.args.roots sections c.commands.commands c.commands.lines.line c.expect.new.self.line
-        (map word_now c.commands.names.items) (lines_of c.commands.lines.rest.now) st
+    (map word_now c.commands.names.items) (lines_of c.commands.lines.rest.now) st
     line (lines_of c.expect.new.self.rest.now) c.in_ok-line.ensures.read end c.in_ok-line.ensures.line
 
 pub returns-in_err-line-clause-fault : goal.returns-in_err-line-clause-fault
@@ -41,11 +41,11 @@ returns-in_err-line-clause-fault c = λ text sections start.
     let p = err_from_is_err_and c.from_residual.result c.from_residual.ensures.1 in
     let st = c.commands.invariant.inside text sections start in
     rw (p.1, p.2) (cut_inside text c.args.roots sections c.commands.commands c.commands.lines.line
-        (map word_now c.commands.names.items) (lines_of c.commands.lines.rest.now) st
+    (map word_now c.commands.names.items) (lines_of c.commands.lines.rest.now) st
     c.in_err-line.field-0.0.kind c.in_err-line.field-0.0.line c.in_err-line.ensures.fault.1
     (c.in_err-line.ensures.fault.0
-        ∙ next_line text c.args.roots sections c.commands.commands c.commands.lines.line c.expect.new.self.line
-        (map word_now c.commands.names.items)
+    ∙ next_line text c.args.roots sections c.commands.commands c.commands.lines.line c.expect.new.self.line
+    (map word_now c.commands.names.items)
     (lines_of c.commands.lines.rest.now) st c.in_err-line.ensures.line))
 
 pub returns-in-Err-clause-fault : goal.returns-in-Err-clause-fault
@@ -54,15 +54,15 @@ returns-in-Err-clause-fault c = λ text sections start.
     let st = c.commands.invariant.inside text sections start in
     let line = c.in_ok-line.line.now in
     let other : bytes_eq line end_word ≡ false = ap (bytes_eq line) (sym c.as_slice-in-commands.ensures)
-        ∙ sym c.eq.ensures ∙ c.if-eq.false in
+    ∙ sym c.eq.ensures ∙ c.if-eq.false in
     let at = c.fault.ensures.1
-        ∙ next_line text c.args.roots sections c.commands.commands c.commands.lines.line c.expect.new.self.line names
-        (lines_of c.commands.lines.rest.now) st c.in_ok-line.ensures.line in
+    ∙ next_line text c.args.roots sections c.commands.commands c.commands.lines.line c.expect.new.self.line names
+    (lines_of c.commands.lines.rest.now) st c.in_ok-line.ensures.line in
     let first = subst (λ (ns : List (Bor (List ℕ))). IsFirstOfCommand (map word_now ns) c.args.roots
-        (words_of line) c.in-Err.kind) c.deref.ensures.0 c.in-Err.ensures.fault in
+    (words_of line) c.in-Err.kind) c.deref.ensures.0 c.in-Err.ensures.fault in
     subst (λ (kind : Kind). IsFirstFault text kind c.fault.result.line) (sym c.fault.ensures.0)
     (command_first text c.args.roots sections c.commands.commands c.commands.lines.line names
-        (lines_of c.commands.lines.rest.now) st line (lines_of c.expect.new.self.rest.now)
+    (lines_of c.commands.lines.rest.now) st line (lines_of c.expect.new.self.rest.now)
     c.in_ok-line.ensures.read other c.in-Err.kind c.fault.result.line first at)
 
 pub returns-then-commands-ge-MAX_COMMANDS-clause-fault : goal.returns-then-commands-ge-MAX_COMMANDS-clause-fault
@@ -71,51 +71,57 @@ returns-then-commands-ge-MAX_COMMANDS-clause-fault c = λ text sections start.
     let st = c.commands.invariant.inside text sections start in
     let line = c.in_ok-line.line.now in
     let other : bytes_eq line end_word ≡ false = ap (bytes_eq line) (sym c.as_slice-in-commands.ensures)
-        ∙ sym c.eq.ensures ∙ c.if-eq.false in
+    ∙ sym c.eq.ensures ∙ c.if-eq.false in
     let here = subst (λ (ns : List (Bor (List ℕ))). IsRead c.args.roots (map word_now ns) (words_of line)
-        (with_name (map word_now ns) (option_map word_now c.in-Ok.new))) c.deref.ensures.0 c.in-Ok.ensures.read in
+    (with_name (map word_now ns) (option_map word_now c.in-Ok.new))) c.deref.ensures.0 c.in-Ok.ensures.read in
     let at = c.fault-then-commands-ge-MAX_COMMANDS.ensures.1
     ∙ next_line text c.args.roots sections c.commands.commands c.commands.lines.line c.expect.new.self.line names
-        (lines_of c.commands.lines.rest.now) st c.in_ok-line.ensures.line in
+    (lines_of c.commands.lines.rest.now) st c.in_ok-line.ensures.line in
     subst (λ (kind : Kind). IsFirstFault text kind c.fault-then-commands-ge-MAX_COMMANDS.result.line)
-        (sym c.fault-then-commands-ge-MAX_COMMANDS.ensures.0)
+    (sym c.fault-then-commands-ge-MAX_COMMANDS.ensures.0)
     (many_first text c.args.roots sections c.commands.commands c.commands.lines.line names
-        (lines_of c.commands.lines.rest.now) st line (lines_of c.expect.new.self.rest.now)
+    (lines_of c.commands.lines.rest.now) st line (lines_of c.expect.new.self.rest.now)
     c.in_ok-line.ensures.read other
-        (with_name names (option_map word_now c.in-Ok.new)) here c.fault-then-commands-ge-MAX_COMMANDS.result.line
-        c.if-commands-ge-MAX_COMMANDS.true at)
+    (with_name names (option_map word_now c.in-Ok.new)) here c.fault-then-commands-ge-MAX_COMMANDS.result.line
+    c.if-commands-ge-MAX_COMMANDS.true at)
 
 pub commands-preserved-in-Some : goal.commands-preserved-in-Some
 commands-preserved-in-Some c =
     let names = map word_now c.commands.names.items in
     let line = c.in_ok-line.line.now in
     let other : bytes_eq line end_word ≡ false = ap (bytes_eq line) (sym c.as_slice-in-commands.ensures)
-        ∙ sym c.eq.ensures ∙ c.if-eq.false in
+    ∙ sym c.eq.ensures ∙ c.if-eq.false in
     let read = subst (λ (o : Option (Bor (List ℕ))). IsRead c.args.roots (map word_now c.deref.result.now)
-        (words_of line) (with_name (map word_now c.deref.result.now) (option_map word_now o)))
+    (words_of line) (with_name (map word_now c.deref.result.now) (option_map word_now o)))
     c.in-Some.is c.in-Ok.ensures.read in
     let here = subst (λ (ns : List (Bor (List ℕ))). IsRead c.args.roots (map word_now ns) (words_of line)
-        (map word_now ns ++ c.in-Some.name.now ∷ [])) c.deref.ensures.0 read in
+    (map word_now ns ++ c.in-Some.name.now ∷ [])) c.deref.ensures.0 read in
     let after = ap (map word_now) c.push-in-Some.ensures.items
-        ∙ map-append word_now c.commands.names.items (c.in-Some.name ∷ []) in
+    ∙ map-append word_now c.commands.names.items (c.in-Some.name ∷ []) in
     let next = calls_go c.args.roots c.args.before c.commands.commands names (lines_of c.args.lines.now.rest.now)
-        (lines_of c.commands.lines.rest.now) line
+    (lines_of c.commands.lines.rest.now) line
     (lines_of c.expect.new.self.rest.now)
-        (names ++ c.in-Some.name.now ∷ []) c.commands.invariant.read c.in_ok-line.ensures.read other here
-        c.if-commands-ge-MAX_COMMANDS.false in
+    (names ++ c.in-Some.name.now ∷ []) c.commands.invariant.read c.in_ok-line.ensures.read other here
+    c.if-commands-ge-MAX_COMMANDS.false in
     record {
       few = (let room = subst (λ (o : Option (Bor (List ℕ))). IsSome o
           → length c.deref.result.now < c.args.roots) c.in-Some.is c.in-Ok.ensures.room refl in
-          omega (arith, room, ap length c.deref.ensures.0, ap length c.push-in-Some.ensures.items,
-              length_push c.commands.names.items c.in-Some.name, c.requires));
+          omega (
+            arith,
+            room,
+            ap length c.deref.ensures.0,
+            ap length c.push-in-Some.ensures.items,
+            length_push c.commands.names.items c.in-Some.name,
+            c.requires,
+          ));
       left = omega (arith, c.in_ok-line.ensures.shorter, c.commands.invariant.left);
       inside = λ text sections start.
           subst (λ (ns : List (List ℕ)). Inside text c.args.roots sections
-              (c.commands.commands + 1) ns c.expect.new.self.line (lines_of c.expect.new.self.rest.now)) (sym after)
+          (c.commands.commands + 1) ns c.expect.new.self.line (lines_of c.expect.new.self.rest.now)) (sym after)
           (goes_on text c.args.roots sections c.commands.commands c.commands.lines.line c.expect.new.self.line names
-              (lines_of c.commands.lines.rest.now)
+          (lines_of c.commands.lines.rest.now)
           (c.commands.invariant.inside text sections start) line (lines_of c.expect.new.self.rest.now)
-              (names ++ c.in-Some.name.now ∷ []) c.in_ok-line.ensures.read other here
+          (names ++ c.in-Some.name.now ∷ []) c.in_ok-line.ensures.read other here
           c.if-commands-ge-MAX_COMMANDS.false c.in_ok-line.ensures.line);
       read = subst (λ (ns : List (List ℕ)). CallsSoFar c.args.roots c.args.before (c.commands.commands + 1) ns
           (lines_of c.args.lines.now.rest.now) (lines_of c.expect.new.self.rest.now)) (sym after) next;
@@ -126,23 +132,23 @@ commands-preserved c =
     let names = map word_now c.commands.names.items in
     let line = c.in_ok-line.line.now in
     let other : bytes_eq line end_word ≡ false = ap (bytes_eq line) (sym c.as_slice-in-commands.ensures)
-        ∙ sym c.eq.ensures ∙ c.if-eq.false in
+    ∙ sym c.eq.ensures ∙ c.if-eq.false in
     let read = subst (λ (o : Option (Bor (List ℕ))). IsRead c.args.roots (map word_now c.deref.result.now)
-        (words_of line) (with_name (map word_now c.deref.result.now) (option_map word_now o)))
+    (words_of line) (with_name (map word_now c.deref.result.now) (option_map word_now o)))
     c.in_default.is c.in-Ok.ensures.read in
     let here = subst (λ (ns : List (Bor (List ℕ))). IsRead c.args.roots (map word_now ns) (words_of line)
-        (map word_now ns)) c.deref.ensures.0 read in
+    (map word_now ns)) c.deref.ensures.0 read in
     record {
       few = c.commands.invariant.few;
       left = omega (arith, c.in_ok-line.ensures.shorter, c.commands.invariant.left);
       inside = λ text sections start.
           goes_on text c.args.roots sections c.commands.commands c.commands.lines.line c.expect.new.self.line names
-              (lines_of c.commands.lines.rest.now)
+          (lines_of c.commands.lines.rest.now)
           (c.commands.invariant.inside text sections start) line
-              (lines_of c.expect.new.self.rest.now) names c.in_ok-line.ensures.read other here
+          (lines_of c.expect.new.self.rest.now) names c.in_ok-line.ensures.read other here
           c.if-commands-ge-MAX_COMMANDS.false c.in_ok-line.ensures.line;
       read = calls_go c.args.roots c.args.before c.commands.commands names (lines_of c.args.lines.now.rest.now)
           (lines_of c.commands.lines.rest.now) line
           (lines_of c.expect.new.self.rest.now) names c.commands.invariant.read c.in_ok-line.ensures.read other here
-              c.if-commands-ge-MAX_COMMANDS.false;
+          c.if-commands-ge-MAX_COMMANDS.false;
     }

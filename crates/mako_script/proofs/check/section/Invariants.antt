@@ -14,7 +14,7 @@ invariant-commands l = record {
   inside : (text : List ℕ) (sections : ℕ)
       → Inside text l.roots sections l.before (board_name ∷ []) l.initial.lines.line (lines_of l.initial.lines.rest.now)
       → Inside text l.roots sections l.commands (map (λ name. name.now) l.names.items) l.lines.line
-          (lines_of l.lines.rest.now);
+      (lines_of l.lines.rest.now);
 }
 
 abbrev pub decreases-commands : goal.decreases-commands

@@ -34,10 +34,13 @@ pub returns-in_default : goal.returns-in_default
 returns-in_default c =
     let behind = words_behind c.split_word.result.1.now in
     let none : word_at behind ≡ None =
-        subst (λ (e : Refusal). Refuses e (word_at behind)) c.in_default.ensures.kind c.in_default.ensures.read in
-    inl (λ word e. no_second
-        (words_of c.args.line.now) c.split_word.result.0.now behind c.split_word.ensures none c.args.key.now.word.now
-        word e, refl)
+    subst (λ (e : Refusal). Refuses e (word_at behind)) c.in_default.ensures.kind c.in_default.ensures.read in
+    inl (
+      λ word e. no_second
+          (words_of c.args.line.now) c.split_word.result.0.now behind c.split_word.ensures none c.args.key.now.word.now
+          word e,
+      refl,
+    )
 
 pub returns-then-ne : goal.returns-then-ne
 returns-then-ne c =
@@ -46,7 +49,7 @@ returns-then-ne c =
     let more = words_behind c.in-Ok.rest.now in
     let behind = word_takes (words_behind c.split_word.result.1.now) (c.in-Ok.number.now, more) c.in-Ok.ensures.read in
     let words : words_of c.args.line.now ≡ w ∷ c.in-Ok.number.now ∷ more = c.split_word.ensures
-        ∙ ap (λ (ws : List (List ℕ)). w ∷ ws) behind in
+    ∙ ap (λ (ws : List (List ℕ)). w ∷ ws) behind in
     inl (
       λ word e.
           let same : w ∷ c.in-Ok.number.now ∷ more ≡ key ∷ word ∷ [] = sym words ∙ e in
@@ -65,7 +68,7 @@ returns c =
     let more = words_behind c.in-Ok.rest.now in
     let behind = word_takes (words_behind c.split_word.result.1.now) (c.in-Ok.number.now, more) c.in-Ok.ensures.read in
     let words : words_of c.args.line.now ≡ w ∷ c.in-Ok.number.now ∷ more = c.split_word.ensures
-        ∙ ap (λ (ws : List (List ℕ)). w ∷ ws) behind in
+    ∙ ap (λ (ws : List (List ℕ)). w ∷ ws) behind in
     let is_key : w ≡ key = same_key w key (sym c.if-ne.ensures) in
     let none : more ≡ [] = nil_is more (no_words c.in-Ok.rest.now ∙ sym c.if-not-is_empty.ensures) in
     inr (c.in-Ok.number.now, words ∙ (λ i. is_key i ∷ c.in-Ok.number.now ∷ none i), c.value.ensures)

@@ -16,9 +16,9 @@ returns-in_err-line-clause-fault c =
     let text = c.args.lines.now.rest.now in
     let i = c.loop-key.key-index in
     let eleven : i < 11 =
-        omega (arith, c.loop-key-test.true, ap length c.requires.table, length-map c.args.table.now key_view) in
+    omega (arith, c.loop-key-test.true, ap length c.requires.table, length-map c.args.table.now key_view) in
     rw (p.1, p.2) (cut_first text i c.in_err-line.field-0.0.kind c.in_err-line.field-0.0.line
-        (lines_of c.loop-key.lines.rest.now) eleven
+    (lines_of c.loop-key.lines.rest.now) eleven
     (omega (arith, c.in_err-line.ensures.fault.0, c.in_err-line.ensures.line, c.loop-key.invariant.line))
     (settings_before (lines_of text) c.loop-key.values.items i c.loop-key.invariant.count c.loop-key.invariant.read)
     c.loop-key.invariant.left c.in_err-line.ensures.fault.1)
@@ -29,16 +29,16 @@ returns-in-Err-clause-fault c =
     let i = c.loop-key.key-index in
     let line = c.in_ok-line.line.now in
     let eleven : i < 11 =
-        omega (arith, c.loop-key-test.true, ap length c.requires.table, length-map c.args.table.now key_view) in
+    omega (arith, c.loop-key-test.true, ap length c.requires.table, length-map c.args.table.now key_view) in
     let nth = setting_line text i (lines_of c.loop-key.lines.rest.now)
-        (lines_of c.expect.new.self.rest.now) line c.loop-key.invariant.left c.in_ok-line.ensures.read in
+    (lines_of c.expect.new.self.rest.now) line c.loop-key.invariant.left c.in_ok-line.ensures.read in
     let key = key_is c.args.table.now i _ c.requires.table c.loop-key-test.true in
     let wrong = subst (λ (k : List ℕ
-        × (ℕ × ℕ)). IsSettingLine k (words_of line) (Err c.in-Err.kind)) key c.in-Err.ensures in
+    × (ℕ × ℕ)). IsSettingLine k (words_of line) (Err c.in-Err.kind)) key c.in-Err.ensures in
     let first = wrong_first text i c.in-Err.kind c.fault.result.line line (lines_of c.expect.new.self.rest.now) eleven
     (omega (arith, c.fault.ensures.1, c.in_ok-line.ensures.line, c.loop-key.invariant.line))
     (settings_before (lines_of text) c.loop-key.values.items i c.loop-key.invariant.count c.loop-key.invariant.read) nth
-        c.in_ok-line.ensures.read.2 wrong in
+    c.in_ok-line.ensures.read.2 wrong in
     subst (λ (kind : Kind). IsFirstFault text kind c.fault.result.line) (sym c.fault.ensures.0) first
 
 pub loop-key-preserved : goal.loop-key-preserved
@@ -49,17 +49,17 @@ loop-key-preserved c =
     let n = c.in-Ok.value in
     let line = c.in_ok-line.line.now in
     let eleven : i < 11 =
-        omega (arith, c.loop-key-test.true, ap length c.requires.table, length-map c.args.table.now key_view) in
+    omega (arith, c.loop-key-test.true, ap length c.requires.table, length-map c.args.table.now key_view) in
     let nth = setting_line text i (lines_of c.loop-key.lines.rest.now)
-        (lines_of c.expect.new.self.rest.now) line c.loop-key.invariant.left c.in_ok-line.ensures.read in
+    (lines_of c.expect.new.self.rest.now) line c.loop-key.invariant.left c.in_ok-line.ensures.read in
     let key = key_is c.args.table.now i _ c.requires.table c.loop-key-test.true in
     let right = subst (λ (k : List ℕ × (ℕ × ℕ)). IsSettingLine k (words_of line) (Ok n)) key c.in-Ok.ensures in
     let has : HasSetting (lines_of text) i n =
-        with_setting (lines_of text) i line
-        (lines_of c.expect.new.self.rest.now) n nth c.in_ok-line.ensures.read.2 right in
+    with_setting (lines_of text) i line
+    (lines_of c.expect.new.self.rest.now) n nth c.in_ok-line.ensures.read.2 right in
     let items = c.push.ensures.items in
     let here : HasSetting (lines_of text) (length v) n =
-        subst (λ (at : ℕ). HasSetting (lines_of text) at n) (sym c.loop-key.invariant.count) has in
+    subst (λ (at : ℕ). HasSetting (lines_of text) at n) (sym c.loop-key.invariant.count) has in
     record {
       count = omega (arith, ap length items, length_push v n, c.loop-key.invariant.count);
       read = subst (HaveSettings (lines_of text)) (sym items)

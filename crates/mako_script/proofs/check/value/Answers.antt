@@ -9,8 +9,8 @@ use Rattle.mako_script.proofs.check.value.Goals.{then-value-from-via-else-value-
 pub returns-in_default : goal.returns-in_default
 returns-in_default c = λ n h.
     let none : number_at c.args.word.now ≡ None =
-        subst (λ (e : Refusal). Refuses e (number_at c.args.word.now)) c.in_default.ensures.kind
-        c.in_default.ensures.read in
+    subst (λ (e : Refusal). Refuses e (number_at c.args.word.now)) c.in_default.ensures.kind
+    c.in_default.ensures.read in
     let some : number_at c.args.word.now ≡ Some n = ap number_at h.0 ∙ ten_digits_again n h.1 in
     cc
 
@@ -30,6 +30,9 @@ returns-then-value-from c =
 pub returns : goal.returns
 returns c =
     let word = c.args.word.now in
-    let read : number_at word ≡ Some c.in-Ok.value = c.in-Ok.ensures.read in
-    ((number_takes word c.in-Ok.value read, number_few word c.in-Ok.value read), omega (arith, c.from.ensures), omega
-        (arith, c.from-else-value-from.ensures))
+    let read : number_at word ≡ Some c.in-Ok.value = c.in-Ok.ensures.read in (
+      (number_takes word c.in-Ok.value read, number_few word c.in-Ok.value read),
+      omega (arith, c.from.ensures),
+      omega
+          (arith, c.from-else-value-from.ensures),
+    )

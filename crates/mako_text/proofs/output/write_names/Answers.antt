@@ -12,18 +12,25 @@ pub returns-in_err-went-clause-written : goal.returns-in_err-went-clause-written
 returns-in_err-went-clause-written g c =
     let p = err_from_is_err_and c.from_residual.result c.from_residual.ensures.1 in
     let names = c.args.names.now in
-    let split = flat_more freed_text names c.loop-i.i _ c.loop-i-test.true ∙ ap (λ (x : List ℕ). x ++ flat_map freed_text (drop (c.loop-i.i + 1) names)) (sym (c.deref.ensures.0 ∙ c.freed_bytes-piece.ensures)) in
+    let split = flat_more freed_text names c.loop-i.i _ c.loop-i-test.true
+    ∙ ap (λ (x : List ℕ). x ++ flat_map freed_text (drop (c.loop-i.i + 1) names)) (sym (c.deref.ensures.0
+    ∙ c.freed_bytes-piece.ensures)) in
     rw (p.1, p.2) (stops _ _ c.deref.result.now _ _ _ _ _ _ _ c.loop-i.invariant.0 split c.in_err-went.ensures.written)
 
 pub loop-i-preserved : goal.loop-i-preserved
 loop-i-preserved g c =
     let names = c.args.names.now in
-    let split = flat_more freed_text names c.loop-i.i _ c.loop-i-test.true ∙ ap (λ (x : List ℕ). x ++ flat_map freed_text (drop (c.loop-i.i + 1) names)) (sym (c.deref.ensures.0 ∙ c.freed_bytes-piece.ensures)) in (
-      goes_on _ _ c.deref.result.now _ _ _ _ _ _ _ c.loop-i.invariant.0 split c.in_ok-went.ensures.written.0 c.in_ok-went.ensures.written.1,
+    let split = flat_more freed_text names c.loop-i.i _ c.loop-i-test.true
+    ∙ ap (λ (x : List ℕ). x ++ flat_map freed_text (drop (c.loop-i.i + 1) names)) (sym (c.deref.ensures.0
+    ∙ c.freed_bytes-piece.ensures)) in (
+      goes_on _ _ c.deref.result.now _ _ _ _ _ _ _ c.loop-i.invariant.0 split c.in_ok-went.ensures.written.0
+          c.in_ok-went.ensures.written.1,
       omega (arith, c.in_ok-went.ensures.counted, c.loop-i.invariant.1),
     )
 
 pub returns-clause-written : goal.returns-clause-written
 returns-clause-written g c =
     let none = flat_none freed_text c.args.names.now c.loop-i.i c.loop-i-test.false in
-    done _ _ _ _ _ (subst (λ (t : List ℕ). Progress (flat_map freed_text c.args.names.now) t (g.K.Sink.taken c.args.sink.now) (g.K.Sink.taken c.loop-i.sink) c.args.before c.loop-i.went) none c.loop-i.invariant.0)
+    done _ _ _ _ _ (subst
+    (λ (t : List ℕ). Progress (flat_map freed_text c.args.names.now) t (g.K.Sink.taken c.args.sink.now)
+    (g.K.Sink.taken c.loop-i.sink) c.args.before c.loop-i.went) none c.loop-i.invariant.0)

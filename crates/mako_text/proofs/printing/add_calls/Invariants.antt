@@ -6,4 +6,6 @@ use Rattle.mako_text.proofs.printing.add_calls.Given as goal
 
 abbrev pub invariant-loop-call : goal.invariant-loop-call
 invariant-loop-call l =
-    l.text.items ++ flat_map (λ c. line_text (command_words (texts l.names) c)) (drop l.call-index l.calls) ≡ l.initial.text.items ++ flat_map (λ c. line_text (command_words (texts l.names) c)) l.calls
+    l.text.items ++ flat_map (λ c. line_text (command_words (texts l.names) c))
+    (drop l.call-index l.calls) ≡ l.initial.text.items ++ flat_map
+    (λ c. line_text (command_words (texts l.names) c)) l.calls

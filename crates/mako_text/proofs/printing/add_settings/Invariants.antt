@@ -7,4 +7,6 @@ use Rattle.mako_text.proofs.printing.add_settings.Given as goal
 
 abbrev pub invariant-loop-i : goal.invariant-loop-i
 invariant-loop-i l =
-    l.text.items ++ flat_map line_text (setting_lines (drop l.i (map key_view l.table)) (drop l.i l.values)) ≡ l.initial.text.items ++ flat_map line_text (setting_lines (map key_view l.table) l.values)
+    l.text.items ++ flat_map line_text
+    (setting_lines (drop l.i (map key_view l.table)) (drop l.i l.values)) ≡ l.initial.text.items ++ flat_map
+    line_text (setting_lines (map key_view l.table) l.values)

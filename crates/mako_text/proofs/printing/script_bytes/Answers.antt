@@ -13,9 +13,11 @@ unfolding script_text
 returns c =
     let s = c.args.script.now in
     let sections : List ProgramView → List ℕ = flat_map (λ p. flat_map line_text (section_lines p)) in
-    let programs : c.deref.result.now ≡ s.programs = c.deref.ensures.value ∙ ap (λ (t : ScriptView). t.programs) c.script.view_is in
+    let programs : c.deref.result.now ≡ s.programs = c.deref.ensures.value
+    ∙ ap (λ (t : ScriptView). t.programs) c.script.view_is in
     let set : c.add_settings.new.text.items ≡ flat_map line_text (map setting_words (settings s)) =
-    c.in_ok-add_settings.ensures ∙ ap (λ (t : List ℕ). t ++ flat_map line_text (setting_lines keys c.values_in.result)) c.new-text.ensures.items
+    c.in_ok-add_settings.ensures
+    ∙ ap (λ (t : List ℕ). t ++ flat_map line_text (setting_lines keys c.values_in.result)) c.new-text.ensures.items
     ∙ ap (λ (vs : List ℕ). flat_map line_text (setting_lines keys vs)) c.values_in.ensures in
     record {
       proper = subst IsProper c.script.view_is c.script.invariant;

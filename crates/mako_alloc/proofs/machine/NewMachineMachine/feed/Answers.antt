@@ -10,7 +10,8 @@ goes_on c =
     subst (λ (a : Allocation). Fits a c.args.before) (sym c.self.view_is) c.requires.fits in
     let act : IsAct (next_of (record { job = c.self.inside.job; progress = c.self.inside.progress })) =
     subst (λ (a : Allocation). IsAct (next_of a)) (sym c.self.view_is) c.requires.acts in
-    rw c.after-self-inside.ensures (step_goes_on c.self.inside.job c.self.inside.progress c.args.before c.self.invariant fits act)
+    rw c.after-self-inside.ensures
+    (step_goes_on c.self.inside.job c.self.inside.progress c.args.before c.self.invariant fits act)
 
 pub invariant_of-self : goal.invariant_of-self
 invariant_of-self c = (goes_on c).0

@@ -26,14 +26,16 @@ returns-then-not-tells-clause-rank c =
     let v = c.args.self.now in
     let known : IsKnown v = subst IsKnown c.self.view_is c.self.invariant in
     let same = put_together _ v c.args.before _ _ c.self.view_is c.slot_after-slot.ensures c.feed-tells.ensures.fed in
-    λ _. subst (λ (q : Calling). rank q < rank v) (sym same) (call_goes v c.args.before known c.requires.fits c.requires.acts).lower
+    λ _. subst (λ (q : Calling). rank q < rank v) (sym same)
+    (call_goes v c.args.before known c.requires.fits c.requires.acts).lower
 
 pub returns-clause-rank : goal.returns-clause-rank
 returns-clause-rank c =
     let v = c.args.self.now in
     let known : IsKnown v = subst IsKnown c.self.view_is c.self.invariant in
     let same = put_together _ v c.args.before _ _ c.self.view_is c.slot_after-slot.ensures c.feed-tells.ensures.fed in
-    λ _. subst (λ (q : Calling). rank q < rank v) (sym same) (call_goes v c.args.before known c.requires.fits c.requires.acts).lower
+    λ _. subst (λ (q : Calling). rank q < rank v) (sym same)
+    (call_goes v c.args.before known c.requires.fits c.requires.acts).lower
 
 pub returns-clause-event : goal.returns-clause-event
 returns-clause-event c =
@@ -43,9 +45,12 @@ returns-clause-event c =
     let told = sym c.feed-tells.ensures.told ∙ c.if-not-tells.false in
     let Tells : Option Reply → Type 0 = λ o. c.match-decided.result ≡ event_by i.caller.mutator i.call None o in
     let first : Tells (decided new) = elim c.match-decided.branch [
-      | in-Some b ↦ b.result-is ∙ ap (λ o. event_by i.caller.mutator i.call None o) (sym b.in-Some.is ∙ c.decided.ensures)
-      | in-None b ↦ b.result-is ∙ ap (λ o. event_by i.caller.mutator i.call None o) (sym b.in-None.is ∙ c.decided.ensures)
+      | in-Some b ↦ b.result-is
+          ∙ ap (λ o. event_by i.caller.mutator i.call None o) (sym b.in-Some.is ∙ c.decided.ensures)
+      | in-None b ↦ b.result-is
+          ∙ ap (λ o. event_by i.caller.mutator i.call None o) (sym b.in-None.is ∙ c.decided.ensures)
     ] in
     let first_is = sym (tells_first i.caller.mutator i.call (decided i.stage) (decided new) told) in
-    let fed_is = ap (λ (s : CallStage). event_by i.caller.mutator i.call (decided i.stage) (decided s)) c.feed-tells.ensures.fed in
+    let fed_is = ap (λ (s : CallStage). event_by i.caller.mutator i.call (decided i.stage)
+    (decided s)) c.feed-tells.ensures.fed in
     first ∙ (first_is ∙ (fed_is ∙ ap (λ (q : Calling). event_of q w) c.self.view_is))

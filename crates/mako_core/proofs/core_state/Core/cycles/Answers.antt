@@ -13,10 +13,10 @@ unreachable-requires g c =
     let many = count in_.script.value.numbers (facts_of in_.script.value) _ c.self.invariant.stands in
     let low : c.len-last.result - 1 < length in_.seats.items = omega (arith, len, many) in
     let here = slice_get_read in_.seats.items (length in_.seats.items)
-        (c.len-last.result - 1) v refl low c.index.ensures in
+    (c.len-last.result - 1) v refl low c.index.ensures in
     let last = last_collector in_.script.value.numbers (facts_of in_.script.value) _ c.self.invariant.stands in
     c.in_default.not-Collector last.collector (same_Some v _ (sym here
-        ∙ ap (λ (k : ℕ). slice_get in_.seats.items (k - 1)) len ∙ last.last))
+    ∙ ap (λ (k : ℕ). slice_get in_.seats.items (k - 1)) len ∙ last.last))
 
 pub returns : goal.returns
 returns g c =
@@ -26,8 +26,8 @@ returns g c =
     let many = count in_.script.value.numbers (facts_of in_.script.value) _ c.self.invariant.stands in
     let low : c.len-last.result - 1 < length in_.seats.items = omega (arith, len, many) in
     let here = slice_get_read in_.seats.items (length in_.seats.items)
-        (c.len-last.result - 1) v refl low c.index.ensures in
+    (c.len-last.result - 1) v refl low c.index.ensures in
     ap (λ l. l.lists) c.cycles.ensures
     ∙ sym (ap cycles_kept (ap (λ (k : ℕ). slice_get in_.seats.items (k - 1)) (sym len) ∙ here
-        ∙ ap (λ x. Some x) c.in-Collector.is))
+    ∙ ap (λ x. Some x) c.in-Collector.is))
     ∙ ap (λ (q : CoreView). q.state.front.finished) c.self.view_is

@@ -47,10 +47,10 @@ returns-clause-whole g c =
     let rest = c.take_collector-collector.ensures.rest in
     let count = listed.count in
     let lists_are : map (λ (v : Vec Reply Global). v.items) c.with_replies.result.items ≡ replies_in
-        (take (length items - 1) items) =
+    (take (length items - 1) items) =
     c.with_replies.ensures
-        ∙ ap (λ ls. map (λ (v : Vec Reply Global). v.items) ls ++ replies_in c.take_collector-collector.new.seats.items)
-        c.self.invariant.lists_are ∙ ap replies_in rest in
+    ∙ ap (λ ls. map (λ (v : Vec Reply Global). v.items) ls ++ replies_in c.take_collector-collector.new.seats.items)
+    c.self.invariant.lists_are ∙ ap replies_in rest in
     let many = ap length lists_are in
     record {
       replies = λ m low. ap (λ (l : List (List Reply)). slice_get l m) lists_are
@@ -73,14 +73,14 @@ returns-clause-lists g c =
     let rest = c.take_collector-collector.ensures.rest in
     let count = listed.count in
     let lists_are : map (λ (v : Vec Reply Global). v.items) c.with_replies.result.items ≡ replies_in
-        (take (length items - 1) items) =
+    (take (length items - 1) items) =
     c.with_replies.ensures
-        ∙ ap (λ ls. map (λ (v : Vec Reply Global). v.items) ls ++ replies_in c.take_collector-collector.new.seats.items)
-        c.self.invariant.lists_are ∙ ap replies_in rest in
+    ∙ ap (λ ls. map (λ (v : Vec Reply Global). v.items) ls ++ replies_in c.take_collector-collector.new.seats.items)
+    c.self.invariant.lists_are ∙ ap replies_in rest in
     let programs = length-map {A = ProgramView} {B = List Call} s.programs (λ p. p.calls) in
     let mutators = programs_count s.numbers (facts_of s) _ stands in
     ap length lists_are ∙ count ∙ sym mutators ∙ programs
-        ∙ ap (λ (q : CoreView). length q.script.programs) c.self.view_is
+    ∙ ap (λ (q : CoreView). length q.script.programs) c.self.view_is
 
 pub returns-clause-front : goal.returns-clause-front
 returns-clause-front g c =
@@ -89,9 +89,11 @@ returns-clause-front g c =
     let stands = c.self.invariant.stands in
     let items = in_.seats.items in
     let finished = c.of-front.ensures.finished ∙ ap (λ l. l.lists) c.cycles.ensures
-        ∙ sym (ap cycles_kept c.take_collector-collector.ensures.collector) in
-    let front : c.of-front.result ≡ record { history = in_.journal.points;
-        finished = cycles_kept (slice_get items (length items - 1)) } =
+    ∙ sym (ap cycles_kept c.take_collector-collector.ensures.collector) in
+    let front : c.of-front.result ≡ record {
+      history = in_.journal.points;
+      finished = cycles_kept (slice_get items (length items - 1));
+    } =
     λ k. record { history = c.of-front.ensures.history k; finished = finished k } in
     front ∙ ap (λ (q : CoreView). q.state.front) c.self.view_is
 
@@ -102,9 +104,11 @@ returns-clause-answers g c =
     let stands = c.self.invariant.stands in
     let items = in_.seats.items in
     let finished = c.of-front.ensures.finished ∙ ap (λ l. l.lists) c.cycles.ensures
-        ∙ sym (ap cycles_kept c.take_collector-collector.ensures.collector) in
-    let front : c.of-front.result ≡ record { history = in_.journal.points;
-        finished = cycles_kept (slice_get items (length items - 1)) } =
+    ∙ sym (ap cycles_kept c.take_collector-collector.ensures.collector) in
+    let front : c.of-front.result ≡ record {
+      history = in_.journal.points;
+      finished = cycles_kept (slice_get items (length items - 1));
+    } =
     λ k. record { history = c.of-front.ensures.history k; finished = finished k } in
     subst (λ (q : CoreView). Answers (facts_of q.script) c.of-front.result) c.self.view_is
     (subst (λ (f : Seen). Answers (facts_of s) f) (sym front) (answers s.numbers (facts_of s) _ stands))
@@ -116,14 +120,16 @@ returns-clause-end g c =
     let stands = c.self.invariant.stands in
     let items = in_.seats.items in
     let finished = c.of-front.ensures.finished ∙ ap (λ l. l.lists) c.cycles.ensures
-        ∙ sym (ap cycles_kept c.take_collector-collector.ensures.collector) in
-    let front : c.of-front.result ≡ record { history = in_.journal.points;
-        finished = cycles_kept (slice_get items (length items - 1)) } =
+    ∙ sym (ap cycles_kept c.take_collector-collector.ensures.collector) in
+    let front : c.of-front.result ≡ record {
+      history = in_.journal.points;
+      finished = cycles_kept (slice_get items (length items - 1));
+    } =
     λ k. record { history = c.of-front.ensures.history k; finished = finished k } in
     subst (λ (q : CoreView). AllAtEnd q.script.numbers q.state.seats
-        → AnswersToEnd (facts_of q.script) c.of-front.result) c.self.view_is
+    → AnswersToEnd (facts_of q.script) c.of-front.result) c.self.view_is
     (λ end. subst (λ (f : Seen). AnswersToEnd (facts_of s) f) (sym front)
-        (answers_to_end s.numbers (facts_of s) _ stands end))
+    (answers_to_end s.numbers (facts_of s) _ stands end))
 
 pub returns-clause-holds : goal.returns-clause-holds
 returns-clause-holds g c =

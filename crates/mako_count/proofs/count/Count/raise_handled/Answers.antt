@@ -3,4 +3,9 @@ use Rattle.mako_count.proofs.WorkerSteps.{raises_handled}
 use Rattle.mako_count.proofs.count.Count.raise_handled.Goals as goal
 
 pub fetch_add-requires : goal.fetch_add-requires
-fetch_add-requires c = (c.requires.table.0, omega arith, raises_handled c.args.self.now.table.shared.key _ _ _ _ _ _ c.args.self.now.crew c.requires.worker.0 c.requires.worker.1 c.requires.worker.2 refl)
+fetch_add-requires c = (
+  c.requires.table.0,
+  omega arith,
+  raises_handled c.args.self.now.table.shared.key _ _ _ _ _ _ c.args.self.now.crew c.requires.worker.0
+      c.requires.worker.1 c.requires.worker.2 refl,
+)

@@ -8,4 +8,5 @@ pub entry-requires : goal.entry-requires
 entry-requires c =
     let placed : IsPlaced c.args.owner.now c.args.tablet c.in-LoadingEntry.home c.in-LoadingEntry.entry =
     subst (λ (s : TabletStage). TabletIsKnown c.args.owner.now c.args.tablet s) c.in-LoadingEntry.is c.requires.known in
-    record_within c.args.owner.now c.args.tablet c.in-LoadingEntry.entry c.requires.owner c.requires.tablet placed.entry_is
+    record_within c.args.owner.now c.args.tablet c.in-LoadingEntry.entry c.requires.owner c.requires.tablet
+    placed.entry_is

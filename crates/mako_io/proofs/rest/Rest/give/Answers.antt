@@ -4,4 +4,5 @@ use Rattle.mako_io.proofs.Parts.{moved_first}
 use Rattle.mako_io.proofs.rest.Rest.give.Goals as goal
 
 pub returns-clause-given : goal.returns-clause-given
-returns-clause-given c = grind (arith, common_steps, moved_first, c.self.view_is, c.copy_from_slice.ensures.after, c.deref.ensures.value)
+returns-clause-given c =
+    grind (arith, common_steps, moved_first, c.self.view_is, c.copy_from_slice.ensures.after, c.deref.ensures.value)

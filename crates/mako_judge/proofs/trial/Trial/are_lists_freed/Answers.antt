@@ -10,12 +10,19 @@ pub loop-index-preserved : goal.loop-index-preserved
 loop-index-preserved c =
     let w = script c.args.self.now in
     let lists = c.args.self.now.cycles.now.lists in
-    let at : ℕ → Type 0 = λ (i : ℕ). (names : List Name) → slice_get lists i ≡ Some names → AreFreed w c.args.self.now.points.now (i + 1) names in
+    let at : ℕ → Type 0 = λ (i : ℕ). (names : List Name) → slice_get lists i ≡ Some names
+    → AreFreed w c.args.self.now.points.now (i + 1) names in
     below_more at c.loop-index.index c.loop-index.invariant
     (λ names is.
     let n : c.loop-index.index + 1 - 1 ≡ c.loop-index.index = omega arith in
-    let same : c.freed.result.now ≡ names = same_Some c.freed.result.now names (sym c.freed.ensures ∙ ap (slice_get lists) n ∙ is) in
-    subst (AreFreed w c.args.self.now.points.now (c.loop-index.index + 1)) same (c.is_freed.ensures.0 c.if-not-is_freed.false))
+    let same : c.freed.result.now ≡ names = same_Some c.freed.result.now names (sym c.freed.ensures
+    ∙ ap (slice_get lists) n ∙ is) in
+    subst (AreFreed w c.args.self.now.points.now (c.loop-index.index + 1)) same
+    (c.is_freed.ensures.0 c.if-not-is_freed.false))
 
 pub returns : goal.returns
-returns c = ((λ t i names is. c.loop-index.invariant i (let l = slice_get_within c.args.self.now.cycles.now.lists i names is in omega arith) names is), (λ all. refl))
+returns c = (
+  (λ t i names is. c.loop-index.invariant i (let l =
+      slice_get_within c.args.self.now.cycles.now.lists i names is in omega arith) names is),
+  (λ all. refl),
+)

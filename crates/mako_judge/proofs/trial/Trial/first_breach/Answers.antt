@@ -8,7 +8,8 @@ use Rattle.mako_judge.proofs.trial.Trial.first_breach.Goals as goal
 
 pub loop-place-preserved : goal.loop-place-preserved
 loop-place-preserved c =
-    holds_more (script c.args.self.now) (front c.args.self.now) c.args.clause c.loop-place.place (λ q at. (c.in_ok-holds_at.ensures q at).0 c.if-not-branch.false) c.loop-place.invariant
+    holds_more (script c.args.self.now) (front c.args.self.now) c.args.clause c.loop-place.place
+    (λ q at. (c.in_ok-holds_at.ensures q at).0 c.if-not-branch.false) c.loop-place.invariant
 
 pub returns-then-not-branch : goal.returns-then-not-branch
 returns-then-not-branch c =

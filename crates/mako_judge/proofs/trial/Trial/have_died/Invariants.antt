@@ -4,4 +4,5 @@ use Rattle.mako_judge.specs.Trials.{script, DiedIn}
 use Rattle.mako_judge.proofs.trial.Trial.have_died.Given as goal
 
 abbrev pub invariant-loop-name : goal.invariant-loop-name
-invariant-loop-name l = (name : Name) → Contains (take l.name-index l.names) name → DiedIn (script l.self) l.self.points.now l.cycle name
+invariant-loop-name l = (name : Name) → Contains (take l.name-index l.names) name
+    → DiedIn (script l.self) l.self.points.now l.cycle name

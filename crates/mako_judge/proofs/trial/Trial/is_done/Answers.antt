@@ -11,6 +11,8 @@ returns-in-None c = λ program at.
     let rows = c.args.self.now.setup.now.programs.items in
     let calls = calls_by c.args.mutator c.args.self.now.points.now in
     let row : slice_get (script c.args.self.now).programs c.args.mutator ≡ Some c.deref.result.now =
-    get_map (λ calls. calls.items) rows c.args.mutator c.index-program.result.now c.requires ∙ ap (λ calls. Some calls.items) (sym c.index-program.ensures) ∙ ap (λ calls. Some calls) (sym c.deref.ensures.value) in
+    get_map (λ calls. calls.items) rows c.args.mutator c.index-program.result.now c.requires
+    ∙ ap (λ calls. Some calls.items) (sym c.index-program.ensures)
+    ∙ ap (λ calls. Some calls) (sym c.deref.ensures.value) in
     let same : c.deref.result.now ≡ program = same_Some c.deref.result.now program (sym row ∙ at) in
     ((λ t. absurd (false_true t)), (λ e. absurd (c.in-None.ensures ([], append-nil calls ∙ e ∙ sym same))))

@@ -6,4 +6,5 @@ use Rattle.mako_judge.proofs.trial.Trial.is_whole.Given as goal
 
 abbrev pub invariant-loop-mutator : goal.invariant-loop-mutator
 invariant-loop-mutator l =
-    (mutator : ℕ) → mutator < l.mutator → (program : List Call) → slice_get (script l.self).programs mutator ≡ Some program → calls_by mutator l.self.points.now ≡ program
+    (mutator : ℕ) → mutator < l.mutator → (program : List Call)
+    → slice_get (script l.self).programs mutator ≡ Some program → calls_by mutator l.self.points.now ≡ program

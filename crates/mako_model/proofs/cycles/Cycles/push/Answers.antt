@@ -19,10 +19,12 @@ pub invariant_of-self : goal.invariant_of-self
 invariant_of-self c = record {
   names = grind (arith, common_steps, c.self.invariant.names);
   cycles = grind (arith, common_steps, c.self.invariant.cycles);
-  rise = rise_pushed c.self.inside.names.items c.args.freed.now _ c.self.inside.ends.items _ c.self.invariant.rise (grind (arith, common_steps)) (grind (arith, common_steps));
+  rise = rise_pushed c.self.inside.names.items c.args.freed.now _ c.self.inside.ends.items _ c.self.invariant.rise
+      (grind (arith, common_steps)) (grind (arith, common_steps));
 }
 
 pub returns-clause-lists : goal.returns-clause-lists
 returns-clause-lists c =
-    pieces_pushed c.self.inside.names.items c.args.freed.now c.extend_from_slice.new.self.items c.self.inside.ends.items c.push.new.self.items c.self.invariant.rise (grind (arith, common_steps)) (grind (arith, common_steps))
+    pieces_pushed c.self.inside.names.items c.args.freed.now c.extend_from_slice.new.self.items c.self.inside.ends.items
+    c.push.new.self.items c.self.invariant.rise (grind (arith, common_steps)) (grind (arith, common_steps))
     ∙ ap (λ s. s.lists ++ c.args.freed.now ∷ []) c.self.view_is

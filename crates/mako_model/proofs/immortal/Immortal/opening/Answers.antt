@@ -9,6 +9,7 @@ use Rattle.mako_model.proofs.immortal.Immortal.opening.Goals as goal
 pub invariant_of-result : goal.invariant_of-result
 invariant_of-result c =
     closed_open c.insert.new.self c.in_ok-roots.roots c.args.mutators c.args.roots c.args.board c.args.cycles
-    (c.in_ok-insert.ensures.ok ∙ ap (λ (o : FieldMap). map.insert o board_name c.in_ok-nulls.field-0.items) c.new-objects.ensures
+    (c.in_ok-insert.ensures.ok
+    ∙ ap (λ (o : FieldMap). map.insert o board_name c.in_ok-nulls.field-0.items) c.new-objects.ensures
     ∙ ap (λ (fields : List Value). map.insert map.empty board_name fields) c.in_ok-nulls.ensures)
     c.in_ok-roots.ensures

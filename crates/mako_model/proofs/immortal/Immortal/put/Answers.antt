@@ -7,4 +7,5 @@ pub invariant_of-self : goal.invariant_of-self
 invariant_of-self c =
     let i = c.self.inside in
     let h : Heap = record { objects = i.objects; roots = i.roots; snaps = i.snaps; cycles = i.cycles } in
-    closed_put h c.write.new.self c.in-Some-Ref-Some.name c.args.field c.args.mutator c.args.from c.in-Some-Ref-Some.value c.self.invariant (sym c.get-2.ensures ∙ c.in-Some-Ref-Some.is-1) c.write.ensures
+    closed_put h c.write.new.self c.in-Some-Ref-Some.name c.args.field c.args.mutator c.args.from
+    c.in-Some-Ref-Some.value c.self.invariant (sym c.get-2.ensures ∙ c.in-Some-Ref-Some.is-1) c.write.ensures

@@ -9,4 +9,5 @@ invariant_of-self c =
     let i = c.self.inside in
     let h : Heap = record { objects = i.objects; roots = i.roots; snaps = i.snaps; cycles = i.cycles } in
     let at : IsAtHand h c.args.value = subst (λ g. IsAtHand g c.args.value) (sym c.self.view_is) c.requires.value in
-    closed_set h c.set.new.self c.args.mutator c.args.root c.args.value c.self.invariant (λ x e. hand_has h c.args.value x c.self.invariant at e) c.set.ensures
+    closed_set h c.set.new.self c.args.mutator c.args.root c.args.value c.self.invariant
+    (λ x e. hand_has h c.args.value x c.self.invariant at e) c.set.ensures

@@ -5,5 +5,6 @@ use Rattle.mako_model.proofs.objects.Objects.insert.Goals as goal
 
 pub returns-in-Ok-clause-ok : goal.returns-in-Ok-clause-ok
 returns-in-Ok-clause-ok c =
-    one_updated c.self.inside.fields.entries c.insert.new.self.entries c.args.name c.args.fields c.in-Ok.ensures.updates.0
+    one_updated c.self.inside.fields.entries c.insert.new.self.entries c.args.name c.args.fields
+    c.in-Ok.ensures.updates.0
     ∙ ap (λ m. finite.insert m c.args.name c.args.fields.items) c.self.view_is

@@ -24,9 +24,9 @@ invariant_of-self c =
     let fits = subst (λ q. Fits q w) (sym c.self.view_is) c.requires.fits in
     let acts = subst (λ q. IsAct (next_of q)) (sym c.self.view_is) c.requires.acts in
     let replies_are = c.keep_reply.ensures.items
-        ∙ ap (λ e. inside.replies.items ++ told_reply e) c.advance-event.ensures.event in
+    ∙ ap (λ e. inside.replies.items ++ told_reply e) c.advance-event.ensures.event in
     let p_is = c.advance-event.ensures.progress
-        ∙ ap (λ (calls : List Call). progress_fed inside.caller calls inside.progress w) c.as_slice.ensures.value in
+    ∙ ap (λ (calls : List Call). progress_fed inside.caller calls inside.progress w) c.as_slice.ensures.value in
     record {
       known = put_together d w _ _ c.self.invariant.known fits acts replies_are p_is;
       room = omega (arith, c.self.invariant.room, c.keep_reply.ensures.room);
@@ -40,8 +40,8 @@ returns-clause-rank c =
     let fits = subst (λ q. Fits q w) (sym c.self.view_is) c.requires.fits in
     let acts = subst (λ q. IsAct (next_of q)) (sym c.self.view_is) c.requires.acts in
     let p_is = c.advance-event.ensures.progress
-        ∙ ap (λ (calls : List Call). progress_fed inside.caller calls inside.progress w) c.as_slice.ensures.value in
+    ∙ ap (λ (calls : List Call). progress_fed inside.caller calls inside.progress w) c.as_slice.ensures.value in
     let lower = (driver_leads d w c.self.invariant.known fits acts).lower in
     let here = subst (λ p. Lowers (is_renewed d w) (rank d) (task_rank p.task)) (sym p_is) lower in
     λ _. subst (λ (q : Driving). Lowers (is_renewed q w) (rank q) (task_rank c.advance-event.new.self.task))
-        c.self.view_is here
+    c.self.view_is here

@@ -14,7 +14,7 @@ invariant_of-self c =
     let w = c.args.before in
     let fits = subst (λ (q : Collecting). Fits q w) (sym c.self.view_is) c.requires.fits in
     subst (λ (q : Collecting). StageIsKnown q.kept q.stage) (sym c.fed-self-inside.ensures)
-        (stage_stands k s w c.numbers-known.ensures.known c.self.invariant fits)
+    (stage_stands k s w c.numbers-known.ensures.known c.self.invariant fits)
 
 pub returns-clause-rank : goal.returns-clause-rank
 returns-clause-rank c =
@@ -25,6 +25,6 @@ returns-clause-rank c =
     let acts = subst (λ (q : Collecting). IsAct (next_of q)) (sym c.self.view_is) c.requires.acts in
     let here : stage_waits k s w ≡ false → Lowers (stage_renewed k s w) (stage_rank k s) (rank after) =
     λ moves. subst (λ (q : Collecting). Lowers (stage_renewed k s w) (stage_rank k s) (rank q))
-        (sym c.fed-self-inside.ensures) (stage_lowers k s w c.self.invariant acts moves) in
+    (sym c.fed-self-inside.ensures) (stage_lowers k s w c.self.invariant acts moves) in
     subst (λ (q : Collecting). is_waiting q w ≡ false
-        → Lowers (is_renewed q w) (rank q) (rank after)) c.self.view_is here
+    → Lowers (is_renewed q w) (rank q) (rank after)) c.self.view_is here

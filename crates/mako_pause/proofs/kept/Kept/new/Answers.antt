@@ -50,7 +50,7 @@ invariant_of-result c =
         names = (let lists : sum_by length c.in_ok-cycles.cycles.lists ≡ 0 =
             ap (λ (l : List (List Name)). sum_by length l) cycles.empty in
             let freed : length c.in-Ok-with_capacity-3.freed.items ≡ 0 =
-                ap length c.in-Ok-with_capacity-3.ensures.items in omega (arith, lists, freed));
+            ap length c.in-Ok-with_capacity-3.ensures.items in omega (arith, lists, freed));
       };
       pending_room = (let room = c.in-Ok.ensures.exact in
           subst (λ (q : Numbers). q.mutators * q.roots ≤ deque_capacity c.in-Ok.pending) same (omega (arith, room)));

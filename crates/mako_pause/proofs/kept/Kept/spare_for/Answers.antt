@@ -17,6 +17,6 @@ spare_between-requires-clause-within c =
     let shape_is = ap (λ (h : Holdings). h.shape) c.self.view_is in
     let h = subst (λ (q : Numbers). c.args.tablet < q.servers * q.tablets) (sym same) c.requires in
     let roles = subst (λ (q : Numbers). length c.self.inside.roles.items ≡ q.servers * (q.tablets + q.spare)) (shape_is
-        ∙ sym same) c.self.invariant.known.roles in
+    ∙ sym same) c.self.invariant.known.roles in
     regions_within c.args.tablet n.servers n.tablets (n.tablets + n.spare) (length c.deref.result.now) h
-        (ap length c.deref.ensures.value ∙ roles)
+    (ap length c.deref.ensures.value ∙ roles)

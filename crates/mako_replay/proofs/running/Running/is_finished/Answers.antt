@@ -14,8 +14,8 @@ pub returns-in-Some : goal.returns-in-Some
 returns-in-Some c =
     let items = c.deref.ensures.value ∙ c.requires in
     subst (λ (n : Numbers).
-        (nat_le n.mutators c.in-Some.seat.now ≡ true) ↔ AllAtEnd c.args.self.now.core.script.numbers
-        c.args.self.now.core.state.seats)
+    (nat_le n.mutators c.in-Some.seat.now ≡ true) ↔ AllAtEnd c.args.self.now.core.script.numbers
+    c.args.self.now.core.state.seats)
     (sym (c.numbers-mutators.ensures.numbers ∙ c.shape.ensures))
     (first_tells c.args.self.now.core.script.numbers c.args.self.now.core.state.seats c.in-Some.seat.now
     (c.in-Some.ensures.value ∙ ap (λ (xs : List ℕ). slice_get xs 0) items))

@@ -8,7 +8,7 @@ step-turn-requires c =
     let r = c.args.self.now in
     let count : c.len.result ≡ length r.live.items = omega (arith, r.live.ok.0) in
     let read = seat_at r.live.items c.len.result c.choose-place.result _ count c.choose-place.ensures.place
-        c.index-seat.ensures in
+    c.index-seat.ensures in
     seat_within r.core.state r.live.items c.choose-place.result _ c.requires.live (omega arith) read
 
 pub place-requires : goal.place-requires
@@ -16,7 +16,7 @@ place-requires c =
     let r = c.args.self.now in
     let count : c.len.result ≡ length r.live.items = omega (arith, r.live.ok.0) in
     let read = seat_at r.live.items c.len.result c.choose-place.result _ count c.choose-place.ensures.place
-        c.index-seat.ensures in
+    c.index-seat.ensures in
     let within = seat_within r.core.state r.live.items c.choose-place.result _ c.requires.live (omega arith) read in
     let same = c.step-turn.ensures.seats in
     omega arith
@@ -26,10 +26,10 @@ returns-then-is_end-clause-live c =
     let r = c.args.self.now in
     let count : c.len.result ≡ length r.live.items = omega (arith, r.live.ok.0) in
     let read = seat_at r.live.items c.len.result c.choose-place.result _ count c.choose-place.ensures.place
-        c.index-seat.ensures in
+    c.index-seat.ensures in
     c.remove-seat.ensures.items
     ∙ sym (live_after r.core.state r.live.items c.choose-place.result _ c.requires.live
-        (omega arith) read _ true c.step-turn.ensures.state
+    (omega arith) read _ true c.step-turn.ensures.state
     (λ v there. sym c.if-is_end.true ∙ c.is_end.ensures ∙ ap is_end (c.place.ensures v there)))
 
 pub returns-then-is_end-clause-come : goal.returns-then-is_end-clause-come
@@ -38,25 +38,25 @@ returns-then-is_end-clause-come c g come =
     let count : c.len.result ≡ length r.live.items = omega (arith, r.live.ok.0) in
     let low : c.choose-place.result < length r.live.items = omega arith in
     let read = seat_at r.live.items c.len.result c.choose-place.result _ count c.choose-place.ensures.place
-        c.index-seat.ensures in
+    c.index-seat.ensures in
     come_on r g come c.requires.live _ c.choose-place.result _ c.requires.one read
     (λ first others all. c.choose-place.ensures.chosen g.left first others (count
-        ∙ all)) c.step-turn.ensures.state refl _
+    ∙ all)) c.step-turn.ensures.state refl _
     (live_after r.core.state r.live.items c.choose-place.result _ c.requires.live low read _ true
-        c.step-turn.ensures.state
+    c.step-turn.ensures.state
     (λ v there. sym c.if-is_end.true ∙ c.is_end.ensures ∙ ap is_end (c.place.ensures v there)))
     (c.leave.ensures g.left r.live.items low (ascend r g come c.requires.live)
     (c.choose-place.ensures.left g.left r.live.items count (ascend r g come c.requires.live)
-        (stands r g come c.requires.live)))
+    (stands r g come c.requires.live)))
 
 pub returns-else-is_end-clause-live : goal.returns-else-is_end-clause-live
 returns-else-is_end-clause-live c =
     let r = c.args.self.now in
     let count : c.len.result ≡ length r.live.items = omega (arith, r.live.ok.0) in
     let read = seat_at r.live.items c.len.result c.choose-place.result _ count c.choose-place.ensures.place
-        c.index-seat.ensures in
+    c.index-seat.ensures in
     sym (live_after r.core.state r.live.items c.choose-place.result _ c.requires.live
-        (omega arith) read _ false c.step-turn.ensures.state
+    (omega arith) read _ false c.step-turn.ensures.state
     (λ v there. sym c.if-is_end.false ∙ c.is_end.ensures ∙ ap is_end (c.place.ensures v there)))
 
 pub returns-else-is_end-clause-come : goal.returns-else-is_end-clause-come
@@ -65,12 +65,12 @@ returns-else-is_end-clause-come c g come =
     let count : c.len.result ≡ length r.live.items = omega (arith, r.live.ok.0) in
     let low : c.choose-place.result < length r.live.items = omega arith in
     let read = seat_at r.live.items c.len.result c.choose-place.result _ count c.choose-place.ensures.place
-        c.index-seat.ensures in
+    c.index-seat.ensures in
     come_on r g come c.requires.live _ c.choose-place.result _ c.requires.one read
     (λ first others all. c.choose-place.ensures.chosen g.left first others (count
-        ∙ all)) c.step-turn.ensures.state refl _
+    ∙ all)) c.step-turn.ensures.state refl _
     (live_after r.core.state r.live.items c.choose-place.result _ c.requires.live low read _ false
-        c.step-turn.ensures.state
+    c.step-turn.ensures.state
     (λ v there. sym c.if-is_end.false ∙ c.is_end.ensures ∙ ap is_end (c.place.ensures v there)))
     (c.choose-place.ensures.left g.left r.live.items count (ascend r g come c.requires.live)
-        (stands r g come c.requires.live))
+    (stands r g come c.requires.live))

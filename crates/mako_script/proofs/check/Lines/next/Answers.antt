@@ -16,11 +16,16 @@ pub returns-in-Err-clause-fault : goal.returns-in-Err-clause-fault
 returns-in-Err-clause-fault c =
     let rest = c.args.self.now.rest.now in
     let none : line_at (lines_of rest) ≡ None =
-        subst (λ (e : Refusal). Refuses e (line_at (lines_of rest))) c.in-Err.ensures.kind c.in-Err.ensures.read in
+    subst (λ (e : Refusal). Refuses e (line_at (lines_of rest))) c.in-Err.ensures.kind c.in-Err.ensures.read in
     let last = last_piece rest none in
-    let printable : list_all is_printable rest ≡ true = sym c.if-is_printable-2.ensures in
-    (c.fault.ensures.1, subst (IsCut (lines_of rest)) (sym c.fault.ensures.0) (ap (list_all is_printable) last.1
-        ∙ printable, last.0))
+    let printable : list_all is_printable rest ≡ true = sym c.if-is_printable-2.ensures in (
+      c.fault.ensures.1,
+      subst (IsCut (lines_of rest)) (sym c.fault.ensures.0) (
+        ap (list_all is_printable) last.1
+            ∙ printable,
+        last.0,
+      ),
+    )
 
 pub returns-in_default-clause-fault : goal.returns-in_default-clause-fault
 returns-in_default-clause-fault c =
@@ -32,8 +37,8 @@ returns-in_default-clause-fault c =
             ∙ sym w.if-is_printable.ensures)
         | in_default-via-in-Err+else-is_printable-2 w ↦ (
             let none : line_at (lines_of rest) ≡ None =
-                subst (λ (e : Refusal). Refuses e (line_at (lines_of rest))) w.in-Err.ensures.kind w.in-Err.ensures.read
-                in
+            subst (λ (e : Refusal). Refuses e (line_at (lines_of rest))) w.in-Err.ensures.kind w.in-Err.ensures.read
+            in
             ap (list_all is_printable) (last_piece rest none).1 ∙ sym w.if-is_printable-2.ensures)
       ]),
     )

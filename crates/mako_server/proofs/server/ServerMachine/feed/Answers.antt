@@ -21,5 +21,6 @@ returns-clause-rank c =
     let fits = subst (λ (q : Serving). Fits q w) (sym c.self.view_is) c.requires.fits in
     let acts = subst (λ (q : Serving). IsAct (next_of q)) (sym c.self.view_is) c.requires.acts in
     let here : is_waiting v w ≡ false → Lowers (is_renewed v w) (rank v) (rank after) =
-    λ moves. subst (λ (q : Serving). Lowers (is_renewed v w) (rank v) (rank q)) (sym c.feed.ensures) (step_lowers v w c.self.invariant fits acts moves) in
+    λ moves. subst (λ (q : Serving). Lowers (is_renewed v w) (rank v) (rank q)) (sym c.feed.ensures)
+    (step_lowers v w c.self.invariant fits acts moves) in
     subst (λ (q : Serving). is_waiting q w ≡ false → Lowers (is_renewed q w) (rank q) (rank after)) c.self.view_is here

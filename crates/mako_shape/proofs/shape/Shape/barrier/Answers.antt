@@ -10,4 +10,9 @@ returns-clause-below c =
     let first : c.barriers_start.result ≡ start c.args.self.now 5 =
     c.barriers_start.ensures ∙ ap (λ (n : Numbers). start n 5) c.numbers-numbers.ensures.numbers
     in
-    rw c.numbers-numbers.ensures.numbers (omega (arith, row-below c.args.mutator c.args.self.now.ring c.args.slot c.args.self.now.mutators c.requires.0 c.requires.1))
+    rw c.numbers-numbers.ensures.numbers
+    (omega (
+      arith,
+      row-below c.args.mutator c.args.self.now.ring c.args.slot c.args.self.now.mutators c.requires.0
+          c.requires.1,
+    ))

@@ -17,12 +17,14 @@ returns-in-Some-clause-fault c =
 
 pub returns-then-all_entries-gt-MAX_ENTRIES-clause-fault : goal.returns-then-all_entries-gt-MAX_ENTRIES-clause-fault
 returns-then-all_entries-gt-MAX_ENTRIES-clause-fault c =
-    let within : AllInRange c.args.numbers = all_in_range c.args.numbers (sym c.first_out_of_range.ensures ∙ c.in_default.is) in
+    let within : AllInRange c.args.numbers = all_in_range c.args.numbers (sym c.first_out_of_range.ensures
+    ∙ c.in_default.is) in
     answer-fault Numbers c.args.numbers TooManyEntries (within, omega arith)
 
 pub returns-then-all_words-gt-MAX_WORDS-clause-fault : goal.returns-then-all_words-gt-MAX_WORDS-clause-fault
 returns-then-all_words-gt-MAX_WORDS-clause-fault c =
-    let within : AllInRange c.args.numbers = all_in_range c.args.numbers (sym c.first_out_of_range.ensures ∙ c.in_default.is) in
+    let within : AllInRange c.args.numbers = all_in_range c.args.numbers (sym c.first_out_of_range.ensures
+    ∙ c.in_default.is) in
     answer-fault Numbers c.args.numbers TooManyWords (within, omega arith, omega arith)
 
 pub invariant_of-result : goal.invariant_of-result

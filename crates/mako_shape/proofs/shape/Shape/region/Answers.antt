@@ -10,12 +10,19 @@ returns-clause-below c =
     let first : c.regions_start.result ≡ start c.args.self.now 17 =
     c.regions_start.ensures ∙ ap (λ (n : Numbers). start n 17) c.numbers-numbers.ensures.numbers
     in
-    rw c.numbers-numbers.ensures.numbers (omega (arith, row-below c.args.region c.args.self.now.words 0 (c.args.self.now.servers * (c.args.self.now.tablets + c.args.self.now.spare)) c.requires.0 c.requires.1))
+    rw c.numbers-numbers.ensures.numbers
+    (omega (
+      arith,
+      row-below c.args.region c.args.self.now.words 0
+          (c.args.self.now.servers * (c.args.self.now.tablets + c.args.self.now.spare)) c.requires.0 c.requires.1,
+    ))
 
 pub overflow_mul-result : goal.overflow_mul-result
 unfolding total
 overflow_mul-result c =
-    let row : c.args.region * c.args.self.now.words + 0 < c.args.self.now.servers * (c.args.self.now.tablets + c.args.self.now.spare) * c.args.self.now.words =
-    row-below c.args.region c.args.self.now.words 0 (c.args.self.now.servers * (c.args.self.now.tablets + c.args.self.now.spare)) c.requires.0 c.requires.1
+    let row : c.args.region * c.args.self.now.words + 0 < c.args.self.now.servers *
+    (c.args.self.now.tablets + c.args.self.now.spare) * c.args.self.now.words =
+    row-below c.args.region c.args.self.now.words 0
+    (c.args.self.now.servers * (c.args.self.now.tablets + c.args.self.now.spare)) c.requires.0 c.requires.1
     in
     rw c.numbers-numbers.ensures.numbers (omega arith)

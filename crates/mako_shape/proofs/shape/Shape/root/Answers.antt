@@ -10,4 +10,9 @@ returns-clause-below c =
     let first : c.roots_start.result ≡ start c.args.self.now 4 =
     c.roots_start.ensures ∙ ap (λ (n : Numbers). start n 4) c.numbers-numbers.ensures.numbers
     in
-    rw c.numbers-numbers.ensures.numbers (omega (arith, row-below c.args.mutator c.args.self.now.roots c.args.number c.args.self.now.mutators c.requires.0 c.requires.1))
+    rw c.numbers-numbers.ensures.numbers
+    (omega (
+      arith,
+      row-below c.args.mutator c.args.self.now.roots c.args.number c.args.self.now.mutators
+          c.requires.0 c.requires.1,
+    ))

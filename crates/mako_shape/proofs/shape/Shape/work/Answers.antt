@@ -10,4 +10,9 @@ returns-clause-below c =
     let first : c.works_start.result ≡ start c.args.self.now 7 =
     c.works_start.ensures ∙ ap (λ (n : Numbers). start n 7) c.numbers-numbers.ensures.numbers
     in
-    rw c.numbers-numbers.ensures.numbers (omega (arith, row-below c.args.server c.args.self.now.ring c.args.slot c.args.self.now.servers c.requires.0 c.requires.1))
+    rw c.numbers-numbers.ensures.numbers
+    (omega (
+      arith,
+      row-below c.args.server c.args.self.now.ring c.args.slot c.args.self.now.servers c.requires.0
+          c.requires.1,
+    ))

@@ -15,8 +15,11 @@ invariant_of-self c =
     let w = c.args.before in
     let fits = subst (λ q. Fits q w) (sym c.self.view_is) c.requires.fits in
     let acts = subst (λ q. IsAct (next_of q)) (sym c.self.view_is) c.requires.acts in
-    let fed_is = c.stage_fed-self-inside.ensures.fed ∙ fed_at t inside.stage w acts in
-    (subst IsKnown (sym fed_is) (known_fed t w c.self.invariant.0 fits), same_room inside.holdings c.stage_fed-self-inside.new.self c.self.invariant.1 c.stage_fed-self-inside.ensures.room)
+    let fed_is = c.stage_fed-self-inside.ensures.fed ∙ fed_at t inside.stage w acts in (
+      subst IsKnown (sym fed_is) (known_fed t w c.self.invariant.0 fits),
+      same_room inside.holdings c.stage_fed-self-inside.new.self c.self.invariant.1
+          c.stage_fed-self-inside.ensures.room,
+    )
 
 pub returns-clause-fed : goal.returns-clause-fed
 returns-clause-fed c =
@@ -36,4 +39,5 @@ returns-clause-rank c =
     let fed_is = c.stage_fed-self-inside.ensures.fed ∙ fed_at t inside.stage w acts in
     let lower = step_lowers t w acts c.self.invariant.0 fits in
     let here = subst (λ (q : TracerView). Lowers (is_renewed t w) (rank t) (rank q)) (sym fed_is) lower in
-    λ _. subst (λ (q : TracerView). Lowers (is_renewed q w) (rank q) (rank (tracer_in c.stage_fed-self-inside.new.self c.stage_fed-self-inside.result))) c.self.view_is here
+    λ _. subst (λ (q : TracerView). Lowers (is_renewed q w) (rank q)
+    (rank (tracer_in c.stage_fed-self-inside.new.self c.stage_fed-self-inside.result))) c.self.view_is here
