@@ -1,30 +1,15 @@
 -- Reading digits one after the other.
-use Rattle.std.proofs.Common.{◌&&◌, ◌||◌, rules, ◌≡◌, ℕ, zero, suc, ◌+◌, ◌-◌, ◌*◌, ◌^◌, ◌<◌, ◌≤◌, Bool, true, false, cond, List, [], ◌∷◌, length, get_or, drop, Option, Some, None, refl, sym, ap, ◌∙◌, arith, ltb, eqb}
+use Rattle.std.proofs.Common.{◌&&◌, rules, ◌≡◌, ℕ, zero, suc, ◌+◌, ◌-◌, ◌*◌, ◌<◌, ◌≤◌, Bool, true, false, true≢false}
+use Rattle.std.proofs.Common.{List, [], ◌∷◌, ◌++◌, length, get_or, take, refl, sym, ap, ◌∙◌, arith}
 use Rattle.std.specs.Char.{is_ascii_digit}
-use Rattle.std.proofs.lemmas.List.{drop_more, drop_all}
+use Rattle.std.proofs.lemmas.List.{take_all, take_more}
 use Rattle.std.proofs.lemmas.Bool.Decides.{nat_tests}
 use Rattle.std.specs.Fmt.{decimal}
 use Rattle.std.specs.Str.{all_ascii_digits}
 use Rattle.std.proofs.lemmas.Str.Parse.{IsNumeralModel, numerals_by_fold, tells_all_ascii_digits, digits_value_short}
-use Rattle.std.proofs.lemmas.Fmt.{decimal-digits_value, digits_decimal, digits_value-decimal, decimal_nonempty, length-decimal-le, first_decimal, decimal_digit}
-use Rattle.mako_reader.specs.Reading.{digits_on, number_at}
-
-pub digit_read : (word : List ℕ) (i value digit : ℕ) (read : Option ℕ) → i < length word → digit ≡ get_or word i digit → is_ascii_digit digit ≡ true
-    → digits_on value (drop i word) ≡ read → digits_on (value * 10 + (digit - 48)) (drop (i + 1) word) ≡ read
-digit_read word i value digit read within at is so_far =
-    let here : digits_on value (drop i word) ≡ digits_on value (digit ∷ drop (i + 1) word) = ap (digits_on value) (drop_more word i digit within ∙ ap (λ (d : ℕ). d ∷ drop (i + 1) word) (sym at)) in
-    let read_on : digits_on value (digit ∷ drop (i + 1) word) ≡ digits_on (value * 10 + (digit - 48)) (drop (i + 1) word) = ap (λ (b : Bool). cond b (digits_on (value * 10 + (digit - 48)) (drop (i + 1) word)) None) is in
-    sym read_on ∙ sym here ∙ so_far
-
-pub no_digit : (word : List ℕ) (i value digit : ℕ) (read : Option ℕ) → i < length word → digit ≡ get_or word i digit → is_ascii_digit digit ≡ false
-    → digits_on value (drop i word) ≡ read → read ≡ None
-no_digit word i value digit read within at is so_far =
-    let here : digits_on value (drop i word) ≡ digits_on value (digit ∷ drop (i + 1) word) = ap (digits_on value) (drop_more word i digit within ∙ ap (λ (d : ℕ). d ∷ drop (i + 1) word) (sym at)) in
-    let read_on : digits_on value (digit ∷ drop (i + 1) word) ≡ None = ap (λ (b : Bool). cond b (digits_on (value * 10 + (digit - 48)) (drop (i + 1) word)) None) is in
-    sym so_far ∙ here ∙ read_on
-
-pub digits_done : (word : List ℕ) (i value : ℕ) (read : Option ℕ) → length word ≤ i → digits_on value (drop i word) ≡ read → read ≡ Some value
-digits_done word i value read past so_far = sym so_far ∙ ap (digits_on value) (drop_all i word past)
+use Rattle.std.proofs.lemmas.Fmt.{decimal-digits_value, decimal_injective, digits_decimal, decimal_nonempty}
+use Rattle.std.proofs.lemmas.Fmt.{length-decimal-le, first_decimal, decimal_digit}
+use Rattle.mako_reader.specs.Words.{IsNumber}
 
 -- the number of digits behind a number
 abbrev pub digits_after : ℕ → List ℕ → ℕ
@@ -34,59 +19,79 @@ digits_after n (c ∷ cs) = digits_after (n * 10 + (c - 48)) cs
 pub own : IsNumeralModel (λ ds. all_ascii_digits ds ≡ true) (digits_after 0)
 own = numerals_by_fold _ tells_all_ascii_digits digits_after (search rules)
 
-all_digits : (n : ℕ) (word : List ℕ) (m : ℕ) → digits_on n word ≡ Some m → (all_ascii_digits word ≡ true) × (digits_after n word ≡ m)
-all_digits n [] m e = (refl, cc)
-all_digits n (c ∷ cs) m e =
-    (elim (is_ascii_digit c) as (λ (b : Bool). cond b (digits_on (n * 10 + (c - 48)) cs) None ≡ Some m → ((b && all_ascii_digits cs) ≡ true) × (digits_after (n * 10 + (c - 48)) cs ≡ m)) [
-      | true ↦ λ h. all_digits (n * 10 + (c - 48)) cs m h
-      | false ↦ λ h. absurd cc
-    ]) e
+-- these digits were read
+pub record DigitsRead (digits : List ℕ) (value : ℕ) : Type 0 where
+  pub are : all_ascii_digits digits ≡ true
+  pub value_is : digits_after 0 digits ≡ value
 
-digits_read : (n : ℕ) (word : List ℕ) → all_ascii_digits word ≡ true → digits_on n word ≡ Some (digits_after n word)
-digits_read n [] h = refl
-digits_read n (c ∷ cs) h =
-    (elim (is_ascii_digit c) as (λ (b : Bool). (b && all_ascii_digits cs) ≡ true → cond b (digits_on (n * 10 + (c - 48)) cs) None ≡ Some (digits_after (n * 10 + (c - 48)) cs)) [
-      | true ↦ λ k. digits_read (n * 10 + (c - 48)) cs k
-      | false ↦ λ k. absurd cc
-    ]) h
+all_push : (digits : List ℕ) (c : ℕ) → all_ascii_digits digits ≡ true → is_ascii_digit c ≡ true
+    → all_ascii_digits (digits ++ c ∷ []) ≡ true
+all_push [] c are is = ap (λ (b : Bool). b && true) is
+all_push (d ∷ digits) c are is =
+    let first : is_ascii_digit d ≡ true = grind (arith, nat_tests) in
+    let rest = all_push digits c (grind (arith, nat_tests)) is in
+    (λ i. first i && rest i)
 
-guard_digits : (b : Bool) (r : Option ℕ) (n : ℕ) → cond b None r ≡ Some n → (b ≡ false) × (r ≡ Some n)
-guard_digits true r n e = absurd cc
-guard_digits false r n e = (refl, e)
+value_push : (n : ℕ) (digits : List ℕ) (c : ℕ)
+    → digits_after n (digits ++ c ∷ []) ≡ digits_after n digits * 10 + (c - 48)
+value_push n [] c = refl
+value_push n (d ∷ digits) c = value_push (n * 10 + (d - 48)) digits c
 
-pub number_takes : (word : List ℕ) (n : ℕ) → number_at word ≡ Some n → word ≡ decimal n
-unfolding number_at
-number_takes word n e =
-    let g = guard_digits (eqb (length word) 0 || ltb 10 (length word) || (eqb (get_or word 0 0) 48 && ltb 1 (length word))) (digits_on 0 word) n e in
-    let d = all_digits 0 word n g.1 in
-    let some : 0 < length word = grind (arith, nat_tests, g.0) in
-    let short : length word ≤ 10 = grind (arith, nat_tests, g.0) in
-    let plain : get_or word 0 0 ≡ 48 → length word ≡ 1 = λ z. grind (arith, nat_tests, g.0) in
-    let small = digits_value_short own word 10 d.0 short in
-    sym (decimal-digits_value own word d.0 some plain (omega arith)) ∙ ap decimal d.1
+pub digit_more : (word : List ℕ) (i value digit : ℕ) → i < length word → digit ≡ get_or word i digit
+    → is_ascii_digit digit ≡ true → DigitsRead (take i word) value
+    → DigitsRead (take (i + 1) word) (value * 10 + (digit - 48))
+digit_more word i value digit within at is read =
+    let more : take (i + 1) word ≡ take i word ++ digit ∷ [] = take_more word i digit within
+    ∙ ap (λ (d : ℕ). take i word ++ d ∷ []) (sym at) in
+    record {
+      are = ap all_ascii_digits more ∙ all_push (take i word) digit read.are is;
+      value_is = ap (digits_after 0) more ∙ value_push 0 (take i word) digit
+          ∙ ap (λ (n : ℕ). n * 10 + (digit - 48)) read.value_is;
+    }
 
-pub number_few : (word : List ℕ) (n : ℕ) → number_at word ≡ Some n → n < 10000000000
-unfolding number_at
-number_few word n e =
-    let g = guard_digits (eqb (length word) 0 || ltb 10 (length word) || (eqb (get_or word 0 0) 48 && ltb 1 (length word))) (digits_on 0 word) n e in
-    let d = all_digits 0 word n g.1 in
-    let short : length word ≤ 10 = grind (arith, nat_tests, g.0) in
-    let small = digits_value_short own word 10 d.0 short in
-    omega (arith, d.1)
+digit_at : (digits : List ℕ) (i d : ℕ) → all_ascii_digits digits ≡ true → i < length digits
+    → is_ascii_digit (get_or digits i d) ≡ true
+digit_at [] i d are within = absurd (omega arith)
+digit_at (c ∷ digits) zero d are within = grind (arith, nat_tests)
+digit_at (c ∷ digits) (suc i) d are within = digit_at digits i d (grind (arith, nat_tests)) (omega arith)
 
-pub ten_digits_again : (n : ℕ) → n < 10000000000 → number_at (decimal n) ≡ Some n
-unfolding number_at
-ten_digits_again n small =
-    let some = decimal_nonempty n (omega arith) in
-    let short = length-decimal-le 10 n (omega arith) (omega arith) (omega arith) in
-    let read = digits_read 0 (decimal n) (digits_decimal own n (omega arith)) ∙ ap Some (digits_value-decimal own n (omega arith)) in
-    let first = plain n small in
-    let test : (eqb (length (decimal n)) 0 || ltb 10 (length (decimal n)) || (eqb (get_or (decimal n) 0 0) 48 && ltb 1 (length (decimal n)))) ≡ false = grind (arith, nat_tests) in
-    rw test read
+pub no_digit : (word : List ℕ) (i digit : ℕ) → i < length word → digit ≡ get_or word i digit
+    → is_ascii_digit digit ≡ false → (n : ℕ) → ¬ IsNumber word n
+no_digit word i digit within at is n number =
+    let digits : all_ascii_digits word ≡ true = ap all_ascii_digits number.0
+    ∙ digits_decimal own n (omega (arith, number.1)) in
+    true≢false (sym (digit_at word i digit digits within) ∙ ap is_ascii_digit (sym at) ∙ is)
+
+-- the word is not empty, not too long, and has no zero before other digits
+abbrev pub IsPlain : List ℕ → Type 0
+IsPlain word = (0 < length word) × (length word ≤ 10) × (get_or word 0 0 ≡ 48 → length word ≡ 1)
+
+pub number_plain : (word : List ℕ) (n : ℕ) → IsNumber word n → IsPlain word
+number_plain word n number =
+    rw number.0 (
+      decimal_nonempty n (omega (arith, number.1)),
+      length-decimal-le 10 n (omega arith)
+          (omega (arith, number.1)) (omega arith),
+      plain n number.1,
+    )
   where
-    plain : (n : ℕ) → n < 10000000000 → (eqb (get_or (decimal n) 0 0) 48 && ltb 1 (length (decimal n))) ≡ false
-    plain zero small = rw (decimal_digit 0 (omega arith)) refl
-    plain (suc n) small = let first = first_decimal (suc n) (omega arith) (omega arith) in grind (arith, nat_tests)
+    plain : (n : ℕ) → n < 10000000000 → get_or (decimal n) 0 0 ≡ 48 → length (decimal n) ≡ 1
+    plain zero small zero_first = ap length (decimal_digit 0 (omega arith))
+    plain (suc n) small zero_first = absurd (let first = first_decimal (suc n) (omega arith) (omega arith) in
+        omega (arith, first, zero_first))
 
-pub number_again : (n : ℕ) → n < 2 ^ 32 → number_at (decimal n) ≡ Some n
-number_again n small = ten_digits_again n (omega arith)
+pub digits_done : (word : List ℕ) (i value : ℕ) → length word ≤ i → IsPlain word → DigitsRead (take i word) value
+    → IsNumber word value
+digits_done word i value past plain read =
+    let whole = take_all i word past in
+    let are : all_ascii_digits word ≡ true = ap all_ascii_digits (sym whole) ∙ read.are in
+    let value_is : digits_after 0 word ≡ value = ap (digits_after 0) (sym whole) ∙ read.value_is in
+    let small = digits_value_short own word 10 are plain.1 in (
+      sym (decimal-digits_value own word are plain.0 plain.2 (omega arith))
+          ∙ ap decimal value_is,
+      omega (arith, value_is),
+    )
+
+-- a word is one number at most
+pub same_number : (word : List ℕ) (m n : ℕ) → IsNumber word m → IsNumber word n → m ≡ n
+same_number word m n one two = decimal_injective m n (omega (arith, one.1)) (omega (arith, two.1)) (sym one.0 ∙ two.0)

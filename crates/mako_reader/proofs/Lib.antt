@@ -1,9 +1,11 @@
 pub mod Splits
 pub mod Digits
 pub mod NameLists
-pub mod Loops
-pub mod Takes
-pub mod Sections
+pub mod Values
 pub mod Spelled
-pub mod Proper
 pub mod Again
+pub mod Lists
+pub mod Header
+pub mod Sections
+pub mod Proper
+pub mod Scripts

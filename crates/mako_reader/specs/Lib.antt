@@ -1,4 +1,7 @@
-pub mod Reading
+pub mod Commands
+pub mod Finds
+pub mod Parts
+pub mod Words
 pub use Rattle.mako_text.specs.Keys
 pub use Rattle.mako_text.specs.Names
 pub use Rattle.mako_text.specs.Programs

@@ -2,7 +2,9 @@
 
 ghost use Rattle.std.specs.Prelude.{◌≡◌, ◌<◌, ◌≤◌, ◌^◌, length, IfOk};
 ghost use Rattle.mako_text.specs.Names.{texts};
-ghost use Rattle.mako_reader.specs.Reading.{Gives, argument_at, value_at, arguments_at, names_after, command_at, words_of, words_behind};
+ghost use Rattle.mako_reader.specs.Commands.{AreValuesOf, DefinesFirst, IsCommandLine, IsValueOf, ReadsWord};
+ghost use Rattle.mako_reader.specs.Finds.{Finds};
+ghost use Rattle.mako_reader.specs.Words.{words_behind, words_of};
 
 use crate::command::{Argument, Command};
 use crate::lines::{next_word, split_word};
@@ -18,10 +20,9 @@ use std::alloc::Global;
 const MAX_ARGUMENTS: usize = 3;
 
 /// The value of an argument: the root of a name, or a number. A name that is yet to be defined has the next root.
-#[tactic(auto, unfolding(crate::specs::Reading::argument_at))]
 fn argument(names: &IndexSet<String>, kind: Argument, word: &[u8]) -> Result<u32, Refusal>
     requires { length (texts names.now) < 2 ^ 32 }
-    ensures { Gives (λ n. n) result (argument_at (texts names.now) kind word.now) }
+    ensures { Finds (IsValueOf (texts names.now) kind word.now) (λ n. n) result }
 {
     match kind {
         Argument::Defined => {
@@ -39,14 +40,14 @@ fn argument(names: &IndexSet<String>, kind: Argument, word: &[u8]) -> Result<u32
 }
 
 /// The value of the next argument, and what stands behind it.
-#[tactic(auto, unfolding(crate::specs::Reading::value_at))]
 fn next_value<'a>(
     names: &IndexSet<String>,
     kind: Argument,
     rest: &'a [u8],
 ) -> Result<(u32, &'a [u8]), Refusal>
     requires { length (texts names.now) < 2 ^ 32 }
-    ensures { Gives (λ x. (x.0, words_behind x.1.now)) result (value_at (texts names.now) kind (words_behind rest.now)) }
+    ensures { Finds (ReadsWord (texts names.now) kind (words_behind rest.now))
+        (λ x. (x.0, words_behind x.1.now)) result }
 {
     let (word, rest) = next_word(rest)?;
     Ok((argument(names, kind, word)?, rest))
@@ -60,7 +61,7 @@ fn arguments(
 ) -> Result<ArrayVec<u32, MAX_ARGUMENTS>, Refusal>
     requires few { length (texts names.now) < 2 ^ 32 }
     requires short { length kinds.now ≤ 3 }
-    ensures { Gives (λ v. v.items) result (arguments_at (texts names.now) kinds.now (words_behind text.now)) }
+    ensures { Finds (AreValuesOf (texts names.now) kinds.now (words_behind text.now)) (λ v. v.items) result }
 {
     let mut values = ArrayVec::new();
     let mut rest = text;
@@ -84,7 +85,8 @@ fn define_first(
     names: &mut IndexSet<String>,
     text: &[u8],
 ) -> Result<(), Refusal>
-    ensures { Gives (λ _. texts names.new) result (names_after defines roots (texts names.old) (words_behind text.now)) }
+    ensures { Finds (DefinesFirst defines roots (texts names.old) (words_behind text.now))
+        (λ _. texts names.new) result }
 {
     if !defines {
         return Ok(());
@@ -94,7 +96,6 @@ fn define_first(
 }
 
 /// The call of a command line. A name that it defines is added to the names.
-#[tactic(auto, using(crate::proofs::Takes::arguments_fit), unfolding(crate::specs::Reading::command_at))]
 pub fn command(
     alloc: Global,
     roots: usize,
@@ -102,7 +103,8 @@ pub fn command(
     line: &[u8],
 ) -> Result<Call, Refusal>
     requires { length (texts names.old) < 2 ^ 8 }
-    ensures { Gives (λ call. (call, texts names.new)) result (command_at roots (texts names.old) (words_of line.now)) }
+    ensures { Finds (IsCommandLine roots (texts names.old) (words_of line.now))
+        (λ call. (call, texts names.new)) result }
 {
     let (word, rest) = split_word(line);
     let command = Command::named(word)?;

@@ -1,7 +1,8 @@
 //! The commands of scripts: their words, their arguments, and the calls that they stand for.
 
 ghost use Rattle.std.specs.Prelude.{◌≡◌, ◌≤◌, length, IfErr};
-ghost use Rattle.mako_reader.specs.Reading.{Gives, command_named, kinds_of, defines, call_of, FitCall};
+ghost use Rattle.mako_reader.specs.Commands.{FitCall, call_of, defines, kinds_of, word_of};
+ghost use Rattle.mako_reader.specs.Finds.{Finds};
 
 use crate::refusal::Refusal;
 use mako_model::Call;
@@ -36,7 +37,7 @@ pub enum Argument {
 impl Command {
     /// The command of a word.
     pub fn named(word: &[u8]) -> Result<Command, Refusal>
-        ensures read { Gives (λ c. c) result (command_named word.now) }
+        ensures read { Finds (λ command. word.now ≡ word_of command) (λ command. command) result }
         ensures kind { IfErr result (λ e. e ≡ Refusal.Bad) }
     {
         if word == b"new".as_slice() {

@@ -1,7 +1,8 @@
 //! Lines and words: a line ends at a line feed, and words are apart by one space.
 
 ghost use Rattle.std.specs.Prelude.{◌≡◌, ◌∷◌, ◌<◌, ◌==◌, length, position, IfErr, IfOk};
-ghost use Rattle.mako_reader.specs.Reading.{Gives, lines_of, words_of, words_behind, line_at, word_at};
+ghost use Rattle.mako_reader.specs.Finds.{Finds};
+ghost use Rattle.mako_reader.specs.Words.{IsFirstLine, IsFirstWord, lines_of, words_behind, words_of};
 
 use crate::refusal::Refusal;
 use mako_text::text::place_of;
@@ -9,7 +10,7 @@ use mako_text::text::place_of;
 /// The first line of the text, and the text behind its line feed.
 #[tactic(auto, using(crate::proofs::Splits::line_at_place, crate::proofs::Splits::line_at_no_place))]
 pub fn next_line(text: &[u8]) -> Result<(&[u8], &[u8]), Refusal>
-    ensures read { Gives (λ x. (x.0.now, lines_of x.1.now)) result (line_at (lines_of text.now)) }
+    ensures read { Finds (IsFirstLine (lines_of text.now)) (λ x. (x.0.now, lines_of x.1.now)) result }
     ensures shorter { IfOk result (λ x. length x.1.now < length text.now) }
     ensures kind { IfErr result (λ e. e ≡ Refusal.Bad) }
 {
@@ -31,9 +32,9 @@ pub fn split_word(line: &[u8]) -> (&[u8], &[u8])
 }
 
 /// The next word behind others, and what stands behind it.
-#[tactic(auto, unfolding(crate::specs::Reading::words_behind))]
+#[tactic(auto, unfolding(crate::specs::Words::words_behind))]
 pub fn next_word(rest: &[u8]) -> Result<(&[u8], &[u8]), Refusal>
-    ensures read { Gives (λ x. (x.0.now, words_behind x.1.now)) result (word_at (words_behind rest.now)) }
+    ensures read { Finds (IsFirstWord (words_behind rest.now)) (λ x. (x.0.now, words_behind x.1.now)) result }
     ensures kind { IfErr result (λ e. e ≡ Refusal.Bad) }
 {
     match rest {

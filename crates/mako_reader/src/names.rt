@@ -3,7 +3,8 @@
 ghost use Rattle.std.specs.Prelude.{◌≡◌, ◌<◌, ◌≤◌, length, unwrap_or, IfSome};
 ghost use Rattle.std.specs.List.{list_all};
 ghost use Rattle.mako_text.specs.Names.{is_name, is_letter_or_digit, texts};
-ghost use Rattle.mako_reader.specs.Reading.{Gives, name_at, place_at, define_at};
+ghost use Rattle.mako_reader.specs.Commands.{Defines, IsName, place_at};
+ghost use Rattle.mako_reader.specs.Finds.{Finds};
 
 use crate::refusal::Refusal;
 use indexmap::IndexSet;
@@ -33,7 +34,7 @@ pub fn is_spelled_as_name(word: &[u8]) -> bool
 /// The word, as a name.
 #[tactic(auto, using(crate::proofs::NameLists::is_text))]
 pub fn name(word: &[u8]) -> Result<&str, Refusal>
-    ensures { Gives (λ text. text.now) result (name_at word.now) }
+    ensures { Finds (IsName word.now) (λ text. text.now) result }
 {
     if !is_spelled_as_name(word) {
         return Err(Refusal::Bad);
@@ -45,7 +46,7 @@ pub fn name(word: &[u8]) -> Result<&str, Refusal>
 }
 
 /// The root of a name, if it is defined.
-#[tactic(auto, using(crate::proofs::NameLists::place_in_texts, crate::proofs::NameLists::length_texts), unfolding(crate::specs::Reading::place_at))]
+#[tactic(auto, using(crate::proofs::NameLists::place_in_texts, crate::proofs::NameLists::length_texts), unfolding(crate::specs::Commands::place_at))]
 pub fn root_of(names: &IndexSet<String>, name: &str) -> Option<usize>
     ensures value { result ≡ place_at (texts names.now) name.now }
     ensures within { IfSome result (λ root. root < length (texts names.now)) }
@@ -63,14 +64,13 @@ pub fn root_or_next(names: &IndexSet<String>, name: &str) -> usize
 }
 
 /// Adds a name that is not there yet, if there is a root left for it.
-#[tactic(auto, using(crate::proofs::NameLists::define_known, crate::proofs::NameLists::define_full, crate::proofs::NameLists::define_new))]
 pub fn define(
     alloc: Global,
     roots: usize,
     names: &mut IndexSet<String>,
     name: &str,
 ) -> Result<(), Refusal>
-    ensures { Gives (λ _. texts names.new) result (define_at roots (texts names.old) name.now) }
+    ensures { Finds (Defines roots (texts names.old) name.now) (λ _. texts names.new) result }
 {
     if root_of(names, name).is_some() {
         return Ok(());

@@ -1,16 +1,16 @@
 //! Numbers in decimal.
 
 ghost use Rattle.std.specs.Prelude.{◌≡◌, ◌<◌, ◌≤◌, ◌^◌, IfErr, IfOk};
-ghost use Rattle.mako_reader.specs.Reading.{Gives, number_at, within_at};
+ghost use Rattle.mako_reader.specs.Finds.{Finds};
+ghost use Rattle.mako_reader.specs.Words.{IsNumber, IsWithin};
 
 use crate::refusal::Refusal;
 
 const MAX_DIGITS: usize = 10;
 
 /// The number that a word spells: `0`, or a digit 1 to 9 and further digits, at most ten in all.
-#[tactic(auto, unfolding(crate::specs::Reading::number_at))]
 pub fn number(word: &[u8]) -> Result<u64, Refusal>
-    ensures read { Gives (λ n. n) result (number_at word.now) }
+    ensures read { Finds (IsNumber word.now) (λ n. n) result }
     ensures kind { IfErr result (λ e. e ≡ Refusal.Bad) }
 {
     if word.is_empty() || word.len() > MAX_DIGITS || (word[0] == b'0' && word.len() > 1) {
@@ -27,9 +27,8 @@ pub fn number(word: &[u8]) -> Result<u64, Refusal>
 }
 
 /// The number that a word spells, if it lies between the two.
-#[tactic(auto, unfolding(crate::specs::Reading::within_at))]
 pub fn number_within(low: u32, high: u32, word: &[u8]) -> Result<u32, Refusal>
-    ensures { Gives (λ n. n) result (within_at low high word.now) }
+    ensures { Finds (IsWithin low high word.now) (λ n. n) result }
 {
     let value = number(word)?;
     if value < u64::from(low) || value > u64::from(high) {

@@ -3,7 +3,9 @@
 ghost use Rattle.std.specs.Prelude.{◌≡◌, List, ℕ, length, slice_index, IfOk, OnErr, IfErr, IsErrOf, Some};
 ghost use Rattle.mako_text.specs.Programs.{ProgramView};
 ghost use Rattle.mako_text.specs.Scripts.{IsProper};
-ghost use Rattle.mako_reader.specs.Reading.{lines_of, AreValues, AreProper, Reads, script_at, script_of};
+ghost use Rattle.mako_text.specs.Texts.{IsScript};
+ghost use Rattle.mako_reader.specs.Finds.{Finds};
+ghost use Rattle.mako_reader.specs.Parts.{AreProper, AreValues, script_of};
 
 use crate::refusal::Refusal;
 use crate::section::sections;
@@ -16,7 +18,7 @@ use std::alloc::Global;
 fn assembled(values: &[u32], programs: Vec<Program>) -> Result<Script, Refusal>
     requires values { AreValues values.now }
     requires programs { AreProper (slice_index values.now 7) programs.items }
-    ensures ok { IfOk result (λ s. s ≡ script_of values.now programs.items) }
+    ensures ok { IfOk result (λ s. (s ≡ script_of values.now programs.items) × IsProper s) }
     ensures err { OnErr result (¬ IsProper (script_of values.now programs.items)) }
     ensures kind { IfErr result (λ e. e ≡ Refusal.Bad) }
 {
@@ -33,11 +35,8 @@ fn assembled(values: &[u32], programs: Vec<Program>) -> Result<Script, Refusal>
 }
 
 /// The script that the bytes spell.
-#[tactic(auto, unfolding(crate::specs::Reading::script_at))]
 pub fn read_script(alloc: Global, bytes: &[u8]) -> Result<Script, Refusal>
-    ensures read { IfOk result (Reads (lines_of bytes.now)) }
-    ensures bad { IsErrOf result Refusal.Bad → (values : List ℕ) (programs : List ProgramView) →
-        script_at (lines_of bytes.now) ≡ Some (values, programs) → ¬ IsProper (script_of values programs) }
+    ensures { Finds (IsScript bytes.now) (λ script. script) result }
 {
     let (values, text) = settings(bytes)?;
     let programs = sections(alloc, values[7] as usize, text)?;

@@ -1,8 +1,11 @@
 //! The sections of a script, one for each mutator.
 
-ghost use Rattle.std.specs.Prelude.{◌≡◌, ◌<◌, ◌≤◌, ◌+◌, ◌^◌, ◌∷◌, [], length, IfOk};
+ghost use Rattle.std.specs.Prelude.{◌≡◌, ◌<◌, ◌≤◌, ◌+◌, ◌^◌, ◌∷◌, [], length, IfErr, IfOk};
 ghost use Rattle.mako_text.specs.Names.{board_name, texts};
-ghost use Rattle.mako_reader.specs.Reading.{Gives, lines_of, step_at, calls_at, section_at, sections_at};
+ghost use Rattle.mako_reader.specs.Commands.{IsStep};
+ghost use Rattle.mako_reader.specs.Finds.{Finds};
+ghost use Rattle.mako_reader.specs.Parts.{AreSections, IsBody, IsSection};
+ghost use Rattle.mako_reader.specs.Words.{lines_of};
 
 use crate::arguments::command;
 use crate::lines::next_line;
@@ -20,7 +23,8 @@ pub const MAX_SECTIONS: usize = 16;
 
 /// The names at the start of a section.
 fn first_names(alloc: Global) -> Result<IndexSet<String>, Refusal>
-    ensures { Gives texts result (Some (board_name ∷ [])) }
+    ensures names { IfOk result (λ names. texts names ≡ board_name ∷ []) }
+    ensures memory { IfErr result (λ e. e ≡ Refusal.Memory) }
 {
     let mut names = IndexSet::new(alloc);
     names.insert(String::from_str(alloc, "board")?)?;
@@ -28,7 +32,6 @@ fn first_names(alloc: Global) -> Result<IndexSet<String>, Refusal>
 }
 
 /// The call of the next line, or `None` at the end of the section, and the text behind the line.
-#[tactic(auto, unfolding(crate::specs::Reading::step_at))]
 fn next_command<'a>(
     alloc: Global,
     roots: usize,
@@ -36,7 +39,8 @@ fn next_command<'a>(
     text: &'a [u8],
 ) -> Result<(Option<Call>, &'a [u8]), Refusal>
     requires { length (texts names.old) < 2 ^ 8 }
-    ensures read { Gives (λ x. (x.0, texts names.new, lines_of x.1.now)) result (step_at roots (texts names.old) (lines_of text.now)) }
+    ensures read { Finds (IsStep roots (texts names.old) (lines_of text.now))
+        (λ x. (x.0, texts names.new, lines_of x.1.now)) result }
     ensures shorter { IfOk result (λ x. length x.1.now < length text.now) }
 {
     let (line, rest) = next_line(text)?;
@@ -56,8 +60,7 @@ fn program<'a>(
 ) -> Result<(Program, &'a [u8]), Refusal>
     requires roots { (1 ≤ roots) × (roots ≤ 32) }
     requires count { count ≤ 1048576 }
-    ensures read { Gives (λ x. (x.0, lines_of x.1.now)) result (calls_at roots count (board_name ∷ []) (lines_of text.now)) }
-    ensures count { IfOk result (λ x. count + length x.0.calls ≤ 1048576) }
+    ensures read { Finds (IsBody roots count (lines_of text.now)) (λ x. (x.0, lines_of x.1.now)) result }
     ensures shorter { IfOk result (λ x. length x.1.now < length text.now) }
 {
     let mut names = first_names(alloc)?;
@@ -77,7 +80,6 @@ fn program<'a>(
 }
 
 /// The program of the next section, and the text behind it.
-#[tactic(auto, unfolding(crate::specs::Reading::section_at))]
 fn section<'a>(
     alloc: Global,
     roots: usize,
@@ -86,8 +88,7 @@ fn section<'a>(
 ) -> Result<(Program, &'a [u8]), Refusal>
     requires roots { (1 ≤ roots) × (roots ≤ 32) }
     requires count { count ≤ 1048576 }
-    ensures read { Gives (λ x. (x.0, lines_of x.1.now)) result (section_at roots count (lines_of text.now)) }
-    ensures count { IfOk result (λ x. count + length x.0.calls ≤ 1048576) }
+    ensures read { Finds (IsSection roots count (lines_of text.now)) (λ x. (x.0, lines_of x.1.now)) result }
     ensures shorter { IfOk result (λ x. length x.1.now < length text.now) }
 {
     let (line, rest) = next_line(text)?;
@@ -100,7 +101,7 @@ fn section<'a>(
 /// The programs of all sections, up to the end of the text.
 pub fn sections(alloc: Global, roots: usize, text: &[u8]) -> Result<Vec<Program>, Refusal>
     requires { (1 ≤ roots) × (roots ≤ 32) }
-    ensures { Gives (λ v. v.items) result (sections_at 16 roots 0 (lines_of text.now)) }
+    ensures { Finds (AreSections roots (lines_of text.now)) (λ v. v.items) result }
 {
     let mut programs = Vec::new(alloc);
     let mut count = 0;

@@ -2,7 +2,9 @@
 
 ghost use Rattle.std.specs.Prelude.{◌≡◌, ◌≤◌, length, map, IfOk};
 ghost use Rattle.mako_text.specs.Keys.{keys, key_view};
-ghost use Rattle.mako_reader.specs.Reading.{Gives, setting_at, settings_at, lines_of, numbers_in, AreValues};
+ghost use Rattle.mako_reader.specs.Finds.{Finds, ReadsEach};
+ghost use Rattle.mako_reader.specs.Parts.{AreValues, IsSetting, numbers_in};
+ghost use Rattle.mako_reader.specs.Words.{lines_of};
 
 use crate::lines::{next_line, next_word, split_word};
 use crate::numbers::number_within;
@@ -12,9 +14,8 @@ use mako_shape::Numbers;
 use mako_text::keys::{KEYS, Key, SETTINGS};
 
 /// The number of a key's line, and the text behind the line.
-#[tactic(auto, using(crate::proofs::Loops::no_words), unfolding(crate::specs::Reading::setting_at))]
 fn setting<'a>(key: &Key, text: &'a [u8]) -> Result<(u32, &'a [u8]), Refusal>
-    ensures { Gives (λ x. (x.0, lines_of x.1.now)) result (setting_at (key_view key.now) (lines_of text.now)) }
+    ensures { Finds (IsSetting (key_view key.now) (lines_of text.now)) (λ x. (x.0, lines_of x.1.now)) result }
 {
     let (line, after) = next_line(text)?;
     let (word, rest) = split_word(line);
@@ -31,7 +32,8 @@ fn numbers<'a>(
     text: &'a [u8],
 ) -> Result<(ArrayVec<u32, SETTINGS>, &'a [u8]), Refusal>
     requires { length table.now ≤ 11 }
-    ensures { Gives (λ x. (x.0.items, lines_of x.1.now)) result (settings_at (map key_view table.now) (lines_of text.now)) }
+    ensures { Finds (ReadsEach IsSetting (map key_view table.now) (lines_of text.now))
+        (λ x. (x.0.items, lines_of x.1.now)) result }
 {
     let mut values = ArrayVec::new();
     let mut rest = text;
@@ -44,10 +46,9 @@ fn numbers<'a>(
 }
 
 /// The numbers of the first eleven lines, and the text behind them.
-#[tactic(auto, using(crate::proofs::Spelled::are_values))]
 pub fn settings(text: &[u8]) -> Result<(ArrayVec<u32, SETTINGS>, &[u8]), Refusal>
     ensures values { IfOk result (λ x. AreValues x.0.items) }
-    ensures read { Gives (λ x. (x.0.items, lines_of x.1.now)) result (settings_at keys (lines_of text.now)) }
+    ensures read { Finds (ReadsEach IsSetting keys (lines_of text.now)) (λ x. (x.0.items, lines_of x.1.now)) result }
 {
     numbers(&KEYS, text)
 }

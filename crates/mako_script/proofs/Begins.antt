@@ -10,12 +10,13 @@ use Rattle.mako_shape.specs.Limits.{AllInRange, IsFault, all_entries, max_entrie
 use Rattle.mako_shape.specs.Places.{total}
 use Rattle.mako_shape.proofs.Ranges.{in_range-no_first}
 use Rattle.mako_text.specs.Texts.{end_word, mutator_word}
-use Rattle.mako_reader.specs.Reading.{lines_of, numbers_in}
+use Rattle.mako_reader.specs.Parts.{numbers_in}
+use Rattle.mako_reader.specs.Words.{IsNumber, lines_of}
 use Rattle.mako_script.specs.declared.fault.Kind.{Kind}
 use Rattle.mako_script.specs.declared.fault.Kind.TheVariants.{Entries, Words}
 use Rattle.mako_script.specs.Checks.{HasSetting, HaveSettings}
 use Rattle.mako_script.specs.Faults.{HasFault, IsFirstFault}
-use Rattle.mako_script.specs.Lines.{lines_before, words_at, word_in, AreSettings, IsNumber}
+use Rattle.mako_script.specs.Lines.{lines_before, words_at, word_in, AreSettings}
 use Rattle.mako_script.specs.States.{Between, Ends}
 use Rattle.mako_script.proofs.BetweenSections.{many_words}
 use Rattle.mako_script.proofs.Checked.{passes}

@@ -9,7 +9,8 @@ use Rattle.mako_shape.specs.Limits.{max_words}
 use Rattle.mako_shape.specs.Places.{total}
 use Rattle.mako_text.specs.Names.{board_name}
 use Rattle.mako_text.specs.Texts.{end_word, mutator_word}
-use Rattle.mako_reader.specs.Reading.{lines_of, numbers_in}
+use Rattle.mako_reader.specs.Parts.{numbers_in}
+use Rattle.mako_reader.specs.Words.{lines_of}
 use Rattle.mako_script.specs.declared.fault.Kind.{Kind}
 use Rattle.mako_script.specs.declared.fault.Kind.TheVariants.{Header, NotAscii, Word, Number, Range, Names, Undefined}
 use Rattle.mako_script.specs.declared.fault.Kind.TheVariants.{NoMutator, Unclosed, Many, Entries, Words}

@@ -1,12 +1,11 @@
 -- The lines of settings, one after the other, and the first fault among them.
-use Rattle.std.proofs.Common.{◌≡◌, ◌⊎◌, inl, inr, ◌+◌, ◌<◌, ◌≤◌, ℕ, zero, suc, List, [], ◌∷◌, ◌++◌, length, map, eqb}
-use Rattle.std.proofs.Common.{drop, get_or, Ok, Err, Some, None, true, false, true≢false, eq-or-lt_of_le, refl, ap, sym}
-use Rattle.std.proofs.Common.{subst, ◌∙◌, arith, length-append, length-drop}
+use Rattle.std.proofs.Common.{◌≡◌, ◌⊎◌, inl, inr, ◌+◌, ◌<◌, ◌≤◌, ℕ, zero, suc, List, [], ◌∷◌, ◌++◌, length, map, drop}
+use Rattle.std.proofs.Common.{get_or, Ok, Err, true, false, true≢false, eq-or-lt_of_le, refl, ap, sym, subst, ◌∙◌}
+use Rattle.std.proofs.Common.{arith, length-append, length-drop}
 use Rattle.std.specs.Fmt.{decimal}
 use Rattle.std.specs.List.{list_all, join_with_byte}
 use Rattle.std.specs.Prelude.{slice_index}
 use Rattle.std.proofs.lemmas.Bool.{cases_lt}
-use Rattle.std.proofs.lemmas.Bool.Decides.{nat_tests}
 use Rattle.std.proofs.lemmas.List.Splits.{join_with_byte-slice_split}
 use Rattle.std.proofs.lemmas.List.{drop_more, get_or-drop, get_or_append_left, get_or_push, get_or_default, length-map}
 use Rattle.mako_script.specs.declared.fault.Kind.{Kind}
@@ -14,14 +13,14 @@ use Rattle.mako_script.specs.declared.fault.Kind.TheVariants.{Header, NotAscii, 
 use Rattle.mako_script.specs.declared.fault.Kind.TheVariants.{Unclosed, Many, Entries}
 use Rattle.mako_script.specs.Checks.{IsCut, IsLine, IsSettingLine, HasSetting, HaveSettings, SettingFault}
 use Rattle.mako_script.specs.Faults.{IsFirstFault, HasFault, LineFault, is_printable, rank, told_line}
-use Rattle.mako_script.specs.Lines.{line_in, words_at, word_in, ended, key_at, IsNumber}
+use Rattle.mako_script.specs.Lines.{line_in, words_at, word_in, ended, key_at}
 use Rattle.mako_text.specs.declared.keys.Key.{Key}
 use Rattle.mako_text.specs.Keys.{keys, key_view}
-use Rattle.mako_reader.specs.Reading.{lines_of, words_of, line_at, word_at, numbers_in}
+use Rattle.mako_reader.specs.Parts.{numbers_in}
+use Rattle.mako_reader.specs.Words.{IsFirstLine, IsNumber, lines_of, words_of}
 use Rattle.mako_shape.specs.Limits.{all_entries, max_entries}
-use Rattle.mako_reader.proofs.Splits.{split_some}
-use Rattle.mako_reader.proofs.Takes.{some_is}
-use Rattle.mako_reader.proofs.Loops.{key_at as key_in}
+use Rattle.mako_reader.proofs.Splits.{some_line}
+use Rattle.mako_reader.proofs.Header.{key_at as key_in}
 use Rattle.mako_script.proofs.GoodSettings.{good_number, good_range, IsGood, not_in, not_between}
 
 abbrev second : List (List ℕ) → List ℕ
@@ -225,50 +224,23 @@ setting_first text at _ setting before (ended, printable, inr (word, words, valu
 
 -- ---- as the settings are read
 
-pub no_lines : (text : List ℕ) → eqb (length text) 0 ≡ true → lines_of text ≡ [] ∷ []
-unfolding lines_of
-no_lines [] e = refl
-no_lines (c ∷ cs) e = absurd (grind (arith, nat_tests))
-
-pub first_line : (lines : List (List ℕ)) (line : List ℕ) (left : List (List ℕ)) → line_at lines ≡ Some (line, left)
-    → line_in lines 0 ≡ line
-first_line [] line left e = absurd cc
-first_line (l ∷ []) line left e = absurd cc
-first_line (l ∷ m ∷ more) line left e = let same = some_is (l, m ∷ more) (line, left) e in
-    ap (λ (x : List ℕ × List (List ℕ)). x.0) same
-
-last_line : (lines : List (List ℕ)) → line_at lines ≡ None → 0 < length lines → length lines ≡ 1
-last_line [] e some = absurd (omega arith)
-last_line (l ∷ []) e some = refl
-last_line (l ∷ m ∷ more) e some = absurd cc
+last_line : (lines : List (List ℕ)) → ((read : List ℕ × List (List ℕ)) → ¬ IsFirstLine lines read) → 0 < length lines
+    → length lines ≡ 1
+last_line [] none some = absurd (omega arith)
+last_line (l ∷ []) none some = refl
+last_line (l ∷ m ∷ more) none some = absurd (none (l, m ∷ more) (refl, omega arith))
 
 one_joined : (lines : List (List ℕ)) → length lines ≡ 1 → join_with_byte 10 lines ≡ line_in lines 0
 one_joined [] e = absurd (omega arith)
 one_joined (l ∷ []) e = refl
 one_joined (l ∷ m ∷ more) e = absurd (omega arith)
 
-pub last_piece : (text : List ℕ) → line_at (lines_of text) ≡ None → (length (lines_of text) ≡ 1)
-    × (line_in (lines_of text) 0 ≡ text)
+pub last_piece : (text : List ℕ) → ((read : List ℕ × List (List ℕ)) → ¬ IsFirstLine (lines_of text) read)
+    → (length (lines_of text) ≡ 1) × (line_in (lines_of text) 0 ≡ text)
 unfolding lines_of
 last_piece text none =
-    let parts = split_some (λ (b : ℕ). eqb b 10) text in
-    let one = last_line (lines_of text) none (omega (arith, ap length parts.2)) in
+    let one = last_line (lines_of text) none (some_line text) in
     (one, sym (one_joined (lines_of text) one) ∙ join_with_byte-slice_split 10 text)
-
--- a text that is not empty has more than the piece behind the last line feed
-pub some_lines : (text : List ℕ) → eqb (length text) 0 ≡ false → lines_of text ≡ [] ∷ [] → ⊥
-unfolding lines_of
-some_lines text some same =
-    let none : text ≡ [] = sym (join_with_byte-slice_split 10 text) ∙ one_joined (lines_of text) (ap length same)
-    ∙ ap (λ (ls : List (List ℕ)). line_in ls 0) same in
-    let zero : length text ≡ 0 = ap length none in
-    grind (arith, nat_tests)
-
-pub no_second : (words : List (List ℕ)) (w : List ℕ) (ws : List (List ℕ)) → words ≡ w ∷ ws → word_at ws ≡ None
-    → (key word : List ℕ) → words ≡ key ∷ word ∷ [] → ⊥
-no_second words w [] e none key word f = let h : w ∷ [] ≡ key ∷ word ∷ [] = sym e ∙ f in
-    absurd (omega (arith, ap length h))
-no_second words w (v ∷ vs) e none key word f = absurd cc
 
 -- a key of the table is that of its line
 pub key_is : (table : List Key) (i : ℕ) (d : Key) → map key_view table ≡ keys → i < length table

@@ -1,14 +1,11 @@
 -- A command line that is read has no fault, and what it defines is among the names behind it.
-use Rattle.std.proofs.Common.{◌≡◌, ℕ, zero, suc, ◌+◌, ◌<◌, ◌≤◌, ◌⊎◌, inl, inr, Bool, true, false, true≢false, ◌||◌}
+use Rattle.std.proofs.Common.{◌≢◌, ◌≡◌, ℕ, zero, suc, ◌+◌, ◌<◌, ◌≤◌, ◌⊎◌, inl, inr, Bool, true, false, true≢false, ◌||◌}
 use Rattle.std.proofs.Common.{List, [], ◌∷◌, ◌++◌, length, slice_get, Some, None, refl, sym, ap, subst, ◌∙◌, arith}
-use Rattle.std.specs.Prelude.{is_some}
-use Rattle.std.specs.Fmt.{decimal}
 use Rattle.std.specs.Str.{bytes_eq}
 use Rattle.std.proofs.lemmas.Bool.{cases_lt}
 use Rattle.std.proofs.lemmas.List.{get_or_append_left, get_or_push, length_push}
 use Rattle.std.proofs.lemmas.List.Folds.{list_any-append, list_any_at}
 use Rattle.std.proofs.lemmas.Slice.Eq.{bytes_eq-Decides}
-use Rattle.mako_model.specs.declared.call.Call.{Call}
 use Rattle.mako_reader.specs.declared.command.Argument.{Argument}
 use Rattle.mako_reader.specs.declared.command.Argument.TheVariants as arguments
 use Rattle.mako_reader.specs.declared.command.Command.{Command}
@@ -19,67 +16,26 @@ use Rattle.mako_script.specs.CommandLines.{CommandFault, IsRead, is_among}
 use Rattle.mako_script.specs.Lines.{greatest, word_in, HasArgument, IsCommand}
 use Rattle.mako_script.specs.States.{AreApart}
 use Rattle.mako_text.specs.Names.{is_name, name_of}
-use Rattle.mako_reader.specs.Reading.{◌>>=◌, arguments_at, call_of, command_at, command_named, define_at, defines}
-use Rattle.mako_reader.specs.Reading.{kinds_of, name_at, names_after, word_at}
-use Rattle.mako_script.proofs.Commands.{among_any, among_place, first_kind, not_placed}
-use Rattle.mako_reader.proofs.NameLists.{define_full, define_known, define_new}
+use Rattle.mako_reader.specs.Commands.{AreValuesOf, Defines, DefinesFirst, IsCommandLine, IsValueOf, defines, kinds_of}
+use Rattle.mako_reader.specs.Commands.{place_at, word_of}
+use Rattle.mako_reader.specs.Words.{IsNumber}
+use Rattle.mako_script.proofs.Commands.{among_any, first_kind, not_placed}
+use Rattle.mako_reader.proofs.NameLists.{no_place}
 use Rattle.mako_script.proofs.GoodSettings.{number_is}
-use Rattle.mako_reader.proofs.Takes.{Takes, TakesEach, arguments_take, bind_some, name_takes, some_is, word_takes}
+use Rattle.mako_reader.proofs.Values.{by_word, counts, some_is}
 
 -- ---- what is read
 
 taken_at : (names : List (List ℕ)) (kinds : List Argument) (words : List (List ℕ)) (vs : List ℕ)
-    → TakesEach names kinds words vs
+    → AreValuesOf names kinds words vs
     → (place : ℕ) (kind : Argument) → slice_get kinds place ≡ Some kind → (v : ℕ)
-    × Takes names kind (word_in words place) v
-taken_at names [] words vs h place kind e = absurd cc
-taken_at names (k ∷ ks) words vs h zero kind e =
-    let same : k ≡ kind = some_is k kind e in
-    let here = subst (λ (t : List (List ℕ)). Takes names k (word_in t 0) h.2) (sym h.4) h.6 in
-    (h.2, subst (λ (q : Argument). Takes names q (word_in words 0) h.2) same here)
-taken_at names (k ∷ ks) words vs h (suc place) kind e =
-    let t = taken_at names ks h.1 h.3 h.7 place kind e in
-    (t.0, subst (λ (ws : List (List ℕ)). Takes names kind (word_in ws (suc place)) t.0) (sym h.4) t.1)
-
-length_taken : (names : List (List ℕ)) (kinds : List Argument) (words : List (List ℕ)) (vs : List ℕ)
-    → TakesEach names kinds words vs → length words ≡ length kinds
-length_taken names [] words vs h = ap length h.0
-length_taken names (k ∷ ks) words vs h = ap length h.4 ∙ ap suc (length_taken names ks h.1 h.3 h.7)
-
-pub record CommandLine (roots : ℕ) (names words after : List (List ℕ)) : Type 0 where
-  pub word : List ℕ
-  pub behind : List (List ℕ)
-  pub values : List ℕ
-  pub command : Command
-  pub words_are : words ≡ word ∷ behind
-  pub named : command_named word ≡ Some command
-  pub each : TakesEach names (kinds_of command) behind values
-  pub next : names_after (defines command) roots names behind ≡ Some after
-
-pub line_from : (roots : ℕ) (names words after : List (List ℕ)) → IsRead roots names words after
-    → CommandLine roots names words after
-unfolding command_at
-line_from roots names words after (call, e) =
-    let c : Call × List (List ℕ) = (call, after) in
-    let w = bind_some (word_at words)
-    (λ w. command_named w.0 >>= λ command. arguments_at names (kinds_of command) w.1 >>= λ vs. names_after
-    (defines command) roots names w.1 >>= λ after. Some (call_of command vs, after)) c e in
-    let k = bind_some (command_named w.0.0)
-    (λ command. arguments_at names (kinds_of command) w.0.1 >>= λ vs. names_after
-    (defines command) roots names w.0.1 >>= λ after. Some (call_of command vs, after)) c w.2 in
-    let v = bind_some (arguments_at names (kinds_of k.0) w.0.1)
-    (λ vs. names_after (defines k.0) roots names w.0.1 >>= λ after. Some (call_of k.0 vs, after)) c k.2 in
-    let n = bind_some (names_after (defines k.0) roots names w.0.1) (λ after. Some (call_of k.0 v.0, after)) c v.2 in
-    record {
-      word = w.0.0;
-      behind = w.0.1;
-      values = v.0;
-      command = k.0;
-      words_are = word_takes words w.0 w.1;
-      named = k.1;
-      each = arguments_take names (kinds_of k.0) w.0.1 v.0 v.1;
-      next = n.1 ∙ ap (λ (x : Call × List (List ℕ)). Some x.1) (some_is (call_of k.0 v.0, n.0) c n.2);
-    }
+    × IsValueOf names kind (word_in words place) v
+taken_at names [] words vs are place kind e = absurd cc
+taken_at names (k ∷ ks) (w ∷ ws) (v ∷ vs) are zero kind e =
+    (v, subst (λ (q : Argument). IsValueOf names q w v) (some_is k kind e) are.0)
+taken_at names (k ∷ ks) (w ∷ ws) (v ∷ vs) are (suc place) kind e = taken_at names ks ws vs are.1 place kind e
+taken_at names (k ∷ ks) [] vs are place kind e = absurd are
+taken_at names (k ∷ ks) (w ∷ ws) [] are place kind e = absurd are
 
 pub behind_at : (words : List (List ℕ)) (word : List ℕ) (behind : List (List ℕ)) (place : ℕ) → words ≡ word ∷ behind
     → word_in words (place + 1) ≡ word_in behind place
@@ -88,7 +44,7 @@ behind_at words word behind place e =
     ap (λ (t : List (List ℕ)). word_in t (place + 1)) e ∙ ap (word_in (word ∷ behind)) next
 
 spelled_name : (names : List (List ℕ)) (kind : Argument) (w : List ℕ) (v : ℕ) → greatest kind ≡ None
-    → Takes names kind w v → is_name w ≡ true
+    → IsValueOf names kind w v → is_name w ≡ true
 spelled_name names arguments.Defined w v none t = t.0
 spelled_name names arguments.Read w v none t = t.0
 spelled_name names arguments.Fields w v none t = absurd cc
@@ -96,15 +52,12 @@ spelled_name names arguments.Index w v none t = absurd cc
 spelled_name names arguments.Number w v none t = absurd cc
 
 number_taken : (names : List (List ℕ)) (kind : Argument) (w : List ℕ) (v most : ℕ) → greatest kind ≡ Some most
-    → Takes names kind w v → (w ≡ decimal v) × (v ≤ most) × (v < 10000000000)
+    → IsValueOf names kind w v → IsNumber w v × (v ≤ most)
 number_taken names arguments.Defined w v most some t = absurd cc
 number_taken names arguments.Read w v most some t = absurd cc
-number_taken names arguments.Fields w v most some t = let same : 14 ≡ most = some_is 14 most some in
-    (t.0, omega (arith, t.1), omega (arith, t.1))
-number_taken names arguments.Index w v most some t = let same : 13 ≡ most = some_is 13 most some in
-    (t.0, omega (arith, t.1), omega (arith, t.1))
-number_taken names arguments.Number w v most some t = let same : 4294967295 ≡ most = some_is 4294967295 most some in
-    (t.0, omega (arith, t.1), omega (arith, t.1))
+number_taken names arguments.Fields w v most some t = (t.0, omega (arith, t.2, some_is 14 most some))
+number_taken names arguments.Index w v most some t = (t.0, omega (arith, t.2, some_is 13 most some))
+number_taken names arguments.Number w v most some t = (t.0, omega (arith, t.2, some_is 4294967295 most some))
 
 -- only the first argument is defined, of the commands that define one
 defined_first : (command : Command) (place : ℕ) → slice_get (kinds_of command) place ≡ Some arguments.Defined
@@ -154,32 +107,35 @@ push_apart names word apart none a b less below same = elim (cases_lt b (length 
       true≢false (sym (among_at names a (omega (arith, less, last))) ∙ ap (is_among names) is ∙ none))
 ]
 
-module _ (roots : ℕ) (names words after : List (List ℕ)) (line : CommandLine roots names words after) where
+module _ (roots : ℕ) (names words after : List (List ℕ)) (read : IsRead roots names words after) where
+  pub line : IsCommandLine roots names words (read.0, after)
+  line = read.1
+
   pub is_command : IsCommand words line.command
   is_command = record {
-    named = ap (λ (t : List (List ℕ)). command_named (word_in t 0)) line.words_are ∙ line.named;
+    named = ap (λ (t : List (List ℕ)). word_in t 0) line.words_are;
     count = omega (
       arith,
       ap length line.words_are,
-      length_taken names
-          (kinds_of line.command) line.behind line.values line.each,
+      (counts names (kinds_of line.command) line.behind line.values line.are).0,
     );
     names = λ place kind e none.
-        let t = taken_at names (kinds_of line.command) line.behind line.values line.each place kind e in
-        ap is_name (behind_at words line.word line.behind place line.words_are)
+        let t = taken_at names (kinds_of line.command) line.behind line.values line.are place kind e in
+        ap is_name (behind_at words (word_of line.command) line.behind place line.words_are)
         ∙ spelled_name names kind (word_in line.behind place) t.0 none t.1;
   }
 
   same_command : (command : Command) → IsCommand words command → command ≡ line.command
-  same_command command is = some_is command line.command (sym is.named ∙ is_command.named)
+  same_command command is = by_word command line.command (sym is.named ∙ is_command.named)
 
-  argument_taken : (kind : Argument) (word : List ℕ) → HasArgument words kind word → (v : ℕ) × Takes names kind word v
+  argument_taken : (kind : Argument) (word : List ℕ) → HasArgument words kind word → (v : ℕ)
+      × IsValueOf names kind word v
   argument_taken kind word (command, place, is, among, spelled) =
       let at = ap (λ (c : Command). slice_get (kinds_of c) place) (sym (same_command command is)) ∙ among in
-      let t = taken_at names (kinds_of line.command) line.behind line.values line.each place kind at in (
+      let t = taken_at names (kinds_of line.command) line.behind line.values line.are place kind at in (
         t.0,
-        subst (λ (w : List ℕ). Takes names kind w t.0) (sym (spelled
-            ∙ behind_at words line.word line.behind place line.words_are)) t.1,
+        subst (λ (w : List ℕ). IsValueOf names kind w t.0) (sym (spelled
+            ∙ behind_at words (word_of line.command) line.behind place line.words_are)) t.1,
       )
 
   -- the first argument, of a command that defines it
@@ -187,8 +143,11 @@ module _ (roots : ℕ) (names words after : List (List ℕ)) (line : CommandLine
       × (name ≡ word_in line.behind 0)
   defined_is name (command, place, is, among, spelled) =
       let at = ap (λ (c : Command). slice_get (kinds_of c) place) (sym (same_command command is)) ∙ among in
-      let first = defined_first line.command place at in
-      (first.0, spelled ∙ behind_at words line.word line.behind place line.words_are ∙ ap (word_in line.behind) first.1)
+      let first = defined_first line.command place at in (
+        first.0,
+        spelled ∙ behind_at words (word_of line.command) line.behind place line.words_are
+            ∙ ap (word_in line.behind) first.1,
+      )
 
   defines_it : defines line.command ≡ true → HasArgument words arguments.Defined (word_in line.behind 0)
   defines_it some = (
@@ -197,37 +156,37 @@ module _ (roots : ℕ) (names words after : List (List ℕ)) (line : CommandLine
     is_command,
     first_kind line.command some,
     sym
-        (behind_at words line.word line.behind 0 line.words_are),
+        (behind_at words (word_of line.command) line.behind 0 line.words_are),
   )
 
-  defined_so : defines line.command ≡ true → define_at roots names (word_in line.behind 0) ≡ Some after
-  defined_so some =
-      let next : names_after true roots names line.behind ≡ Some after =
-      ap (λ (b : Bool). names_after b roots names line.behind) (sym some) ∙ line.next in
-      let w = bind_some (word_at line.behind) (λ w. name_at w.0 >>= λ name. define_at roots names name) after next in
-      let n = bind_some (name_at w.0.0) (λ name. define_at roots names name) after w.2 in
-      let first : word_in line.behind 0 ≡ w.0.0 =
-      ap (λ (t : List (List ℕ)). word_in t 0) (word_takes line.behind w.0 w.1) in
-      ap (define_at roots names) (first ∙ (name_takes w.0.0 n.0 n.1).1) ∙ n.2
+  defined_so : defines line.command ≡ true → Defines roots names (word_in line.behind 0) after
+  defined_so some = by line.behind (subst (λ (b : Bool). DefinesFirst b roots names line.behind after) some line.next)
+    where
+      by : (ws : List (List ℕ)) → DefinesFirst true roots names ws after → Defines roots names (word_in ws 0) after
+      by [] first = absurd first
+      by (w ∷ ws) first = first.1
 
   pub no_fault : (k : Kind) → CommandFault names roots words k → ⊥
   no_fault faults.Word fault = fault line.command is_command
   no_fault faults.Number (kind, word, most, has, some, none) =
       let t = argument_taken kind word has in
       let n = number_taken names kind word t.0 most some t.1 in
-      none t.0 (n.0, n.2)
+      none t.0 n.0
   no_fault faults.Range (kind, word, most, n, has, some, number, above) =
       let t = argument_taken kind word has in
       let v = number_taken names kind word t.0 most some t.1 in
-      omega (arith, number_is word t.0 n v.0 v.2 number, v.1, above)
+      omega (arith, number_is word t.0 n v.0.0 v.0.1 number, v.1, above)
   no_fault faults.Undefined (name, has, none) =
       let t = argument_taken arguments.Read name has in
-      true≢false (sym (ap is_some t.1.1) ∙ not_placed names name none)
-  no_fault faults.Names (name, has, none, full) =
-      let d = defined_is name has in
-      let fails = define_full roots names name (not_placed names name none) full in
-      let made = ap (define_at roots names) d.1 ∙ defined_so d.0 in
-      absurd (let no : None ≡ Some after = sym fails ∙ made in cc)
+      (let no = sym t.1.1 ∙ not_placed names name none in cc)
+  no_fault faults.Names (name, has, none, full) = by (defined_so d.0)
+    where
+      d : (defines line.command ≡ true) × (name ≡ word_in line.behind 0)
+      d = defined_is name has
+
+      by : Defines roots names (word_in line.behind 0) after → ⊥
+      by (inl (some, same)) = some (ap (place_at names) (sym d.1) ∙ not_placed names name none)
+      by (inr (absent, room, new)) = omega (arith, room, full)
   no_fault faults.NotAscii fault = fault
   no_fault faults.Unclosed fault = fault
   no_fault faults.Header fault = fault
@@ -247,34 +206,24 @@ module _ (roots : ℕ) (names words after : List (List ℕ)) (line : CommandLine
   names_are : NamesAfter
   names_are = by (defines line.command) refl
     where
-      room : (w : List ℕ) → define_at roots names w ≡ Some after → is_among names w ≡ false → (after ≡ names ++ w ∷ [])
-          × (length names < roots)
-      room w made none = elim (cases_lt (length names) roots) [
-        | inl below ↦ (
-          sym (some_is (names ++ w ∷ []) after
-              (sym (define_new roots names w (not_placed names w none) below) ∙ made)),
-          below,
-        )
-        | inr full ↦ absurd (let no : None ≡ Some after = sym (define_full roots names w (not_placed names w none) full)
-            ∙ made in cc)
-      ]
+      known : (word : List ℕ) → place_at names word ≢ None → is_among names word ≡ true
+      known word some = among (is_among names word) refl
+        where
+          among : (b : Bool) → is_among names word ≡ b → is_among names word ≡ true
+          among true e = e
+          among false e = absurd (some (not_placed names word e))
 
-      same : defines line.command ≡ true → is_among names (word_in line.behind 0) ≡ true → after ≡ names
-      same some known =
-          let p = among_place names (word_in line.behind 0) known in
-          sym (some_is names after (sym (define_known roots names (word_in line.behind 0) (ap is_some p.1))
-          ∙ defined_so some))
+      unknown : (word : List ℕ) → place_at names word ≡ None → is_among names word ≡ false
+      unknown word none = among_any names word ∙ no_place names word none
 
-      defined : defines line.command ≡ true → (b : Bool) → is_among names (word_in line.behind 0) ≡ b → NamesAfter
-      defined some true known = inl (same some known, λ e. known)
-      defined some false none = let made = room (word_in line.behind 0) (defined_so some) none in
-          inr (some, made.0, none, made.1)
+      made : defines line.command ≡ true → Defines roots names (word_in line.behind 0) after → NamesAfter
+      made some (inl (there, same)) = inl (same, λ e. known (word_in line.behind 0) there)
+      made some (inr (none, room, new)) = inr (some, new, unknown (word_in line.behind 0) none, room)
 
       by : (b : Bool) → defines line.command ≡ b → NamesAfter
-      by true some = defined some (is_among names (word_in line.behind 0)) refl
+      by true some = made some (defined_so some)
       by false none = inl (
-        sym (some_is names after (ap (λ (b : Bool). names_after b roots names line.behind) (sym none)
-            ∙ line.next)),
+        subst (λ (b : Bool). DefinesFirst b roots names line.behind after) none line.next,
         λ e. absurd (true≢false (sym e ∙ none)),
       )
 

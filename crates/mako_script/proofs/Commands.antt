@@ -1,25 +1,22 @@
 -- A command line whose words may all stand there is read.
-use Rattle.std.proofs.Common.{◌≡◌, ℕ, suc, ◌<◌, ◌⊎◌, inl, inr, Bool, true, false, true≢false, ltb, ◌||◌, List, [], ◌∷◌}
-use Rattle.std.proofs.Common.{◌++◌, length, map, get_or, slice_get, Option, Some, None, refl, sym, ap, subst, ◌∙◌}
-use Rattle.std.proofs.Common.{arith}
-use Rattle.std.specs.Prelude.{is_some, unwrap_or, Ok}
+use Rattle.std.proofs.Common.{◌≡◌, ℕ, suc, ◌<◌, ◌⊎◌, inl, inr, Bool, true, false, true≢false, ◌||◌, List, [], ◌∷◌, ◌++◌}
+use Rattle.std.proofs.Common.{length, map, get_or, slice_get, Option, Some, None, refl, sym, ap, subst, ◌∙◌, arith}
+use Rattle.std.specs.Prelude.{unwrap_or}
 use Rattle.std.specs.Bool.{one_answer}
 use Rattle.std.specs.List.{list_any}
 use Rattle.std.specs.Str.{bytes_eq}
-use Rattle.std.proofs.lemmas.Bool.Decides.{nat_tests}
 use Rattle.std.proofs.lemmas.List.Folds.{list_any_at}
 use Rattle.std.proofs.lemmas.Slice.Eq.{bytes_eq-Decides}
 use Rattle.mako_reader.specs.declared.command.Argument.{Argument}
 use Rattle.mako_reader.specs.declared.command.Argument.TheVariants as arguments
 use Rattle.mako_reader.specs.declared.command.Command.{Command}
 use Rattle.mako_reader.specs.declared.command.Command.TheVariants.{New, Num, Copy, Drop, Get, Put, Show, Collect}
-use Rattle.mako_script.specs.Checks.{IsValue}
 use Rattle.mako_script.specs.CommandLines.{AreArguments, IsArgument, IsRead, is_among}
 use Rattle.mako_script.specs.Lines.{word_in}
-use Rattle.mako_reader.specs.Reading.{argument_at, arguments_at, call_of, command_at, command_named, defines, each_at}
-use Rattle.mako_reader.specs.Reading.{kinds_of, names_after, number_at, place_at, value_at, within_at}
-use Rattle.mako_reader.proofs.Digits.{ten_digits_again}
-use Rattle.mako_reader.proofs.NameLists.{define_known, define_new, no_place, place_takes}
+use Rattle.mako_reader.specs.Commands.{AreValuesOf, Defines, DefinesFirst, IsValueOf, call_of, defines, kinds_of}
+use Rattle.mako_reader.specs.Commands.{place_at, word_of}
+use Rattle.mako_text.specs.Names.{is_name}
+use Rattle.mako_reader.proofs.NameLists.{no_place, place_takes}
 
 -- ---- names
 
@@ -52,12 +49,11 @@ among_place names word is = by (place_at names word) refl
     by (Some root) e = (root, e)
     by None e = absurd (true≢false (sym is ∙ among_any names word ∙ no_place names word e))
 
-pub not_placed : (names : List (List ℕ)) (word : List ℕ) → is_among names word ≡ false
-    → is_some (place_at names word) ≡ false
+pub not_placed : (names : List (List ℕ)) (word : List ℕ) → is_among names word ≡ false → place_at names word ≡ None
 not_placed names word none = by (place_at names word) refl
   where
-    by : (o : Option ℕ) → place_at names word ≡ o → is_some o ≡ false
-    by None e = refl
+    by : (o : Option ℕ) → place_at names word ≡ o → place_at names word ≡ None
+    by None e = e
     by (Some root) e =
         let h = place_takes names word root e in
         let here = (bytes_eq-Decides word (get_or names root [])).1 (sym h.1) in
@@ -66,41 +62,24 @@ not_placed names word none = by (place_at names word) refl
 
 -- ---- arguments
 
-pub within_is : (low high : ℕ) (word : List ℕ) (n : ℕ) → IsValue low high word (Ok n) → within_at low high word ≡ Some n
-unfolding within_at
-within_is low high word n is =
-    let read : number_at word ≡ Some n = ap number_at is.0.0 ∙ ten_digits_again n is.0.1 in
-    let test : (ltb n low || ltb high n) ≡ false = grind (arith, nat_tests, is.1, is.2) in
-    rw (read, test) refl
-
 argument_reads : (names : List (List ℕ)) (roots : ℕ) (kind : Argument) (word : List ℕ)
-    → IsArgument names roots kind word → (v : ℕ) × (argument_at names kind word ≡ Some v)
-unfolding argument_at
-argument_reads names roots arguments.Defined word is = (unwrap_or (place_at names word) (length names), rw is.0 refl)
-argument_reads names roots arguments.Read word is = let p = among_place names word is.1 in (p.0, rw is.0 p.1)
-argument_reads names roots arguments.Fields word is = (is.0, within_is 0 14 word is.0 is.1)
-argument_reads names roots arguments.Index word is = (is.0, within_is 0 13 word is.0 is.1)
-argument_reads names roots arguments.Number word is = (is.0, within_is 0 4294967295 word is.0 is.1)
-
-each_reads : (names : List (List ℕ)) (roots : ℕ) (kinds : List Argument) (words : List (List ℕ))
-    → length words ≡ length kinds → AreArguments names roots kinds words
-    → (vs : List ℕ) × (each_at (value_at names) kinds words ≡ Some (vs, []))
-unfolding each_at value_at
-each_reads names roots [] [] same are = ([], refl)
-each_reads names roots [] (w ∷ ws) same are = absurd (omega arith)
-each_reads names roots (k ∷ ks) [] same are = absurd (omega arith)
-each_reads names roots (k ∷ ks) (w ∷ ws) same are =
-    let one = argument_reads names roots k w (are 0 k refl) in
-    let others = each_reads names roots ks ws (omega arith) (λ place kind e. are (suc place) kind e) in
-    (one.0 ∷ others.0, rw (one.1, others.1) refl)
+    → IsArgument names roots kind word → (v : ℕ) × IsValueOf names kind word v
+argument_reads names roots arguments.Defined word is = (unwrap_or (place_at names word) (length names), (is.0, refl))
+argument_reads names roots arguments.Read word is = let p = among_place names word is.1 in (p.0, (is.0, p.1))
+argument_reads names roots arguments.Fields word is = is
+argument_reads names roots arguments.Index word is = is
+argument_reads names roots arguments.Number word is = is
 
 arguments_read : (names : List (List ℕ)) (roots : ℕ) (kinds : List Argument) (words : List (List ℕ))
     → length words ≡ length kinds → AreArguments names roots kinds words
-    → (vs : List ℕ) × (arguments_at names kinds words ≡ Some vs)
-unfolding arguments_at
-arguments_read names roots kinds words same are =
-    let each = each_reads names roots kinds words same are in
-    (each.0, rw each.1 refl)
+    → (vs : List ℕ) × AreValuesOf names kinds words vs
+arguments_read names roots [] [] same are = ([], tt)
+arguments_read names roots [] (w ∷ ws) same are = absurd (omega arith)
+arguments_read names roots (k ∷ ks) [] same are = absurd (omega arith)
+arguments_read names roots (k ∷ ks) (w ∷ ws) same are =
+    let one = argument_reads names roots k w (are 0 k refl) in
+    let others = arguments_read names roots ks ws (omega arith) (λ place kind e. are (suc place) kind e) in
+    (one.0 ∷ others.0, (one.1, others.1))
 
 -- ---- lines
 
@@ -119,13 +98,13 @@ pub record HasCommand (roots : ℕ) (names : List (List ℕ)) (words : List (Lis
     (behind : List (List ℕ)) : Type 0 where
   pub word : List ℕ
   pub words_are : words ≡ word ∷ behind
-  pub named : command_named word ≡ Some command
+  pub named : word ≡ word_of command
   pub count : length behind ≡ length (kinds_of command)
   pub are : AreArguments names roots (kinds_of command) behind
 
 pub has_command : (roots : ℕ) (names words : List (List ℕ)) (command : Command) (behind : List (List ℕ)) (word : List ℕ)
     (rest : List (List ℕ)) (kinds : List Argument)
-    → words ≡ word ∷ rest → behind ≡ rest → command_named word ≡ Some command → length behind ≡ length kinds
+    → words ≡ word ∷ rest → behind ≡ rest → word ≡ word_of command → length behind ≡ length kinds
     → kinds ≡ kinds_of command
     → AreArguments names roots kinds behind → HasCommand roots names words command behind
 has_command roots names words command behind word rest kinds words_are same named count kinds_are are = record {
@@ -138,50 +117,63 @@ has_command roots names words command behind word rest kinds words_are same name
 
 reads : (roots : ℕ) (names words : List (List ℕ)) (command : Command) (behind after : List (List ℕ))
     → HasCommand roots names words command behind
-    → names_after (defines command) roots names behind ≡ Some after → IsRead roots names words after
-unfolding command_at
+    → DefinesFirst (defines command) roots names behind after → IsRead roots names words after
 reads roots names words command behind after has next =
-    let values = arguments_read names roots (kinds_of command) behind has.count has.are in
-    (call_of command values.0, rw (has.words_are, has.named, values.1, next) refl)
+    let values = arguments_read names roots (kinds_of command) behind has.count has.are in (
+      call_of command values.0,
+      record {
+        command = command;
+        behind = behind;
+        values = values.0;
+        words_are = has.words_are
+            ∙ ap (λ (w : List ℕ). w ∷ behind) has.named;
+        are = values.1;
+        call_is = refl;
+        next = next;
+      },
+    )
 
--- the first argument of a command that defines it
-first_word : (names : List (List ℕ)) (roots : ℕ) (command : Command) (behind : List (List ℕ)) → defines command ≡ true
-    → length behind ≡ length (kinds_of command)
-    → (ws : List (List ℕ)) × (behind ≡ word_in behind 0 ∷ ws)
-first_word names roots New [] e count = absurd (omega arith)
-first_word names roots Num [] e count = absurd (omega arith)
-first_word names roots Copy [] e count = absurd (omega arith)
-first_word names roots Get [] e count = absurd (omega arith)
-first_word names roots Drop [] e count = absurd cc
-first_word names roots Put [] e count = absurd cc
-first_word names roots Show [] e count = absurd cc
-first_word names roots Collect [] e count = absurd cc
-first_word names roots command (w ∷ ws) e count = (ws, refl)
+-- a command that defines its first argument
+reads_first : (roots : ℕ) (names words : List (List ℕ)) (command : Command) (behind after : List (List ℕ))
+    → HasCommand roots names words command behind → defines command ≡ true
+    → Defines roots names (word_in behind 0) after → IsRead roots names words after
+reads_first roots names words command behind after has some next =
+    reads roots names words command behind after has
+    (subst (λ (b : Bool). DefinesFirst b roots names behind after) (sym some)
+    (by behind (omega (arith, has.count, some_kinds command some))
+    (has.are 0 arguments.Defined (first_kind command some)).0 next))
+  where
+    some_kinds : (c : Command) → defines c ≡ true → 0 < length (kinds_of c)
+    some_kinds Collect e = absurd cc
+    some_kinds _ e = omega arith
+
+    by : (ws : List (List ℕ)) → 0 < length ws → is_name (word_in ws 0) ≡ true → Defines roots names (word_in ws 0) after
+        → DefinesFirst true roots names ws after
+    by [] none spelled made = absurd (omega arith)
+    by (w ∷ ws) any spelled made = (spelled, made)
 
 pub reads_plain : (roots : ℕ) (names words : List (List ℕ)) (command : Command) (behind : List (List ℕ))
     → HasCommand roots names words command behind
     → defines command ≡ false → IsRead roots names words names
-reads_plain roots names words command behind has none = reads roots names words command behind names has (rw none refl)
+reads_plain roots names words command behind has none =
+    reads roots names words command behind names has
+    (subst (λ (b : Bool). DefinesFirst b roots names behind names) (sym none) refl)
 
 pub reads_known : (roots : ℕ) (names words : List (List ℕ)) (command : Command) (behind : List (List ℕ))
     → HasCommand roots names words command behind
     → defines command ≡ true → is_among names (word_in behind 0) ≡ true → IsRead roots names words names
 reads_known roots names words command behind has some known =
-    let first = first_word names roots command behind some has.count in
-    let spelled = (has.are 0 arguments.Defined (first_kind command some)).0 in
     let place = among_place names (word_in behind 0) known in
-    let defined = define_known roots names (word_in behind 0) (ap is_some place.1) in
-    reads roots names words command behind names has (rw (some, first.1, spelled) defined)
+    reads_first roots names words command behind names has some
+    (inl ((λ none. (let no = sym place.1 ∙ none in cc)), refl))
 
 pub reads_new : (roots : ℕ) (names words : List (List ℕ)) (command : Command) (behind : List (List ℕ))
     → HasCommand roots names words command behind
     → defines command ≡ true → is_among names (word_in behind 0) ≡ false → length names < roots
     → IsRead roots names words (names ++ word_in behind 0 ∷ [])
 reads_new roots names words command behind has some unknown room =
-    let first = first_word names roots command behind some has.count in
-    let spelled = (has.are 0 arguments.Defined (first_kind command some)).0 in
-    let defined = define_new roots names (word_in behind 0) (not_placed names (word_in behind 0) unknown) room in
-    reads roots names words command behind (names ++ word_in behind 0 ∷ []) has (rw (some, first.1, spelled) defined)
+    reads_first roots names words command behind (names ++ word_in behind 0 ∷
+    []) has some (inr (not_placed names (word_in behind 0) unknown, room, refl))
 
 -- an argument that is not among the names has room
 pub has_room : (roots : ℕ) (names words : List (List ℕ)) (command : Command) (behind : List (List ℕ))

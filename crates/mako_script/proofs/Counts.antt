@@ -6,7 +6,7 @@ use Rattle.std.proofs.lemmas.Bool.{cases_lt}
 use Rattle.std.proofs.lemmas.List.{drop-take, get_or-drop, length-drop}
 use Rattle.std.proofs.lemmas.List.Sums.{count_by_more_no, count_by_more_yes}
 use Rattle.mako_script.specs.declared.fault.Kind.{Kind}
-use Rattle.mako_reader.specs.Reading.{lines_of}
+use Rattle.mako_reader.specs.Words.{lines_of}
 use Rattle.mako_script.specs.Faults.{HasFault, IsFirstFault, LineFault, is_printable, rank, told_line}
 use Rattle.mako_script.specs.Lines.{line_in, lines_before}
 use Rattle.mako_script.specs.States.{IsClean}

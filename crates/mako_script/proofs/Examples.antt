@@ -1,20 +1,14 @@
 -- The worked script is one, and the text with two spaces is that of none.
-use Rattle.std.proofs.Common.{◌≡◌, ℕ, zero, suc, ◌<◌, ◌≤◌, List, ◌+◌, length, refl, ap, sym, ◌∙◌, arith, true, None}
-use Rattle.std.proofs.lemmas.Option.{none-some}
+use Rattle.std.proofs.Common.{◌≡◌, ℕ, zero, suc, ◌<◌, ◌≤◌, List, ◌+◌, length, refl, ap, arith, true}
 use Rattle.std.specs.Prelude.{slice_index, ◌≢◌}
 use Rattle.std.specs.Fmt.{digits}
 use Rattle.mako_shape.specs.Places.{total}
 use Rattle.mako_shape.specs.Limits.{IsShape, max_words}
 use Rattle.mako_text.specs.Names.{is_name, name_of}
 use Rattle.mako_text.specs.Programs.{IsProgram}
-use Rattle.mako_text.specs.Scripts.{ScriptView, IsProper}
-use Rattle.mako_reader.specs.Reading.{script_at, lines_of, words_of, each_at, setting_at, sections_at, section_at}
-use Rattle.mako_reader.specs.Reading.{calls_at, command_at, arguments_at, value_at, argument_at, within_at, number_at}
-use Rattle.mako_reader.specs.Reading.{define_at, place_at}
-use Rattle.mako_text.specs.Printed.{values_of}
-use Rattle.mako_reader.proofs.Again.{script_again}
+use Rattle.mako_text.specs.Scripts.{IsProper}
 use Rattle.mako_text.specs.Texts.{script_text, IsScript}
-use Rattle.mako_script.specs.Examples.{storing, storing_text, storing_names, storing_program, spaced_text}
+use Rattle.mako_script.specs.Examples.{storing, storing_text, storing_names, storing_program}
 
 spelled : storing_text ≡ script_text storing
 unfolding script_text digits
@@ -111,12 +105,3 @@ proper = record {
 
 pub is_storing : IsScript storing_text storing
 is_storing = record { proper = proper; spelled = spelled }
-
-reads_nothing : script_at (lines_of spaced_text) ≡ None
-unfolding script_at lines_of words_of each_at setting_at sections_at section_at calls_at command_at arguments_at
-    value_at argument_at within_at number_at define_at place_at is_name
-reads_nothing = refl
-
-pub no_spaces : (s : ScriptView) → IsScript spaced_text s → ⊥
-no_spaces s is = none-some (values_of s, s.programs) (sym reads_nothing
-    ∙ (ap (λ (x : List ℕ). script_at (lines_of x)) is.spelled ∙ script_again s is.proper))

@@ -1,32 +1,36 @@
 -- The text of a script has no fault: a check goes through its sections to the end.
-use Rattle.std.proofs.Common.{◌≡◌, ℕ, zero, suc, ◌+◌, ◌<◌, ◌≤◌, ◌⊎◌, inl, inr, ⊎_elim, Bool, true, false, true≢false}
-use Rattle.std.proofs.Common.{cond, leb, List, [], ◌∷◌, length, drop, Option, Some, None, refl, sym, ap, subst, ◌∙◌}
-use Rattle.std.proofs.Common.{arith, eq-or-lt_of_le}
+use Rattle.std.proofs.Common.{suc, ◌≡◌, ℕ, ◌+◌, ◌<◌, ◌≤◌, inl, inr, true, true≢false, List, [], ◌∷◌, ◌++◌, length}
+use Rattle.std.proofs.Common.{length-append, length-drop, map, take, drop, refl, sym, ap, subst, ◌∙◌, arith}
+use Rattle.std.proofs.Common.{eq-or-lt_of_le}
 use Rattle.std.specs.Prelude.{slice_index}
-use Rattle.std.specs.List.{list_all}
-use Rattle.std.specs.Str.{bytes_eq}
+use Rattle.std.specs.List.{AllByRecursion, flat_map, join_with_byte, list_all}
 use Rattle.std.proofs.lemmas.Bool.{cases_lt}
-use Rattle.std.proofs.lemmas.Bool.Decides.{nat_tests}
+use Rattle.std.proofs.lemmas.List.Sums.{sum_by-cons}
 use Rattle.mako_model.specs.declared.call.Call.{Call}
 use Rattle.mako_shape.specs.declared.numbers.Numbers.{Numbers}
 use Rattle.mako_shape.specs.Limits.{all_entries, max_entries, max_words}
 use Rattle.mako_shape.specs.Places.{total}
-use Rattle.mako_text.specs.Names.{board_name}
+use Rattle.mako_text.specs.Names.{AreNames}
 use Rattle.mako_text.specs.Printed.{values_of}
-use Rattle.mako_text.specs.Programs.{ProgramView}
-use Rattle.mako_text.specs.Scripts.{ScriptView}
-use Rattle.mako_text.specs.Texts.{IsScript, end_word, mutator_word}
-use Rattle.mako_reader.specs.Reading.{◌>>=◌, calls_at, command_at, is_end, lines_of, numbers_in, script_at, section_at}
-use Rattle.mako_reader.specs.Reading.{sections_at, settings_at, with_call, words_of}
+use Rattle.mako_text.specs.Programs.{AreCalls, IsProgram, ProgramView, defined_after}
+use Rattle.mako_text.specs.Scripts.{ScriptView, command_count}
+use Rattle.mako_text.specs.Texts.{IsScript, argument_words, command_word, command_words, end_word, mutator_word}
+use Rattle.mako_text.specs.Texts.{section_lines}
+use Rattle.mako_reader.specs.Parts.{IsSetting, body_lines, lines_from, numbers_in}
+use Rattle.mako_reader.specs.Commands.{IsCommandLine}
+use Rattle.mako_reader.specs.Words.{words_of, lines_of}
 use Rattle.mako_text.specs.Keys.{keys}
-use Rattle.mako_reader.proofs.Again.{script_again, script_lines_ended, script_printable, script_setting}
-use Rattle.mako_reader.proofs.Spelled.{nothing_left}
-use Rattle.mako_reader.proofs.Takes.{bind_some, ended_some, some_is}
+use Rattle.mako_reader.proofs.Again.{at_most, command_again, command_is_words, first_name, not_end, script_printable}
+use Rattle.mako_reader.proofs.Again.{words_again}
+use Rattle.mako_reader.proofs.Header.{header_at, same_setting}
+use Rattle.mako_reader.proofs.Lists.{same_each}
+use Rattle.mako_reader.proofs.Scripts.{HasParts, parts_of}
+use Rattle.mako_reader.proofs.Sections.{lines_more}
 use Rattle.mako_script.specs.declared.fault.Kind.{Kind}
 use Rattle.mako_script.specs.declared.fault.Kind.TheVariants.{Words}
 use Rattle.mako_script.specs.Checks.{HaveSettings, IsLine}
 use Rattle.mako_script.specs.Faults.{HasFault, is_printable}
-use Rattle.mako_script.specs.Lines.{line_in, words_at, sections_before}
+use Rattle.mako_script.specs.Lines.{line_in, sections_before}
 use Rattle.mako_script.specs.States.{Between, Inside}
 use Rattle.mako_script.proofs.Begins.{begins, number_at, some_roots}
 use Rattle.mako_script.proofs.BetweenSections.{ending_fault, ends_here, go_open}
@@ -34,141 +38,95 @@ use Rattle.mako_script.proofs.Checked.{front}
 use Rattle.mako_script.proofs.Counted.{settings_are}
 use Rattle.mako_script.proofs.InSections.{go_end, go_inside}
 
--- ---- tests of what was read
-
-either : {A : Type 0} (b : Bool) (x y : A) (r : Option A) → cond b (Some x) r ≡ Some y → ((b ≡ true) × (x ≡ y))
-    ⊎ ((b ≡ false) × (r ≡ Some y))
-either true x y r h = inl (refl, some_is x y h)
-either false x y r h = inr (refl, h)
-
-not_if : {A : Type 0} (b : Bool) (r : Option A) (y : A) → cond b None r ≡ Some y → (b ≡ false) × (r ≡ Some y)
-not_if true r y h = absurd cc
-not_if false r y h = (refl, h)
-
-only_if : {A : Type 0} (b : Bool) (r : Option A) (y : A) → cond b r None ≡ Some y → (b ≡ true) × (r ≡ Some y)
-only_if true r y h = (refl, h)
-only_if false r y h = absurd cc
-
-below : (count : ℕ) → leb 1048576 count ≡ false → count < 1048576
-below count e = grind (arith, nat_tests)
-
 -- ---- sections that are read
 
 module _ (text : List ℕ) (roots : ℕ) (some : 1 ≤ roots) (printable : (at : ℕ)
     → list_all is_printable (line_in (lines_of text) at) ≡ true) where
-  is_line : (line : ℕ) (l m : List ℕ) (more : List (List ℕ)) → (l ∷ m ∷ more) ≡ drop line (lines_of text)
-      → IsLine (l ∷ m ∷ more) l (m ∷ more)
-  is_line line l m more left = (
+  is_line : (line : ℕ) (l : List ℕ) (more : List (List ℕ)) → 0 < length more → (l ∷ more) ≡ drop line (lines_of text)
+      → IsLine (l ∷ more) l more
+  is_line line l more some left = (
     refl,
-    omega arith,
+    some,
     ap (λ (ls : List (List ℕ)). list_all is_printable (line_in ls 0)) left
         ∙ ap (list_all is_printable) (front (lines_of text) line) ∙ printable line,
   )
 
-  -- a section is read to its end
-  abbrev Reaches : ℕ → ℕ → ProgramView × List (List ℕ) → Type 0
-  Reaches sections count y = (next : ℕ) × Between text roots sections (count + length y.0.calls) next y.1
+  module _ (final : List (List ℕ)) (are : AreNames final) (few : length final ≤ roots) (left : List (List ℕ))
+      (more : 0 < length left) where
+    abbrev rest_of : List Call → List (List ℕ)
+    rest_of calls = lines_from (map (command_words final) calls ++ (end_word ∷ []) ∷ []) ++ left
 
-  calls_walk : (sections count : ℕ) (names lines : List (List ℕ)) (line : ℕ)
-      → Inside text roots sections count names line lines
-      → (p : ProgramView × List (List ℕ)) → calls_at roots count names lines ≡ Some p → Reaches sections count p
-  unfolding calls_at
-  calls_walk sections count names [] line st p e = absurd cc
-  calls_walk sections count names (l ∷ []) line st p e = absurd cc
-  calls_walk sections count names (l ∷ m ∷ more) line st p e =
-      ⊎_elim ended_here (goes_on
-      (λ after q inside read. calls_walk sections (count + 1) after (m ∷ more) (line + 1) inside q read))
-      (either (bytes_eq l end_word) (record { names = names; calls = [] }, m ∷ more) p
-      (command_at roots names (words_of l) >>= λ c. cond (leb 1048576 count) None
-      (calls_at roots (count + 1) c.1 (m ∷ more) >>= λ q. Some (with_call c.0 q))) e)
-    where
-      is : IsLine (l ∷ m ∷ more) l (m ∷ more)
-      is = is_line line l m more st.reached.left_is
+    some_rest : (calls : List Call) → 0 < length (rest_of calls)
+    some_rest calls = omega
+        (arith, length-append (lines_from (map (command_words final) calls ++ (end_word ∷ []) ∷ [])) left, more)
 
-      ended_here : (bytes_eq l end_word ≡ true) × ((record { names = names; calls = [] }, m ∷ more) ≡ p)
-          → Reaches sections count p
-      ended_here h =
-          let end = go_end text roots sections count line names (l ∷ m ∷ more) st l (m ∷ more) is h.0 in
-          let none : count ≡ count + length (let calls : List Call = [] in calls) = omega arith in
-          subst (Reaches sections count) h.1
-          (line + 1, subst (λ (n : ℕ). Between text roots sections n (line + 1) (m ∷ more)) none end)
+    calls_walk : (sections count k : ℕ) (calls : List Call) (line : ℕ) → k ≤ length final
+        → AreCalls k calls (length final) → count + length calls ≤ 1048576
+        → Inside text roots sections count (take k final) line (rest_of calls) → (next : ℕ)
+        × Between text roots sections (count + length calls) next left
+    calls_walk sections count k [] line within fits room st =
+        let none : count ≡ count + length (let calls : List Call = [] in calls) = omega arith in
+        let end = go_end text roots sections count line (take k final) (rest_of []) st end_word left
+        (is_line line end_word left more st.reached.left_is) refl in
+        (line + 1, subst (λ (n : ℕ). Between text roots sections n (line + 1) left) none end)
+    calls_walk sections count k (c ∷ calls) line within fits room st =
+        let after = at_most (defined_after k c) calls (length final) fits.1 in
+        let words = words_again (command_word c) (argument_words final c)
+        (command_is_words final are k c within fits.0 after) in
+        let l = join_with_byte 32 (command_words final c) in
+        let read = subst (λ (ws : List (List ℕ)). IsCommandLine roots (take k final) ws
+        (c, take (defined_after k c) final)) (sym words)
+        (command_again final are roots few k c within fits.0 after) in
+        let inside = go_inside text roots sections count line (take k final) (rest_of (c ∷ calls)) st l (rest_of calls)
+        (is_line line l (rest_of calls) (some_rest calls) st.reached.left_is) (not_end final c)
+        (take (defined_after k c) final) (c, read) (omega arith) in
+        let others = calls_walk sections (count + 1) (defined_after k c) calls (line + 1) after fits.1
+        (omega arith) inside in
+        let more_calls : count + 1 + length calls ≡ count + length (c ∷ calls) = omega arith in
+        (others.0, subst (λ (n : ℕ). Between text roots sections n others.0 left) more_calls others.1)
 
-      goes_on : ((after : List (List ℕ)) (q : ProgramView × List (List ℕ))
-          → Inside text roots sections (count + 1) after (line + 1) (m ∷ more)
-          → calls_at roots (count + 1) after (m ∷ more) ≡ Some q
-          → Reaches sections (count + 1) q)
-          → (bytes_eq l end_word ≡ false)
-          × ((command_at roots names (words_of l) >>= λ c. cond (leb 1048576 count) None
-          (calls_at roots (count + 1) c.1 (m ∷ more) >>= λ q. Some (with_call c.0 q))) ≡ Some p)
-          → Reaches sections count p
-      goes_on again h =
-          let c = bind_some (command_at roots names (words_of l))
-          (λ c. cond (leb 1048576 count) None
-          (calls_at roots (count + 1) c.1 (m ∷ more) >>= λ q. Some (with_call c.0 q))) p h.1 in
-          let g = not_if (leb 1048576 count)
-          (calls_at roots (count + 1) c.0.1 (m ∷ more) >>= λ q. Some (with_call c.0.0 q)) p c.2 in
-          let q = bind_some (calls_at roots (count + 1) c.0.1 (m ∷ more)) (λ q. Some (with_call c.0.0 q)) p g.1 in
-          let inside = go_inside text roots sections count line names (l ∷ m ∷ more) st l (m ∷ more) is h.0 c.0.1
-          (c.0.0, c.1) (below count g.0) in
-          let others = again c.0.1 q.0 inside q.1 in
-          let more_calls : count + 1 + length q.0.0.calls ≡ count + length (c.0.0 ∷ q.0.0.calls) = omega arith in
-          subst (Reaches sections count) (some_is (with_call c.0.0 q.0) p q.2)
-          (others.0, subst (λ (n : ℕ). Between text roots sections n others.0 q.0.1) more_calls others.1)
-
-  section_walk : (sections count line : ℕ) (lines : List (List ℕ)) → Between text roots sections count line lines
-      → sections < 16
-      → (p : ProgramView × List (List ℕ)) → section_at roots count lines ≡ Some p → Reaches (sections + 1) count p
-  unfolding section_at
-  section_walk sections count line [] st room p e = absurd cc
-  section_walk sections count line (l ∷ []) st room p e = absurd cc
-  section_walk sections count line (l ∷ m ∷ more) st room p e =
-      let g = only_if (bytes_eq l mutator_word) (calls_at roots count (board_name ∷ []) (m ∷ more)) p e in
-      let inside = go_open text roots sections count line (l ∷ m ∷ more) st l (m ∷ more)
-      (is_line line l m more st.reached.left_is) g.0 some room in
-      calls_walk (sections + 1) count (board_name ∷ []) (m ∷ more) (line + 1) inside p g.1
-
-  abbrev none_more : List ProgramView
-  none_more = []
+  section_walk : (sections count line : ℕ) (p : ProgramView) (left : List (List ℕ))
+      → Between text roots sections count line (lines_from (section_lines p) ++ left) → sections < 16
+      → IsProgram roots p
+      → 0 < length left → count + length p.calls ≤ 1048576 → (next : ℕ)
+      × Between text roots (sections + 1) (count + length p.calls) next left
+  section_walk sections count line p left st room proper more total =
+      let body = lines_from (body_lines p) ++ left in
+      let behind : 0 < length body = omega (arith, length-append (lines_from (body_lines p)) left, more) in
+      let inside = go_open text roots sections count line (mutator_word ∷
+      body) st mutator_word body (is_line line mutator_word body behind st.reached.left_is) refl some room in
+      calls_walk p.names proper.names proper.few left more (sections + 1) count 1 p.calls (line + 1)
+      (omega (arith, proper.names.some)) proper.calls total
+      (subst (λ (names : List (List ℕ)). Inside text roots (sections + 1) count names (line + 1) body)
+      (sym (first_name p.names proper.names)) inside)
 
   -- the sections are read to the end of the text
   abbrev ReachesEnd : ℕ → List ProgramView → Type 0
   ReachesEnd sections ps = (next : ℕ) × (commands : ℕ)
       × Between text roots (sections + length ps) commands next ([] ∷ [])
 
-  at_end : (sections count line : ℕ) (lines : List (List ℕ)) → Between text roots sections count line lines
-      → (ps : List ProgramView) → is_end lines ≡ true → none_more ≡ ps → ReachesEnd sections ps
-  at_end sections count line lines st ps end same =
-      let none : sections ≡ sections + length none_more = omega arith in
-      subst (ReachesEnd sections) same (
-        line,
-        count,
-        subst (λ (n : ℕ). Between text roots n count line ([] ∷ [])) none
-            (subst (Between text roots sections count line) (nothing_left lines end) st),
-      )
+  abbrev none_more : List ProgramView
+  none_more = []
 
-  sections_walk : (left sections count line : ℕ) (lines : List (List ℕ)) → sections + left ≡ 16
-      → Between text roots sections count line lines
-      → (ps : List ProgramView) → sections_at left roots count lines ≡ Some ps → ReachesEnd sections ps
-  unfolding sections_at
-  sections_walk zero sections count line lines sum st ps e = let g = ended_some (is_end lines) none_more ps e in
-      at_end sections count line lines st ps g.0 g.1
-  sections_walk (suc left) sections count line lines sum st ps e =
-      ⊎_elim (λ (h : (is_end lines ≡ true) × (none_more ≡ ps)). at_end sections count line lines st ps h.0 h.1)
-      (λ (h : (is_end lines ≡ false)
-      × ((section_at roots count lines >>= λ p. sections_at left roots (count + length p.0.calls) p.1 >>= λ qs. Some
-      (p.0 ∷ qs)) ≡ Some ps)).
-      let p = bind_some (section_at roots count lines)
-      (λ p. sections_at left roots (count + length p.0.calls) p.1 >>= λ qs. Some (p.0 ∷ qs)) ps h.1 in
-      let q = bind_some (sections_at left roots (count + length p.0.0.calls) p.0.1) (λ qs. Some (p.0.0 ∷ qs)) ps p.2 in
-      let one = section_walk sections count line lines st (omega (arith, sum)) p.0 p.1 in
-      let others = sections_walk left (sections + 1) (count + length p.0.0.calls) one.0 p.0.1
-      (omega (arith, sum)) one.1 q.0 q.1 in
-      let more : sections + 1 + length q.0 ≡ sections + length (p.0.0 ∷ q.0) = omega arith in
-      subst (ReachesEnd sections) (some_is (p.0.0 ∷ q.0) ps q.2)
-      (others.0, others.1, subst (λ (n : ℕ). Between text roots n others.1 others.0 ([] ∷ [])) more others.2))
-      (either (is_end lines) none_more ps
-      (section_at roots count lines >>= λ p. sections_at left roots (count + length p.0.calls) p.1 >>= λ qs. Some
-      (p.0 ∷ qs)) e)
+  sections_walk : (sections count line : ℕ) (ps : List ProgramView)
+      → Between text roots sections count line (lines_from (flat_map section_lines ps) ++ [] ∷ [])
+      → sections + length ps ≤ 16
+      → AllByRecursion (IsProgram roots) ps → count + command_count ps ≤ 1048576 → ReachesEnd sections ps
+  sections_walk sections count line [] st few proper total =
+      let none : sections ≡ sections + length none_more = omega arith in
+      (line, count, subst (λ (n : ℕ). Between text roots n count line ([] ∷ [])) none st)
+  sections_walk sections count line (p ∷ ps) st few proper total =
+      let left = lines_from (flat_map section_lines ps) ++ [] ∷ [] in
+      let sum = sum_by-cons (λ (x : ProgramView). length x.calls) p ps in
+      let here = subst (Between text roots sections count line)
+      (lines_more (section_lines p) (flat_map section_lines ps) ([] ∷ [])) st in
+      let one = section_walk sections count line p left here (omega arith) proper.0
+      (omega (arith, length-append (lines_from (flat_map section_lines ps)) ([] ∷ [])))
+      (omega (arith, sum, total)) in
+      let others = sections_walk (sections + 1) (count + length p.calls) one.0 ps one.1 (omega arith) proper.1
+      (omega (arith, sum, total)) in
+      let more : sections + 1 + length ps ≡ sections + length (p ∷ ps) = omega arith in
+      (others.0, others.1, subst (λ (n : ℕ). Between text roots n others.1 others.0 ([] ∷ [])) more others.2)
 
 -- ---- the settings of a script
 
@@ -183,21 +141,21 @@ module _ (text : List ℕ) (s : ScriptView) (is : IsScript text s) where
   printable at = ap (λ (t : List ℕ). list_all is_printable (line_in (lines_of t) at)) is.spelled
       ∙ script_printable s is.proper at
 
+  parts : HasParts text s
+  parts = parts_of text s is
+
   have : HaveSettings lines (values_of s)
   have at below =
-      let line = script_setting s is.proper at (omega (arith, below)) in
+      let line = header_at keys lines (values_of s, parts.left) parts.header at ([], (0, 0)) (omega (arith, below)) in
+      let same : line_in lines at ≡ line.line = sym (front lines at)
+      ∙ ap (λ (ls : List (List ℕ)). line_in ls 0) line.lines_are in
       record {
-        ended = omega (
-          arith,
-          below,
-          ap (λ (t : List ℕ). length (lines_of t)) is.spelled,
-          script_lines_ended s is.proper,
-        );
+        ended = omega (arith, line.ended, length-drop (suc at) lines);
         printable = printable at;
-        words = ap (λ (t : List ℕ). words_at (lines_of t) at) is.spelled ∙ line.0;
-        few = omega (arith, line.3);
-        low = line.1;
-        high = line.2;
+        words = ap words_of same ∙ line.words;
+        few = line.few;
+        low = line.low;
+        high = line.high;
       }
 
   few : ¬ (max_entries < all_entries (numbers_in (values_of s) 0))
@@ -212,25 +170,17 @@ module _ (text : List ℕ) (s : ScriptView) (is : IsScript text s) where
   some : 1 ≤ roots
   some = (some_roots lines (values_of s) have count).0
 
-  read : sections_at 16 roots 0 (drop 11 lines) ≡ Some s.programs
-  unfolding script_at
-  read =
-      let whole : script_at lines ≡ Some (values_of s, s.programs) =
-      ap (λ (t : List ℕ). script_at (lines_of t)) is.spelled ∙ script_again s is.proper in
-      let a = bind_some (settings_at keys lines)
-      (λ x. sections_at 16 (slice_index x.0 7) 0 x.1 >>= λ qs. Some (x.0, qs)) (values_of s, s.programs) whole in
-      let b = bind_some (sections_at 16 (slice_index a.0.0 7) 0 a.0.1) (λ qs. Some (a.0.0, qs))
-      (values_of s, s.programs) a.2 in
-      let same : a.0 ≡ (values_of s, drop 11 lines) = some_is a.0 (values_of s, drop 11 lines) (sym a.1
-      ∙ settings_are lines (values_of s) have count) in
-      let programs : b.0 ≡ s.programs =
-      ap (λ (x : List ℕ × List ProgramView). x.1) (some_is (a.0.0, b.0) (values_of s, s.programs) b.2) in
-      subst (λ (y : List ℕ × List (List ℕ)). sections_at 16 (slice_index y.0 7) 0 y.1 ≡ Some s.programs) same (b.1
-      ∙ ap (λ (ps : List ProgramView). Some ps) programs)
+  left_is : parts.left ≡ drop 11 lines
+  left_is = ap (λ (x : List ℕ × List (List ℕ)). x.1)
+      (same_each IsSetting same_setting keys lines (values_of s, parts.left) (values_of s, drop 11 lines) parts.header
+      (settings_are lines (values_of s) have count))
 
   end : ReachesEnd text roots some printable 0 s.programs
-  end = sections_walk text roots some printable 16 0 0 11 (drop 11 lines) refl
-      (begins text (values_of s) have count few) s.programs read
+  end =
+      let start = subst (Between text roots 0 0 11) (sym left_is
+      ∙ parts.sections.spelled) (begins text (values_of s) have count few) in
+      sections_walk text roots some printable 0 0 11 s.programs start
+      (omega (arith, parts.sections.few)) parts.sections.proper (omega (arith, parts.sections.total))
 
   -- the areas of a script have few words together
   few_words : HasFault lines end.0 Words → ⊥

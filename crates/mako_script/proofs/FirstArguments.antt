@@ -12,7 +12,7 @@ use Rattle.mako_script.specs.CommandLines.{AreArguments, ArgumentFault, IsArgume
 use Rattle.mako_script.specs.Faults.{rank}
 use Rattle.mako_script.specs.Lines.{word_in}
 use Rattle.mako_script.proofs.GoodSettings.{number_is}
-use Rattle.mako_reader.proofs.Takes.{some_is}
+use Rattle.mako_reader.proofs.Values.{some_is}
 
 -- ---- one word
 

@@ -9,11 +9,12 @@ use Rattle.mako_script.specs.declared.fault.Kind.{Kind}
 use Rattle.mako_script.specs.declared.fault.Kind.TheVariants as faults
 use Rattle.mako_script.specs.CommandLines.{ArgumentFault, CommandFault, IsFirstOfCommand, IsLeastFault}
 use Rattle.mako_script.specs.Faults.{rank}
-use Rattle.mako_script.specs.Lines.{greatest, word_in, HasArgument, IsCommand, IsNumber}
+use Rattle.mako_script.specs.Lines.{greatest, word_in, HasArgument, IsCommand}
+use Rattle.mako_reader.specs.Words.{IsNumber}
 use Rattle.mako_text.specs.Names.{is_name}
-use Rattle.mako_reader.specs.Reading.{command_named, kinds_of}
+use Rattle.mako_reader.specs.Commands.{kinds_of, word_of}
 use Rattle.mako_script.proofs.Clean.{behind_at}
-use Rattle.mako_reader.proofs.Takes.{some_is}
+use Rattle.mako_reader.proofs.Values.{by_word, some_is}
 
 from_word : (names : List (List ℕ)) (roots : ℕ) (words : List (List ℕ)) (k : Kind) → CommandFault names roots words k
     → 3 ≤ rank k
@@ -29,19 +30,17 @@ word_first names roots words none =
     record { has = none; least = λ other fault. from_word names roots words other fault }
 
 pub no_name : (names : List (List ℕ)) (roots : ℕ) (words : List (List ℕ)) (word : List ℕ) (behind : List (List ℕ))
-    → words ≡ word ∷ behind → command_named word ≡ None
+    → words ≡ word ∷ behind → ((command : Command) → word ≢ word_of command)
     → IsFirstOfCommand names roots words faults.Word
 no_name names roots words word behind same none = word_first names roots words
-    (λ command is. absurd (let no : None ≡ Some command = sym none
-    ∙ ap (λ (t : List (List ℕ)). command_named (word_in t 0)) (sym same) ∙ is.named in cc))
+    (λ command is. none command (ap (λ (t : List (List ℕ)). word_in t 0) (sym same) ∙ is.named))
 
 -- ---- one command
 
 module _ (names : List (List ℕ)) (roots : ℕ) (words : List (List ℕ)) (word : List ℕ) (behind : List (List ℕ))
-    (command : Command) (same : words ≡ word ∷ behind) (named : command_named word ≡ Some command) where
+    (command : Command) (same : words ≡ word ∷ behind) (named : word ≡ word_of command) where
   this_command : (other : Command) → IsCommand words other → other ≡ command
-  this_command other is =
-      some_is other command (sym is.named ∙ ap (λ (t : List (List ℕ)). command_named (word_in t 0)) same ∙ named)
+  this_command other is = by_word other command (sym is.named ∙ ap (λ (t : List (List ℕ)). word_in t 0) same ∙ named)
 
   pub no_count : length behind ≢ length (kinds_of command) → IsFirstOfCommand names roots words faults.Word
   no_count differ = word_first names roots words
@@ -197,7 +196,7 @@ module _ (names : List (List ℕ)) (roots : ℕ) (words : List (List ℕ)) (word
 
     is_this : 4 ≤ rank f → IsCommand words command
     is_this past = record {
-      named = ap (λ (t : List (List ℕ)). command_named (word_in t 0)) same ∙ named;
+      named = ap (λ (t : List (List ℕ)). word_in t 0) same ∙ named;
       count = omega (arith, ap length same, count);
       names = spelled_all past;
     }

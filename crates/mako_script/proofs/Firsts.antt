@@ -5,12 +5,12 @@ use Rattle.mako_script.specs.declared.fault.Kind.{Kind}
 use Rattle.mako_script.specs.declared.fault.Kind.TheVariants.{Header, NotAscii, Word, Number, Range, Names, Undefined}
 use Rattle.mako_script.specs.declared.fault.Kind.TheVariants.{NoMutator, Unclosed, Many, Entries, Words, Long}
 use Rattle.mako_script.specs.Faults.{IsFirstFault, HasFault, rank, told_line}
-use Rattle.mako_reader.specs.Reading.{lines_of}
+use Rattle.mako_reader.specs.Words.{lines_of}
 
 -- the kinds by their ranks
 by_rank : List Kind
-by_rank = NotAscii ∷ Unclosed ∷ Header ∷ Word ∷ Number ∷ Range ∷ Entries ∷ Undefined ∷ Names ∷ Many ∷ NoMutator ∷ Words
-    ∷ Long ∷ []
+by_rank = NotAscii ∷ Unclosed ∷ Header ∷ Word ∷ Number ∷ Range ∷ Entries ∷ Undefined ∷ Names ∷ Many ∷ NoMutator ∷
+    Words ∷ Long ∷ []
 
 ranked : (kind : Kind) → get_or by_rank (rank kind) Long ≡ kind
 unfolding by_rank

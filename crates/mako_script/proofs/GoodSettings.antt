@@ -3,7 +3,8 @@ use Rattle.std.proofs.Common.{◌≡◌, inl, inr, ◌<◌, ◌≤◌, ℕ, List
 use Rattle.std.proofs.lemmas.Fmt.{decimal_injective}
 use Rattle.std.specs.Fmt.{decimal}
 use Rattle.mako_script.specs.declared.fault.Kind.TheVariants.{Number, Range}
-use Rattle.mako_script.specs.Lines.{words_at, word_in, key_at, IsNumber, IsIn, IsBetween}
+use Rattle.mako_script.specs.Lines.{words_at, word_in, key_at, IsIn, IsBetween}
+use Rattle.mako_reader.specs.Words.{IsNumber}
 use Rattle.mako_script.specs.Faults.{LineFault}
 
 -- the line is its key and this number, in its range

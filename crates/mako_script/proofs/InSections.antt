@@ -1,6 +1,6 @@
 -- What a line of a section that is open does to where the check stands, and the first fault there.
 use Rattle.std.proofs.Common.{◌≡◌, ℕ, ◌+◌, ◌<◌, ◌≤◌, ◌⊎◌, inl, inr, Bool, not, ◌&&◌, true, false, true≢false, List, []}
-use Rattle.std.proofs.Common.{length, Some, None, refl, sym, ap, subst, ◌∙◌, arith, eq-or-lt_of_le, get_or}
+use Rattle.std.proofs.Common.{length, refl, sym, ap, subst, ◌∙◌, arith, eq-or-lt_of_le, get_or}
 use Rattle.std.specs.Prelude.{◌≢◌, min}
 use Rattle.std.specs.Cmp.{IsEquivalence}
 use Rattle.std.specs.List.{list_all}
@@ -16,7 +16,9 @@ use Rattle.mako_text.specs.Texts.{end_word, mutator_word}
 use Rattle.mako_reader.specs.declared.command.Argument.{Argument}
 use Rattle.mako_reader.specs.declared.command.Argument.TheVariants as arguments
 use Rattle.mako_reader.specs.declared.command.Command.{Command}
-use Rattle.mako_reader.specs.Reading.{lines_of, words_of}
+use Rattle.mako_reader.specs.declared.command.Command.TheVariants.{New}
+use Rattle.mako_reader.specs.Words.{IsNumber, lines_of, words_of}
+use Rattle.mako_reader.specs.Commands.{word_of}
 use Rattle.mako_reader.proofs.NameLists.{place_takes}
 use Rattle.mako_script.specs.declared.fault.Kind.{Kind}
 use Rattle.mako_script.specs.declared.fault.Kind.TheVariants.{Header, NotAscii, Word, Number, Range, Names, Undefined}
@@ -24,25 +26,33 @@ use Rattle.mako_script.specs.declared.fault.Kind.TheVariants.{Unclosed, Many, En
 use Rattle.mako_script.specs.Checks.{IsCut, IsLine}
 use Rattle.mako_script.specs.CommandLines.{CommandFault, IsFirstOfCommand, IsRead, is_among}
 use Rattle.mako_script.specs.Faults.{HasFault, IsFirstFault, LineFault, is_printable, rank, told_line}
-use Rattle.mako_script.specs.Lines.{line_in, words_at, word_in, ended, IsNumber, IsIn, IsCommand, HasArgument}
-use Rattle.mako_script.specs.Lines.{IsDefined, AreDefined}
+use Rattle.mako_script.specs.Lines.{line_in, words_at, word_in, ended, IsIn, IsCommand, HasArgument, IsDefined}
+use Rattle.mako_script.specs.Lines.{AreDefined}
 use Rattle.mako_script.specs.States.{AreApart, Between, Inside}
 use Rattle.mako_script.proofs.Checked.{IsNth, cut_is, nth_line}
-use Rattle.mako_script.proofs.Clean.{CommandLine, among_at, comes, grows, known_after, line_from, no_fault, stay_apart}
-use Rattle.mako_script.proofs.Clean.{stay_few}
+use Rattle.mako_script.proofs.Clean.{among_at, comes, grows, known_after, no_fault, stay_apart, stay_few}
 use Rattle.mako_script.proofs.Commands.{among_any, among_place, turned}
 use Rattle.mako_script.proofs.Counts.{clean_more, counted_no, counted_yes, first_here, of_line}
 use Rattle.mako_script.proofs.GoodSettings.{number_is}
 
 -- ---- lines of no command
 
+-- the words that open and end a section are of no command
+mutator_other : (command : Command) → mutator_word ≡ word_of command → ⊥
+mutator_other New same = omega (arith, ap (λ (w : List ℕ). get_or w 0 0) same)
+mutator_other _ same = omega (arith, ap (λ (w : List ℕ). get_or w 0 0) same)
+
+end_other : (command : Command) → end_word ≡ word_of command → ⊥
+end_other New same = omega (arith, ap (λ (w : List ℕ). get_or w 0 0) same)
+end_other _ same = omega (arith, ap (λ (w : List ℕ). get_or w 0 0) same)
+
 pub mutator_no_command : (command : Command) → IsCommand (words_of mutator_word) command → ⊥
 unfolding words_of
-mutator_no_command command is = let none : None ≡ Some command = is.named in cc
+mutator_no_command command is = mutator_other command is.named
 
 pub end_no_command : (command : Command) → IsCommand (words_of end_word) command → ⊥
 unfolding words_of
-end_no_command command is = let none : None ≡ Some command = is.named in cc
+end_no_command command is = end_other command is.named
 
 pub mutator_no_end : mutator_word ≡ end_word → ⊥
 mutator_no_end same = omega (arith, ap length same)
@@ -298,9 +308,8 @@ module _ (text : List ℕ) (roots sections commands line : ℕ) (names left : Li
           to_text _ fault = absurd fault
 
       module _ (after : List (List ℕ)) (read : IsRead roots names (words_of l) after) where
-        command : CommandLine roots names (words_at lines line) after
-        command = line_from roots names (words_at lines line) after
-            (subst (λ (w : List ℕ). IsRead roots names (words_of w) after) (sym nth.line_is) read)
+        command : IsRead roots names (words_at lines line) after
+        command = subst (λ (w : List ℕ). IsRead roots names (words_of w) after) (sym nth.line_is) read
 
         -- one command more than there may be
         pub many_first : (told : ℕ) → 1048576 ≤ commands → told ≡ line + 1 → IsFirstFault text Many told

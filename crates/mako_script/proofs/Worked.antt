@@ -1,8 +1,8 @@
 -- The first faults of worked texts, behind the settings of the examples.
 use Rattle.std.proofs.Common.{◌≡◌, ℕ, zero, suc, ◌+◌, ◌*◌, ◌<◌, ◌≤◌, ◌⊎◌, inl, inr, true, false, true≢false, List, []}
-use Rattle.std.proofs.Common.{◌∷◌, ◌++◌, length, drop, slice_get, Some, None, refl, sym, ap, subst, ◌∙◌, arith}
+use Rattle.std.proofs.Common.{◌∷◌, ◌++◌, length, drop, slice_get, Option, Some, None, refl, sym, ap, subst, arith}
 use Rattle.std.proofs.Common.{length-append}
-use Rattle.std.specs.Prelude.{codes}
+use Rattle.std.specs.Prelude.{codes, slice_index, unwrap_or}
 use Rattle.std.specs.Fmt.{digits}
 use Rattle.std.specs.List.{list_all}
 use Rattle.std.specs.Str.{bytes_eq}
@@ -13,19 +13,21 @@ use Rattle.mako_text.specs.Names.{board_name, is_name}
 use Rattle.mako_text.specs.Texts.{end_word, mutator_word}
 use Rattle.mako_reader.specs.declared.command.Argument.{Argument}
 use Rattle.mako_reader.specs.declared.command.Argument.TheVariants as arguments
+use Rattle.mako_reader.specs.declared.command.Command.{Command}
 use Rattle.mako_reader.specs.declared.command.Command.TheVariants.{New, Num, Show}
-use Rattle.mako_reader.specs.Reading.{argument_at, arguments_at, command_at, define_at, each_at, kinds_of, lines_of}
-use Rattle.mako_reader.specs.Reading.{number_at, numbers_in, place_at, value_at, within_at, words_of}
-use Rattle.mako_reader.proofs.Digits.{ten_digits_again}
-use Rattle.mako_reader.proofs.Takes.{some_is}
+use Rattle.mako_reader.specs.Commands.{AreValuesOf, kinds_of, place_at, word_of}
+use Rattle.mako_reader.specs.Parts.{numbers_in}
+use Rattle.mako_reader.specs.Words.{IsNumber, lines_of, words_of}
+use Rattle.mako_reader.proofs.Digits.{number_plain}
+use Rattle.mako_reader.proofs.Values.{some_is}
 use Rattle.mako_script.specs.declared.fault.Kind.{Kind}
 use Rattle.mako_script.specs.declared.fault.Kind.TheVariants as faults
 use Rattle.mako_script.specs.Checks.{HaveSettings, IsCut, SettingFault}
-use Rattle.mako_script.specs.CommandLines.{ArgumentFault, IsFirstOfCommand}
+use Rattle.mako_script.specs.CommandLines.{ArgumentFault, IsFirstOfCommand, IsRead}
 use Rattle.mako_script.specs.Examples.{header, many_entries_text, many_sections_text, many_words_text, spaced_text}
 use Rattle.mako_script.specs.Examples.{with_line}
 use Rattle.mako_script.specs.Faults.{IsFirstFault, is_printable, rank}
-use Rattle.mako_script.specs.Lines.{word_in, IsNumber}
+use Rattle.mako_script.specs.Lines.{word_in}
 use Rattle.mako_script.specs.States.{Between, Inside}
 use Rattle.mako_script.proofs.Begins.{are_settings, begins_at}
 use Rattle.mako_script.proofs.BetweenSections.{go_open, many_sections, many_words as words_first, no_section}
@@ -161,14 +163,14 @@ start : (text l : List ℕ) (more : List (List ℕ)) → lines_of text ≡ heade
     → Between text 4 0 0 11 (l ∷ more)
 start text l more same =
     begins_at text numbers
-    (subst (λ (ls : List (List ℕ)). HaveSettings ls numbers) (sym same) (has_header l more)) refl few 4 11
-    (l ∷ more) refl refl (ap (drop 11) (sym same))
+    (subst (λ (ls : List (List ℕ)). HaveSettings ls numbers) (sym same) (has_header l more)) refl few 4 11 (l ∷
+    more) refl refl (ap (drop 11) (sym same))
 
 opened : (text m : List ℕ) (more : List (List ℕ)) → lines_of text ≡ header_lines ++ mutator_word ∷ m ∷ more
     → Inside text 4 1 0 (board_name ∷ []) 12 (m ∷ more)
 opened text m more same =
-    go_open text 4 0 0 11 (mutator_word ∷ m ∷ more) (start text mutator_word (m ∷ more) same) mutator_word (m ∷ more)
-    (refl, omega arith, refl) refl (omega arith) (omega arith)
+    go_open text 4 0 0 11 (mutator_word ∷ m ∷ more) (start text mutator_word (m ∷ more) same) mutator_word (m ∷
+    more) (refl, omega arith, refl) refl (omega arith) (omega arith)
 
 -- a line of a section, with others behind it
 line_fault : (text m n : List ℕ) (more : List (List ℕ)) (kind : Kind)
@@ -176,8 +178,8 @@ line_fault : (text m n : List ℕ) (more : List (List ℕ)) (kind : Kind)
     → bytes_eq m end_word ≡ false
     → IsFirstOfCommand (board_name ∷ []) 4 (words_of m) kind → IsFirstFault text kind 13
 line_fault text m n more kind same printable other first =
-    command_first text 4 1 0 12 (board_name ∷ []) (m ∷ n ∷ more) (opened text m (n ∷ more) same) m (n ∷ more)
-    (refl, omega arith, printable) other kind 13 first refl
+    command_first text 4 1 0 12 (board_name ∷ []) (m ∷ n ∷ more) (opened text m (n ∷ more) same) m (n ∷
+    more) (refl, omega arith, printable) other kind 13 first refl
 
 cut_fault : (text m : List ℕ) (kind : Kind) → lines_of text ≡ header_lines ++ mutator_word ∷ m ∷ []
     → IsCut (m ∷ []) kind → IsFirstFault text kind 13
@@ -191,8 +193,8 @@ names = board_name ∷ []
 
 show_first : IsFirstOfCommand names 4 (words_of (codes "show x")) faults.Undefined
 unfolding words_of is_name
-show_first = first_of_words names 4 (words_of (codes "show x")) (codes "show")
-    (codes "x" ∷ []) Show refl refl refl faults.Undefined (record {
+show_first = first_of_words names 4 (words_of (codes "show x")) (codes "show") (codes "x" ∷
+    []) Show refl refl refl faults.Undefined (record {
       place = 0;
       kind = arguments.Read;
       among = refl;
@@ -220,8 +222,8 @@ named _ wrong = absurd wrong
 
 large_first : IsFirstOfCommand names 4 (words_of (codes "num n 4294967296")) faults.Range
 unfolding words_of digits
-large_first = first_of_words names 4 (words_of (codes "num n 4294967296")) (codes "num")
-    (codes "n" ∷ codes "4294967296" ∷ []) Num refl refl refl faults.Range (record {
+large_first = first_of_words names 4 (words_of (codes "num n 4294967296")) (codes "num") (codes "n" ∷
+    codes "4294967296" ∷ []) Num refl refl refl faults.Range (record {
       place = 1;
       kind = arguments.Number;
       among = refl;
@@ -249,13 +251,12 @@ large_first = first_of_words names 4 (words_of (codes "num n 4294967296")) (code
 
 -- no number is spelled with a zero before it
 no_zero : (n : ℕ) → ¬ IsNumber (codes "07") n
-unfolding number_at
-no_zero n is = let some : None ≡ Some n = ap number_at is.0 ∙ ten_digits_again n is.1 in cc
+no_zero n is = omega (arith, (number_plain (codes "07") n is).2 refl)
 
 zero_first : IsFirstOfCommand names 4 (words_of (codes "num n 07")) faults.Number
 unfolding words_of
-zero_first = first_of_words names 4 (words_of (codes "num n 07")) (codes "num")
-    (codes "n" ∷ codes "07" ∷ []) Num refl refl refl faults.Number (record {
+zero_first = first_of_words names 4 (words_of (codes "num n 07")) (codes "num") (codes "n" ∷ codes "07" ∷
+    []) Num refl refl refl faults.Number (record {
       place = 1;
       kind = arguments.Number;
       among = refl;
@@ -298,7 +299,11 @@ zero_before = line_fault (with_line (codes "num n 07\n"))
 pub no_command : IsFirstFault (with_line (codes "make a 1\n")) faults.Word 13
 unfolding lines_of words_of
 no_command = line_fault (with_line (codes "make a 1\n")) (codes "make a 1") [] [] faults.Word refl refl refl
-    (no_name names 4 (words_of (codes "make a 1")) (codes "make") (codes "a" ∷ codes "1" ∷ []) refl refl)
+    (no_name names 4 (words_of (codes "make a 1")) (codes "make") (codes "a" ∷ codes "1" ∷ []) refl other)
+  where
+    other : (command : Command) → codes "make" ≡ word_of command → ⊥
+    other New same = omega (arith, ap (λ (w : List ℕ). slice_index w 0) same)
+    other _ same = omega (arith, ap (λ (w : List ℕ). slice_index w 0) same)
 
 pub no_feed : IsFirstFault (with_line (codes "end")) faults.Unclosed 13
 unfolding lines_of
@@ -319,10 +324,10 @@ no_mutator = no_section header 4 0 0 11 ([] ∷ []) (start header [] [] refl) re
 pub wrong_word : IsFirstFault spaced_text faults.Word 13
 unfolding lines_of words_of
 wrong_word =
-    line_fault spaced_text (codes "new a  1") (codes "num n 7")
-    (codes "put a 0 n" ∷ codes "get b a 0" ∷ codes "end" ∷ [] ∷ []) faults.Word refl refl refl
-    (no_count names 4 (words_of (codes "new a  1")) (codes "new") (codes "a" ∷ [] ∷ codes "1" ∷ []) New refl refl
-    (λ same. omega (arith, same)))
+    line_fault spaced_text (codes "new a  1") (codes "num n 7") (codes "put a 0 n" ∷ codes "get b a 0" ∷ codes "end" ∷
+    [] ∷ []) faults.Word refl refl refl
+    (no_count names 4 (words_of (codes "new a  1")) (codes "new") (codes "a" ∷ [] ∷ codes "1" ∷
+    []) New refl refl (λ same. omega (arith, same)))
 
 -- ---- settings
 
@@ -360,10 +365,10 @@ walk text same zero left sum few_sections =
     (start text mutator_word (end_word ∷ sections_of 16) same)
 walk text same (suc n) left sum few_sections =
     let before = walk text same n (suc left) (omega (arith, sum)) (omega (arith, few_sections)) in
-    let inside = go_open text 4 n 0 (11 + 2 * n) (sections_of (suc left)) before mutator_word
-    (end_word ∷ sections_of left) (refl, omega arith, refl) refl (omega arith) (omega (arith, few_sections)) in
-    let after = go_end text 4 (n + 1) 0 (11 + 2 * n + 1) (board_name ∷ []) (end_word ∷ sections_of left) inside end_word
-    (sections_of left) (refl, some_left left, refl) refl in
+    let inside = go_open text 4 n 0 (11 + 2 * n) (sections_of (suc left)) before mutator_word (end_word ∷
+    sections_of left) (refl, omega arith, refl) refl (omega arith) (omega (arith, few_sections)) in
+    let after = go_end text 4 (n + 1) 0 (11 + 2 * n + 1) (board_name ∷ []) (end_word ∷
+    sections_of left) inside end_word (sections_of left) (refl, some_left left, refl) refl in
     let more : n + 1 ≡ suc n = omega arith in
     let next : 11 + 2 * n + 1 + 1 ≡ 11 + 2 * suc n = omega arith in
     subst (λ (k : ℕ). Between text 4 k 0 (11 + 2 * suc n) (sections_of left)) more
@@ -372,9 +377,9 @@ walk text same (suc n) left sum few_sections =
 pub one_section_more : IsFirstFault many_sections_text faults.Many 44
 unfolding lines_of sections_of
 one_section_more =
-    many_sections many_sections_text 4 16 0 43 (mutator_word ∷ end_word ∷ [] ∷ [])
-    (walk many_sections_text refl 16 1 refl (omega arith)) mutator_word (end_word ∷ [] ∷ [])
-    (refl, omega arith, refl) refl
+    many_sections many_sections_text 4 16 0 43 (mutator_word ∷ end_word ∷ [] ∷
+    []) (walk many_sections_text refl 16 1 refl (omega arith)) mutator_word (end_word ∷ [] ∷
+    []) (refl, omega arith, refl) refl
     (omega arith) 44 refl
 
 -- ---- too many names
@@ -384,8 +389,8 @@ four_names = board_name ∷ codes "a" ∷ codes "b" ∷ codes "c" ∷ []
 
 new_first : IsFirstOfCommand four_names 4 (words_of (codes "num d 1")) faults.Names
 unfolding words_of is_name digits
-new_first = first_of_words four_names 4 (words_of (codes "num d 1")) (codes "num")
-    (codes "d" ∷ codes "1" ∷ []) Num refl refl refl faults.Names (record {
+new_first = first_of_words four_names 4 (words_of (codes "num d 1")) (codes "num") (codes "d" ∷ codes "1" ∷
+    []) Num refl refl refl faults.Names (record {
       place = 0;
       kind = arguments.Defined;
       among = refl;
@@ -424,22 +429,45 @@ new_first = first_of_words four_names 4 (words_of (codes "num d 1")) (codes "num
 abbrev names_text : List ℕ
 names_text = with_line (codes "num a 1\nnum b 1\nnum c 1\nnum d 1\n")
 
+-- a line that defines a new name as the number 1
+num_line : (known : List (List ℕ)) (name : List ℕ) → is_name name ≡ true → place_at known name ≡ None → length known < 4
+    → IsRead 4 known (codes "num" ∷ name ∷ codes "1" ∷ []) (known ++ name ∷ [])
+unfolding digits
+num_line known name spelled none room =
+    let root : length known ≡ unwrap_or (place_at known name) (length known) =
+    ap (λ (o : Option ℕ). unwrap_or o (length known)) (sym none) in
+    let number : AreValuesOf known (arguments.Number ∷ []) (codes "1" ∷ []) (1 ∷ []) =
+    (((refl, omega arith), omega arith, omega arith), tt) in (
+      calls.Num (length known) 1,
+      record {
+        command = Num;
+        behind = name ∷ codes "1" ∷ [];
+        values = length known ∷ 1 ∷ [];
+        words_are = refl;
+        are = ((spelled, root), number);
+        call_is = refl;
+        next = (spelled, inr (none, room, refl));
+      },
+    )
+
 pub one_name_more : IsFirstFault names_text faults.Names 16
-unfolding lines_of words_of is_name number_at within_at place_at define_at argument_at value_at each_at arguments_at
-    command_at
+unfolding lines_of words_of is_name place_at
 one_name_more =
     let d = codes "num d 1" ∷ [] ∷ [] in
     let c = codes "num c 1" ∷ d in
     let b = codes "num b 1" ∷ c in
     let s0 = opened names_text (codes "num a 1") b refl in
-    let s1 = go_inside names_text 4 1 0 12 names (codes "num a 1" ∷ b) s0 (codes "num a 1") b
-    (refl, omega arith, refl) refl (board_name ∷ codes "a" ∷ []) (calls.Num 1 1, refl) (omega arith) in
-    let s2 = go_inside names_text 4 1 1 13 (board_name ∷ codes "a" ∷ []) b s1 (codes "num b 1") c
-    (refl, omega arith, refl) refl (board_name ∷ codes "a" ∷ codes "b" ∷ []) (calls.Num 2 1, refl) (omega arith) in
-    let s3 = go_inside names_text 4 1 2 14 (board_name ∷ codes "a" ∷ codes "b" ∷ []) c s2 (codes "num c 1") d
-    (refl, omega arith, refl) refl four_names (calls.Num 3 1, refl) (omega arith) in
-    command_first names_text 4 1 3 15 four_names d s3 (codes "num d 1") ([] ∷ [])
-    (refl, omega arith, refl) refl faults.Names 16 new_first refl
+    let s1 = go_inside names_text 4 1 0 12 names (codes "num a 1" ∷
+    b) s0 (codes "num a 1") b (refl, omega arith, refl) refl (board_name ∷ codes "a" ∷
+    []) (num_line names (codes "a") refl refl (omega arith)) (omega arith) in
+    let s2 = go_inside names_text 4 1 1 13 (board_name ∷ codes "a" ∷
+    []) b s1 (codes "num b 1") c (refl, omega arith, refl) refl (board_name ∷ codes "a" ∷ codes "b" ∷
+    []) (num_line (board_name ∷ codes "a" ∷ []) (codes "b") refl refl (omega arith)) (omega arith) in
+    let s3 = go_inside names_text 4 1 2 14 (board_name ∷ codes "a" ∷ codes "b" ∷
+    []) c s2 (codes "num c 1") d (refl, omega arith, refl) refl four_names
+    (num_line (board_name ∷ codes "a" ∷ codes "b" ∷ []) (codes "c") refl refl (omega arith)) (omega arith) in
+    command_first names_text 4 1 3 15 four_names d s3 (codes "num d 1") ([] ∷
+    []) (refl, omega arith, refl) refl faults.Names 16 new_first refl
 
 -- ---- all settings together
 
@@ -648,11 +676,12 @@ pub too_many_words : IsFirstFault many_words_text faults.Words 11
 unfolding lines_of total
 too_many_words =
     let few : ¬ (max_entries < all_entries (numbers_in many_words 0)) = (λ many. omega (arith, many)) in
-    let begin = begins_at many_words_text many_words have_many_words refl few 11 11
-    (mutator_word ∷ end_word ∷ [] ∷ []) refl refl refl in
-    let inside = go_open many_words_text 11 0 0 11 (mutator_word ∷ end_word ∷ [] ∷ []) begin mutator_word
-    (end_word ∷ [] ∷ []) (refl, omega arith, refl) refl (omega arith) (omega arith) in
-    let end = go_end many_words_text 11 1 0 12 (board_name ∷ []) (end_word ∷ [] ∷ []) inside end_word ([] ∷ [])
-    (refl, omega arith, refl) refl in
-    words_first many_words_text 11 1 0 13 ([] ∷ []) end refl (omega arith) many_words
-    (are_settings (lines_of many_words_text) many_words have_many_words refl) (omega arith)
+    let begin = begins_at many_words_text many_words have_many_words refl few 11 11 (mutator_word ∷ end_word ∷ [] ∷
+    []) refl refl refl in
+    let inside = go_open many_words_text 11 0 0 11 (mutator_word ∷ end_word ∷ [] ∷ []) begin mutator_word (end_word ∷
+    [] ∷ []) (refl, omega arith, refl) refl (omega arith) (omega arith) in
+    let end = go_end many_words_text 11 1 0 12 (board_name ∷ []) (end_word ∷ [] ∷ []) inside end_word ([] ∷
+    []) (refl, omega arith, refl) refl in
+    words_first many_words_text 11 1 0 13 ([] ∷
+    []) end refl (omega arith) many_words (are_settings (lines_of many_words_text) many_words have_many_words refl)
+    (omega arith)

@@ -6,7 +6,8 @@ use Rattle.std.specs.List.{list_all}
 use Rattle.mako_script.specs.declared.fault.Kind.{Kind}
 use Rattle.mako_script.specs.declared.fault.Kind.TheVariants.{Header, NotAscii, Number, Range, Unclosed}
 use Rattle.mako_script.specs.Faults.{is_printable}
-use Rattle.mako_script.specs.Lines.{IsNumber, ended, key_at, line_in, words_at}
+use Rattle.mako_script.specs.Lines.{ended, key_at, line_in, words_at}
+use Rattle.mako_reader.specs.Words.{IsNumber}
 
 -- a word that should be a number from low to high: the number, or what is wrong with it
 abbrev pub IsValue : ℕ → ℕ → List ℕ → Result ℕ Kind → Type 0

@@ -4,6 +4,7 @@ use Rattle.std.specs.Prelude.{Some, None, Ok, Err, nat_lt, if◌then◌else◌}
 use Rattle.std.specs.List.{list_any}
 use Rattle.std.specs.Str.{bytes_eq}
 use Rattle.mako_model.specs.declared.call.Call.{Call}
+use Rattle.mako_reader.specs.Commands.{IsCommandLine}
 use Rattle.mako_reader.specs.declared.command.Argument.{Argument}
 use Rattle.mako_reader.specs.declared.command.Argument.TheVariants.{Defined, Read, Fields, Index, Number}
 use Rattle.mako_reader.specs.declared.command.Command.{Command}
@@ -12,8 +13,8 @@ use Rattle.mako_script.specs.declared.fault.Kind.TheVariants as faults
 use Rattle.mako_text.specs.Names.{is_name}
 use Rattle.mako_script.specs.Checks.{IsValue}
 use Rattle.mako_script.specs.Faults.{rank}
-use Rattle.mako_script.specs.Lines.{greatest, word_in, HasArgument, IsCommand, IsNumber}
-use Rattle.mako_reader.specs.Reading.{command_at}
+use Rattle.mako_script.specs.Lines.{greatest, word_in, HasArgument, IsCommand}
+use Rattle.mako_reader.specs.Words.{IsNumber}
 
 abbrev pub is_among : List (List ℕ) → List ℕ → Bool
 is_among names word = list_any (λ name. bytes_eq name word) names
@@ -88,4 +89,4 @@ with_name names (Some name) = names ++ name ∷ []
 
 -- the words are read as a command, with these names behind it
 abbrev pub IsRead : ℕ → List (List ℕ) → List (List ℕ) → List (List ℕ) → Type 0
-IsRead roots names words after = (call : Call) × (command_at roots names words ≡ Some (call, after))
+IsRead roots names words after = (call : Call) × IsCommandLine roots names words (call, after)

@@ -11,8 +11,9 @@ use Rattle.mako_reader.specs.declared.command.Argument.{Argument}
 use Rattle.mako_reader.specs.declared.command.Argument.TheVariants as arguments
 use Rattle.mako_reader.specs.declared.command.Command.{Command}
 use Rattle.mako_text.specs.Texts.{mutator_word, end_word}
-use Rattle.mako_reader.specs.Reading.{lines_of, numbers_in}
-use Rattle.mako_script.specs.Lines.{line_in, words_at, word_in, ended, key_at, IsNumber, AreSettings, IsIn, IsBetween}
+use Rattle.mako_reader.specs.Parts.{numbers_in}
+use Rattle.mako_reader.specs.Words.{IsNumber, lines_of}
+use Rattle.mako_script.specs.Lines.{line_in, words_at, word_in, ended, key_at, AreSettings, IsIn, IsBetween}
 use Rattle.mako_script.specs.Lines.{sections_before, commands_before, greatest, IsCommand, HasArgument, IsDefined}
 use Rattle.mako_script.specs.Lines.{AreDefined}
 

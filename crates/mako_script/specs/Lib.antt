@@ -15,4 +15,6 @@ pub use Rattle.mako_text.specs.ScriptFacts
 pub use Rattle.mako_text.specs.Scripts
 pub use Rattle.mako_text.specs.Texts
 pub use Rattle.mako_text.specs.Written
-pub use Rattle.mako_reader.specs.Reading
+pub use Rattle.mako_reader.specs.Commands
+pub use Rattle.mako_reader.specs.Parts
+pub use Rattle.mako_reader.specs.Words

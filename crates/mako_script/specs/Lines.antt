@@ -2,7 +2,6 @@
 -- piece more.
 use Rattle.std.specs.Prelude.{◌≡◌, ◌≢◌, ℕ, ◌+◌, ◌-◌, ◌<◌, ◌≤◌, ◌&&◌, ◌⊎◌, true, not, List, [], length, take, drop}
 use Rattle.std.specs.Prelude.{slice_get, slice_index, slice_index_or, count_by, Option, Some, None}
-use Rattle.std.specs.Fmt.{decimal}
 use Rattle.std.specs.Str.{bytes_eq}
 use Rattle.mako_reader.specs.declared.command.Command.{Command}
 use Rattle.mako_reader.specs.declared.command.Argument.{Argument}
@@ -10,7 +9,8 @@ use Rattle.mako_reader.specs.declared.command.Argument.TheVariants.{Defined, Rea
 use Rattle.mako_text.specs.Names.{is_name, name_of, board_name}
 use Rattle.mako_text.specs.Texts.{mutator_word, end_word}
 use Rattle.mako_text.specs.Keys.{keys}
-use Rattle.mako_reader.specs.Reading.{words_of, command_named, kinds_of}
+use Rattle.mako_reader.specs.Commands.{kinds_of, word_of}
+use Rattle.mako_reader.specs.Words.{IsNumber, words_of}
 
 abbrev pub line_in : List (List ℕ) → ℕ → List ℕ
 line_in lines at = slice_index_or lines at []
@@ -30,10 +30,6 @@ ended lines = length lines - 1
 -- the key of a line, and the range of its number
 abbrev pub key_at : ℕ → List ℕ × (ℕ × ℕ)
 key_at at = slice_index_or keys at ([], (0, 0))
-
--- the word is this number, which has at most ten digits
-abbrev pub IsNumber : List ℕ → ℕ → Type 0
-IsNumber word n = (word ≡ decimal n) × (n < 10000000000)
 
 -- the numbers of the settings
 pub record AreSettings (lines : List (List ℕ)) (v : List ℕ) : Type 0 where
@@ -77,7 +73,7 @@ greatest Number = Some 4294967295
 
 -- the words are those of this command, with names where there should be names
 pub record IsCommand (words : List (List ℕ)) (command : Command) : Type 0 where
-  pub named : command_named (word_in words 0) ≡ Some command
+  pub named : word_in words 0 ≡ word_of command
   pub count : length words ≡ length (kinds_of command) + 1
   pub names : (place : ℕ) → (kind : Argument) → slice_get (kinds_of command) place ≡ Some kind → greatest kind ≡ None
       → is_name (word_in words (place + 1)) ≡ true

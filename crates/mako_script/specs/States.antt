@@ -1,11 +1,11 @@
 -- Where a check of sections stands: between sections or in one, with no fault before it.
 use Rattle.std.specs.Prelude.{◌≡◌, ◌≢◌, ℕ, ◌+◌, ◌*◌, ◌<◌, ◌≤◌, true, List, [], ◌∷◌, length, drop}
 use Rattle.mako_text.specs.Names.{name_of}
-use Rattle.mako_reader.specs.Reading.{lines_of}
+use Rattle.mako_reader.specs.Words.{IsNumber, lines_of}
 use Rattle.mako_script.specs.declared.fault.Kind.{Kind}
 use Rattle.mako_script.specs.CommandLines.{is_among}
 use Rattle.mako_script.specs.Faults.{HasFault}
-use Rattle.mako_script.specs.Lines.{words_at, word_in, ended, IsNumber, IsIn, IsBetween, IsDefined, sections_before}
+use Rattle.mako_script.specs.Lines.{words_at, word_in, ended, IsIn, IsBetween, IsDefined, sections_before}
 use Rattle.mako_script.specs.Lines.{commands_before}
 
 -- no line before this one has a fault

@@ -13,7 +13,8 @@ ghost use Rattle.mako_script.specs.Faults.{IsFirstFault, is_printable};
 ghost use Rattle.mako_text.specs.Names.{board_name};
 ghost use Rattle.mako_text.specs.Programs.{ProgramView};
 ghost use Rattle.mako_text.specs.Keys.{key_view, keys};
-ghost use Rattle.mako_reader.specs.Reading.{calls_at, lines_of, numbers_in, sections_at, words_behind, words_of};
+ghost use Rattle.mako_reader.specs.Parts.{AreSections, IsBody, numbers_in};
+ghost use Rattle.mako_reader.specs.Words.{lines_of, words_behind, words_of};
 ghost use Rattle.mako_text.specs.Scripts.{ScriptView};
 ghost use Rattle.mako_text.specs.Texts.{IsScript};
 ghost use Rattle.mako_script.specs.States.{Between, Ends, Inside};
@@ -272,9 +273,8 @@ fn command<'a>(names: &[&[u8]], roots: usize, line: &'a [u8]) -> Result<Option<&
 fn section(lines: &mut Lines, roots: usize, before: usize) -> Result<usize, Fault>
     requires { roots ≤ 32 }
     ensures shorter { IfOk result (λ _. length lines.new.rest.now < length lines.old.rest.now) }
-    ensures read { IfOk result (λ count. (p : ProgramView)
-        × (calls_at roots before (board_name ∷ []) (lines_of lines.old.rest.now) ≡ Some
-        (p, lines_of lines.new.rest.now))
+    ensures read { IfOk result (λ count. 1 ≤ roots → before ≤ 1048576 → (p : ProgramView)
+        × IsBody roots before (lines_of lines.old.rest.now) (p, lines_of lines.new.rest.now)
         × (count ≡ before + length p.calls)) }
     ensures ended { (text : List ℕ) (sections : ℕ)
         → Inside text roots sections before (board_name ∷ []) lines.old.line (lines_of lines.old.rest.now)
@@ -309,8 +309,8 @@ fn section(lines: &mut Lines, roots: usize, before: usize) -> Result<usize, Faul
 fn sections(lines: &mut Lines, roots: usize) -> Result<usize, Fault>
     requires { (1 ≤ roots) × (roots ≤ 32) }
     ensures count { IfOk result (λ count. count ≤ 16) }
-    ensures read { IfOk result (λ count. (ps : List ProgramView)
-        × (sections_at 16 roots 0 (lines_of lines.old.rest.now) ≡ Some ps) × (count ≡ length ps)) }
+    ensures read { IfOk result (λ count. (ps : List ProgramView) × AreSections roots (lines_of lines.old.rest.now) ps
+        × (count ≡ length ps)) }
     ensures ended { (text : List ℕ) → Between text roots 0 0 lines.old.line (lines_of lines.old.rest.now)
         → IfOk result (λ count. Ends text roots count lines.new.line) }
     ensures fault { (text : List ℕ) → Between text roots 0 0 lines.old.line (lines_of lines.old.rest.now)

@@ -7,7 +7,7 @@ ghost use Rattle.mako_script.specs.declared.fault.Kind.TheVariants.{Names, NoMut
 ghost use Rattle.mako_text.specs.Scripts.{ScriptView};
 ghost use Rattle.mako_text.specs.Texts.{IsScript};
 ghost use Rattle.mako_script.specs.Faults.{HasFault, IsFirstFault};
-ghost use Rattle.mako_reader.specs.Reading.{lines_of};
+ghost use Rattle.mako_reader.specs.Words.{lines_of};
 ghost use Rattle.mako_script.specs.Examples.{header, many_entries_text, many_sections_text, many_words_text, storing};
 ghost use Rattle.mako_script.specs.Examples.{storing_text, spaced_text, with_line};
 

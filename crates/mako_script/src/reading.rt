@@ -1,7 +1,7 @@
 //! The reader of scripts.
 
 ghost use Rattle.std.specs.Prelude.{◌≡◌, ℕ, IfOk, Err};
-ghost use Rattle.mako_text.specs.Scripts.{IsProper, ScriptView};
+ghost use Rattle.mako_text.specs.Scripts.{ScriptView};
 ghost use Rattle.mako_text.specs.Texts.{IsScript};
 ghost use Rattle.mako_script.specs.Answers.{IsFaultOrMemory, IsRefused, IsScriptOrMemory, TellsFault};
 
@@ -23,15 +23,6 @@ fn fault(bytes: &[u8]) -> ScriptFault
     }
 }
 
-/// The script. One of its fields is read, since its invariant is known then: the grammar allows it.
-fn opened(script: Script) -> Script
-    ensures same { result ≡ script }
-    ensures proper { IsProper script }
-{
-    let _board = script.board;
-    script
-}
-
 /// Reads a script. `Bad` comes where the bytes are no script, with their first fault.
 pub fn parse(alloc: Global, bytes: &[u8]) -> Result<Script, ScriptFault>
     ensures ok { IfOk result (IsScript bytes.now) }
@@ -41,7 +32,7 @@ pub fn parse(alloc: Global, bytes: &[u8]) -> Result<Script, ScriptFault>
     ensures first { ((s : ScriptView) → ¬ IsScript bytes.now s) → IsFaultOrMemory bytes.now result }
 {
     match read_script(alloc, bytes) {
-        Ok(script) => Ok(opened(script)),
+        Ok(script) => Ok(script),
         Err(Refusal::Bad) => Err(fault(bytes)),
         Err(Refusal::Memory) => Err(ScriptFault::Memory),
     }

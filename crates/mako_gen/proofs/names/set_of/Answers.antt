@@ -2,7 +2,7 @@ use Rattle.std.proofs.Common.{◌≡◌, ℕ, zero, suc, ◌<◌, List, [], ◌�
 use Rattle.std.proofs.Common.{string_bytes, Bor, length, arith}
 use Rattle.std.specs.Prelude.{is_some}
 use Rattle.std.proofs.lemmas.List.{map_push, take_more, get_or-map, length-map}
-use Rattle.mako_script.specs.Reading.{place_at}
+use Rattle.mako_reader.specs.Commands.{place_at}
 use Rattle.mako_reader.proofs.NameLists.{insert_new}
 use Rattle.mako_gen.specs.Workloads.{names}
 use Rattle.mako_gen.proofs.names.set_of.Goals as goal

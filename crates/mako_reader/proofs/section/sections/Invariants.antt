@@ -1,11 +1,11 @@
-use Rattle.std.proofs.Common.{◌≡◌, ◌≤◌, ◌-◌, length}
-use Rattle.mako_reader.specs.Reading.{lines_of, sections_at}
-use Rattle.mako_reader.proofs.Sections.{with_programs}
+use Rattle.std.proofs.Common.{◌≤◌, length}
+use Rattle.mako_reader.specs.Words.{lines_of}
+use Rattle.mako_reader.proofs.Sections.{SectionsSoFar}
 use Rattle.mako_reader.proofs.section.sections.Given as goal
 
 abbrev pub invariant-loop-rest : goal.invariant-loop-rest
 invariant-loop-rest l = record {
-  read : with_programs l.programs.items (sections_at (16 - length l.programs.items) l.roots l.count (lines_of l.rest)) ≡ sections_at 16 l.roots 0 (lines_of l.text);
+  read : SectionsSoFar l.roots l.count (lines_of l.text) l.programs.items (lines_of l.rest);
   few : length l.programs.items ≤ 16;
   count : l.count ≤ 1048576;
 }

@@ -1,5 +1,5 @@
 use Rattle.std.proofs.Common.{◌≡◌, ◌++◌, length, map}
-use Rattle.mako_reader.specs.Reading.{words_behind}
+use Rattle.mako_reader.specs.Words.{words_behind}
 use Rattle.mako_script.proofs.check.arguments.Given as goal
 
 abbrev pub invariant-loop-word : goal.invariant-loop-word

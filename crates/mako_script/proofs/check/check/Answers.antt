@@ -1,8 +1,9 @@
-use Rattle.std.proofs.Common.{◌≡◌, ◌∷◌, [], ◌<◌, ◌≤◌, List, ℕ, Some, true≢false, refl, ap, sym, subst, ◌∙◌, arith}
+use Rattle.std.proofs.Common.{◌∷◌, [], ◌<◌, ◌≤◌, List, ℕ, true≢false, refl, ap, sym, subst, ◌∙◌, arith}
 use Rattle.std.specs.Prelude.{slice_index}
 use Rattle.std.proofs.lemmas.Result.{err_from_is_err_and}
 use Rattle.mako_shape.specs.Limits.{AllInRange, all_entries, max_entries}
-use Rattle.mako_reader.specs.Reading.{lines_of, numbers_in, sections_at}
+use Rattle.mako_reader.specs.Parts.{AreSections, numbers_in}
+use Rattle.mako_reader.specs.Words.{lines_of}
 use Rattle.mako_script.specs.declared.fault.Kind.{Kind}
 use Rattle.mako_script.specs.Faults.{IsFirstFault}
 use Rattle.mako_script.proofs.Begins.{begins_at, in_range, some_roots, words_first}
@@ -58,8 +59,8 @@ returns-then-mutators-eq0-clause-first c =
     in
     let end = c.in_ok-mutators.ensures.ended text start in
     subst (λ (kind : Kind). IsFirstFault text kind c.fault.result.line) (sym c.fault.ensures.0)
-    (no_section text (slice_index c.deref-2.result.now 7) c.in_ok-mutators.mutators end.commands end.line
-    ([] ∷ []) end.between refl (omega (arith, c.if-mutators-eq0.true))
+    (no_section text (slice_index c.deref-2.result.now 7) c.in_ok-mutators.mutators end.commands end.line ([] ∷
+    []) end.between refl (omega (arith, c.if-mutators-eq0.true))
     c.fault.result.line (c.fault.ensures.1 ∙ end.behind))
 
 pub returns-then-is_err-clause-first : goal.returns-then-is_err-clause-first
@@ -89,8 +90,7 @@ returns-clause-script c =
     let text = c.args.text.now in
     let left = lines_of c.settings.new.lines.rest.now in
     let read = c.in_ok-mutators.ensures.read in
-    let sections = subst
-    (λ (v : List ℕ). sections_at 16 (slice_index v 7) 0 left ≡ Some read.0) c.deref-2.ensures.0 read.1 in
+    let sections = subst (λ (v : List ℕ). AreSections (slice_index v 7) left read.0) c.deref-2.ensures.0 read.1 in
     let numbers = c.numbers_of.ensures ∙ (λ i. numbers_in (c.deref-3.ensures.0 i) (read.2 i)) in
     has_script text c.in_ok-values.values.items read.0 c.numbers_of.result left c.new.result c.in_ok-values.ensures.read
     c.in_ok-values.ensures.count

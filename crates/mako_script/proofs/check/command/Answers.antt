@@ -4,9 +4,10 @@ use Rattle.std.proofs.lemmas.List.{length-map}
 use Rattle.mako_script.specs.CommandLines.{IsLeastFault, IsRead, AreArguments, is_among}
 use Rattle.mako_reader.specs.declared.command.Argument.{Argument}
 use Rattle.mako_script.specs.Lines.{word_in}
-use Rattle.mako_reader.specs.Reading.{defines, kinds_of, words_of}
+use Rattle.mako_reader.specs.Commands.{defines, kinds_of}
+use Rattle.mako_reader.specs.Words.{words_of}
 use Rattle.mako_script.proofs.Commands.{first_of, has_command, has_room, reads_known, reads_new, reads_plain}
-use Rattle.mako_script.proofs.Clean.{line_from, no_fault}
+use Rattle.mako_script.proofs.Clean.{no_fault}
 use Rattle.mako_script.proofs.FirstOfCommand.{first_of_words}
 use Rattle.mako_script.proofs.check.command.Goals as goal
 use Rattle.mako_script.proofs.check.command.Goals.{else-defines-via-then-defines+then-not-is_among+else-names-roots}
@@ -74,16 +75,13 @@ returns-clause-read c =
 pub returns-clause-none : goal.returns-clause-none
 returns-clause-none c = λ fault has.
     let names = map word_now c.args.names.now in
-    no_fault c.args.roots names (words_of c.args.line.now) names
-    (line_from c.args.roots names (words_of c.args.line.now) names (returns-clause-read c)) fault has
+    no_fault c.args.roots names (words_of c.args.line.now) names (returns-clause-read c) fault has
 
 pub returns-then-names-roots-clause-none : goal.returns-then-names-roots-clause-none
 returns-then-names-roots-clause-none c = λ fault has.
     let names = map word_now c.args.names.now in
     let after = names ++ front c.deref-then-names-roots.result.now ∷ [] in
-    no_fault c.args.roots names (words_of c.args.line.now) after
-    (line_from c.args.roots names (words_of c.args.line.now) after (returns-then-names-roots-clause-read c)) fault
-    has
+    no_fault c.args.roots names (words_of c.args.line.now) after (returns-then-names-roots-clause-read c) fault has
 
 pub returns-in-Some-arguments_fault-clause-fault : goal.returns-in-Some-arguments_fault-clause-fault
 returns-in-Some-arguments_fault-clause-fault c =

@@ -1,5 +1,5 @@
-use Rattle.std.proofs.Common.{◌≡◌, ◌+◌, ◌<◌, ◌++◌, ◌∷◌, [], true, false, List, ℕ, Bor, Option, map, length, refl, sym}
-use Rattle.std.proofs.Common.{ap, subst, ◌∙◌, arith}
+use Rattle.std.proofs.Common.{◌≡◌, ◌+◌, ◌<◌, ◌≤◌, ◌++◌, ◌∷◌, [], true, false, List, ℕ, Bor, Option, map, length, refl}
+use Rattle.std.proofs.Common.{sym, ap, subst, ◌∙◌, arith}
 use Rattle.std.specs.Prelude.{IsSome, option_map}
 use Rattle.std.specs.Str.{bytes_eq}
 use Rattle.std.proofs.lemmas.List.{map-append, length_push}
@@ -8,23 +8,39 @@ use Rattle.mako_script.specs.declared.fault.Kind.{Kind}
 use Rattle.mako_script.specs.CommandLines.{IsFirstOfCommand, IsRead, with_name}
 use Rattle.mako_script.specs.Faults.{IsFirstFault}
 use Rattle.mako_script.specs.States.{Inside}
-use Rattle.mako_reader.specs.Reading.{lines_of, words_of}
+use Rattle.mako_reader.specs.Words.{lines_of, words_of}
+use Rattle.mako_text.specs.Names.{board_name}
 use Rattle.mako_text.specs.Texts.{end_word}
-use Rattle.mako_script.proofs.Counted.{CallsSoFar, calls_finish, calls_go}
+use Rattle.mako_script.proofs.Counted.{CallsRead, calls_begin, calls_finish, calls_next}
 use Rattle.mako_script.proofs.InSections.{command_first, cut_inside, ends, goes_on, many_first, next_line}
 use Rattle.mako_script.proofs.check.section.Goals as goal
 
 abbrev word_now : Bor (List ℕ) → List ℕ
 word_now w = w.now
 
+pub commands-init : goal.commands-init
+commands-init c =
+    let items = c.push.ensures.items ∙ (λ i. c.new-names.ensures i ++ c.as_slice.result ∷ []) in
+    let names : map word_now c.push.new.self.items ≡ board_name ∷ [] = ap (map word_now) items
+    ∙ ap (λ (w : List ℕ). w ∷ []) c.as_slice.ensures in
+    record {
+      few = omega (arith, ap length items);
+      left = omega arith;
+      read = λ some room. calls_begin c.args.roots c.args.before (map word_now c.push.new.self.items)
+          (lines_of c.args.lines.now.rest.now) names some room;
+      inside = λ text sections start. subst
+          (λ (ns : List (List ℕ)). Inside text c.args.roots sections c.args.before ns c.args.lines.now.line
+          (lines_of c.args.lines.now.rest.now)) (sym names) start;
+    }
+
 pub returns-then-eq-clause-read : goal.returns-then-eq-clause-read
-returns-then-eq-clause-read c =
+returns-then-eq-clause-read c = λ some room.
     let end : bytes_eq c.in_ok-line.line.now end_word ≡ true =
     ap (bytes_eq c.in_ok-line.line.now) (sym c.as_slice-in-commands.ensures) ∙ sym c.eq.ensures ∙ c.if-eq.true in
     calls_finish c.args.roots c.args.before c.commands.commands (map word_now c.commands.names.items)
     (lines_of c.args.lines.now.rest.now)
-    (lines_of c.commands.lines.rest.now) c.in_ok-line.line.now
-    (lines_of c.expect.new.self.rest.now) c.commands.invariant.read c.in_ok-line.ensures.read end
+    (lines_of c.commands.lines.rest.now) c.in_ok-line.line.now (lines_of c.expect.new.self.rest.now)
+    (c.commands.invariant.read some room) c.in_ok-line.ensures.read end
 
 pub returns-then-eq-clause-ended : goal.returns-then-eq-clause-ended
 returns-then-eq-clause-ended c = λ text sections start.
@@ -98,11 +114,13 @@ commands-preserved-in-Some c =
     (map word_now ns ++ c.in-Some.name.now ∷ [])) c.deref.ensures.0 read in
     let after = ap (map word_now) c.push-in-Some.ensures.items
     ∙ map-append word_now c.commands.names.items (c.in-Some.name ∷ []) in
-    let next = calls_go c.args.roots c.args.before c.commands.commands names (lines_of c.args.lines.now.rest.now)
-    (lines_of c.commands.lines.rest.now) line
-    (lines_of c.expect.new.self.rest.now)
-    (names ++ c.in-Some.name.now ∷ []) c.commands.invariant.read c.in_ok-line.ensures.read other here
-    c.if-commands-ge-MAX_COMMANDS.false in
+    let next : (some : 1 ≤ c.args.roots) → (room : c.args.before ≤ 1048576)
+    → CallsRead c.args.roots c.args.before (c.commands.commands + 1) (names ++ c.in-Some.name.now ∷
+    []) (lines_of c.args.lines.now.rest.now) (lines_of c.expect.new.self.rest.now) =
+    λ some room. calls_next c.args.roots c.args.before c.commands.commands names
+    (lines_of c.args.lines.now.rest.now) (lines_of c.commands.lines.rest.now) line
+    (lines_of c.expect.new.self.rest.now) (names ++ c.in-Some.name.now ∷
+    []) (c.commands.invariant.read some room) c.in_ok-line.ensures.read here c.if-commands-ge-MAX_COMMANDS.false in
     record {
       few = (let room = subst (λ (o : Option (Bor (List ℕ))). IsSome o
           → length c.deref.result.now < c.args.roots) c.in-Some.is c.in-Ok.ensures.room refl in
@@ -123,8 +141,9 @@ commands-preserved-in-Some c =
           (c.commands.invariant.inside text sections start) line (lines_of c.expect.new.self.rest.now)
           (names ++ c.in-Some.name.now ∷ []) c.in_ok-line.ensures.read other here
           c.if-commands-ge-MAX_COMMANDS.false c.in_ok-line.ensures.line);
-      read = subst (λ (ns : List (List ℕ)). CallsSoFar c.args.roots c.args.before (c.commands.commands + 1) ns
-          (lines_of c.args.lines.now.rest.now) (lines_of c.expect.new.self.rest.now)) (sym after) next;
+      read = λ some room. subst
+          (λ (ns : List (List ℕ)). CallsRead c.args.roots c.args.before (c.commands.commands + 1) ns
+          (lines_of c.args.lines.now.rest.now) (lines_of c.expect.new.self.rest.now)) (sym after) (next some room);
     }
 
 pub commands-preserved : goal.commands-preserved
@@ -147,8 +166,8 @@ commands-preserved c =
           (c.commands.invariant.inside text sections start) line
           (lines_of c.expect.new.self.rest.now) names c.in_ok-line.ensures.read other here
           c.if-commands-ge-MAX_COMMANDS.false c.in_ok-line.ensures.line;
-      read = calls_go c.args.roots c.args.before c.commands.commands names (lines_of c.args.lines.now.rest.now)
-          (lines_of c.commands.lines.rest.now) line
-          (lines_of c.expect.new.self.rest.now) names c.commands.invariant.read c.in_ok-line.ensures.read other here
-          c.if-commands-ge-MAX_COMMANDS.false;
+      read = λ some room. calls_next c.args.roots c.args.before c.commands.commands names
+          (lines_of c.args.lines.now.rest.now) (lines_of c.commands.lines.rest.now) line
+          (lines_of c.expect.new.self.rest.now) names
+          (c.commands.invariant.read some room) c.in_ok-line.ensures.read here c.if-commands-ge-MAX_COMMANDS.false;
     }

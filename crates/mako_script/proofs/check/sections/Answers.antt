@@ -4,29 +4,36 @@ use Rattle.std.specs.Prelude.{IfNone, IfSome}
 use Rattle.std.specs.Str.{bytes_eq}
 use Rattle.std.proofs.lemmas.Result.{err_from_is_err_and}
 use Rattle.mako_text.specs.Texts.{mutator_word}
-use Rattle.mako_reader.specs.Reading.{lines_of}
+use Rattle.mako_reader.specs.Words.{lines_of}
 use Rattle.mako_script.specs.declared.fault.Kind.{Kind}
 use Rattle.mako_script.specs.Checks.{IsLine}
 use Rattle.mako_script.specs.Faults.{IsFirstFault}
 use Rattle.mako_script.proofs.BetweenSections.{cut_between, ends, many_sections, next_line, opens_one, wrong_word}
-use Rattle.mako_script.proofs.Counted.{not_not, sections_finish, sections_go}
+use Rattle.mako_script.proofs.Counted.{not_not, sections_finish, sections_first, sections_next}
 use Rattle.mako_script.proofs.check.sections.Goals as goal
 
 not_so : (b : Bool) → not b ≡ true → b ≡ false
 not_so true e = absurd cc
 not_so false e = refl
 
+pub sections-init : goal.sections-init
+sections-init c = record {
+  few = omega arith;
+  read = sections_first c.args.roots (lines_of c.args.lines.now.rest.now);
+  between = λ text start. start;
+}
+
 pub returns-in_default-clause-read : goal.returns-in_default-clause-read
 returns-in_default-clause-read c =
-    let end = subst (λ (o : Option (Bor (List ℕ))). IfNone o (lines_of c.sections.lines.rest.now ≡ [] ∷ []))
-    c.in_default.is c.in_ok-line.ensures.end in
+    let end = subst (λ (o : Option (Bor (List ℕ))). IfNone o (lines_of c.sections.lines.rest.now ≡ [] ∷
+    [])) c.in_default.is c.in_ok-line.ensures.end in
     sections_finish c.args.roots c.sections.sections c.sections.commands (lines_of c.args.lines.now.rest.now)
-    (lines_of c.sections.lines.rest.now) c.sections.invariant.read end
+    (lines_of c.sections.lines.rest.now) c.sections.invariant.read end c.sections.invariant.few
 
 pub returns-in_default-clause-ended : goal.returns-in_default-clause-ended
 returns-in_default-clause-ended c = λ text start.
-    let end = subst (λ (o : Option (Bor (List ℕ))). IfNone o (lines_of c.sections.lines.rest.now ≡ [] ∷ []))
-    c.in_default.is c.in_ok-line.ensures.end in
+    let end = subst (λ (o : Option (Bor (List ℕ))). IfNone o (lines_of c.sections.lines.rest.now ≡ [] ∷
+    [])) c.in_default.is c.in_ok-line.ensures.end in
     ends text c.args.roots c.sections.sections c.sections.commands c.sections.lines.line c.next.new.self.line
     (lines_of c.sections.lines.rest.now) (c.sections.invariant.between text start) end
     c.in_ok-line.ensures.line
@@ -101,11 +108,11 @@ sections-preserved c =
     c.in-Some.is c.in_ok-line.ensures.read in
     record {
       few = omega (arith, c.if-sections-ge-MAX_SECTIONS.false);
-      read = sections_go c.args.roots c.sections.sections c.sections.commands c.in_ok-commands.commands
+      read = sections_next c.args.roots c.sections.sections c.sections.commands c.in_ok-commands.commands
           (lines_of c.args.lines.now.rest.now) (lines_of c.sections.lines.rest.now)
           line (lines_of c.next.new.self.rest.now)
-          (lines_of c.section.new.lines.rest.now) c.sections.invariant.read is opens c.in_ok-commands.ensures.read
-          c.if-sections-ge-MAX_SECTIONS.false;
+          (lines_of c.section.new.lines.rest.now) c.sections.invariant.read is opens
+          (c.in_ok-commands.ensures.read c.requires.0 c.sections.invariant.read.room);
       between = λ text start. c.in_ok-commands.ensures.ended text (c.sections.sections + 1)
           (opens_one text c.args.roots c.sections.sections c.sections.commands c.sections.lines.line
           c.next.new.self.line (lines_of c.sections.lines.rest.now) (c.sections.invariant.between text start)

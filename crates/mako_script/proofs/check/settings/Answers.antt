@@ -5,7 +5,7 @@ use Rattle.mako_script.specs.declared.fault.Kind.{Kind}
 use Rattle.mako_script.specs.Checks.{HasSetting, HaveSettings, IsSettingLine}
 use Rattle.mako_script.specs.Faults.{IsFirstFault}
 use Rattle.mako_text.specs.Keys.{key_view}
-use Rattle.mako_reader.specs.Reading.{lines_of, words_of}
+use Rattle.mako_reader.specs.Words.{lines_of, words_of}
 use Rattle.mako_script.proofs.Checked.{cut_first, settings_before, setting_line, with_setting, wrong_first, have_more}
 use Rattle.mako_script.proofs.Checked.{key_is}
 use Rattle.mako_script.proofs.check.settings.Goals as goal

@@ -1,6 +1,6 @@
 use Rattle.std.proofs.Common.{◌≡◌, length, drop}
 use Rattle.mako_script.specs.Checks.{HaveSettings}
-use Rattle.mako_reader.specs.Reading.{lines_of}
+use Rattle.mako_reader.specs.Words.{lines_of}
 use Rattle.mako_script.proofs.check.settings.Given as goal
 
 abbrev pub invariant-loop-key : goal.invariant-loop-key
