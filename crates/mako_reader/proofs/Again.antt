@@ -286,24 +286,12 @@ module _ (final : List (List ℕ)) (are : AreNames final) where
 pub not_end : (names : List (List ℕ)) (call : Call)
     → bytes_eq (join_with_byte 32 (command_words names call)) end_word ≡ false
 not_end names (calls.New r n) = refl
-not_end names (calls.Num r n) = refl
-not_end names (calls.CopyRoot r n) = refl
-not_end names (calls.DropRoot r) = refl
-not_end names (calls.Get r n i) = refl
-not_end names (calls.Put r i n) = refl
-not_end names (calls.Show r) = refl
-not_end names calls.Collect = refl
+not_end names _ = refl
 
 -- the names behind a call are at least those before it, and at most those of the program
 grows : (k : ℕ) (call : Call) → k ≤ defined_after k call
 grows k (calls.New r n) = omega arith
-grows k (calls.Num r n) = omega arith
-grows k (calls.CopyRoot r n) = omega arith
-grows k (calls.DropRoot r) = omega arith
-grows k (calls.Get r n i) = omega arith
-grows k (calls.Put r i n) = omega arith
-grows k (calls.Show r) = omega arith
-grows k calls.Collect = omega arith
+grows k _ = omega arith
 
 pub at_most : (k : ℕ) (cs : List Call) (n : ℕ) → AreCalls k cs n → k ≤ n
 at_most k [] n h = omega arith

@@ -7,5 +7,4 @@ pub mod Again
 pub mod Lists
 pub mod Header
 pub mod Sections
-pub mod Proper
 pub mod Scripts

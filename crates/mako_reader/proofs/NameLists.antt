@@ -76,10 +76,6 @@ insert_new names key h =
     (length names.keys)) _ e) in
     rw (list_any-none (λ k. bytes_eq (string_bytes key) (string_bytes k)) names.keys past) refl
 
-found : (b : Bool) (k r : ℕ) → cond b (Some k) None ≡ Some r → (b ≡ true) × (k ≡ r)
-found true k r e = (refl, cc)
-found false k r e = absurd cc
-
 -- the place of a name has that name
 pub place_takes : (names : List (List ℕ)) (name : List ℕ) (root : ℕ) → place_at names name ≡ Some root
     → (root < length names) × (name_of names root ≡ name)

@@ -1,5 +1,6 @@
 -- The text of a script, by its settings and its sections, and the one script of a text.
-use Rattle.std.proofs.Common.{◌≡◌, ℕ, List, [], ◌∷◌, ◌++◌, get_or, refl, sym, ap, subst, ◌∙◌, append_assoc, arith}
+use Rattle.std.proofs.Common.{length, ◌≡◌, ℕ, List, [], ◌∷◌, ◌++◌, get_or, refl, sym, ap, subst, ◌∙◌, append_assoc}
+use Rattle.std.proofs.Common.{arith}
 use Rattle.std.specs.List.{join_with_byte, flat_map}
 use Rattle.std.proofs.lemmas.List.{append-nil, length-append}
 use Rattle.std.proofs.lemmas.List.Splits.{join_with_byte-slice_split}
@@ -9,7 +10,8 @@ use Rattle.mako_text.specs.Programs.{ProgramView}
 use Rattle.mako_text.specs.Scripts.{ScriptView, IsProper, command_count}
 use Rattle.mako_text.specs.Texts.{IsScript, line_text, script_lines, script_text, section_lines}
 use Rattle.mako_reader.specs.Finds.{ReadsEach}
-use Rattle.mako_reader.specs.Parts.{AreSections, IsSetting, lines_from, script_of}
+use Rattle.mako_shape.specs.Limits.{IsShape}
+use Rattle.mako_reader.specs.Parts.{AreProper, AreSections, AreValues, IsSetting, lines_from, numbers_in, script_of}
 use Rattle.mako_reader.specs.Words.{lines_of}
 use Rattle.mako_reader.proofs.Again.{in_ranges, lines_again, script_words}
 use Rattle.mako_reader.proofs.Lists.{same_each}
@@ -40,6 +42,18 @@ spells text vs left ps header sections =
     ∙ ap (λ (ls : List (List (List ℕ))). lines_from (ls ++ flat_map section_lines ps) ++ [] ∷
     []) (the_settings vs ps (are_values (lines_of text) (vs, left) header)) in
     text_is text ∙ ap (join_with_byte 10) lines ∙ joined (script_lines (script_of vs ps))
+
+-- what is read is proper as a script
+pub proper_from : (v : List ℕ) (ps : List ProgramView) → AreValues v → AreProper ((numbers_in v (length ps)).roots) ps
+    → IsShape (numbers_in v (length ps)) → IsProper (script_of v ps)
+proper_from v ps values programs shape = record {
+  shape = shape;
+  board_low = values.board_low;
+  board_high = values.board_high;
+  mutators = refl;
+  commands = programs.commands;
+  programs = programs.programs;
+}
 
 -- the settings and the programs of a script's text
 pub record HasParts (text : List ℕ) (s : ScriptView) : Type 0 where

@@ -44,9 +44,7 @@ same_value : (names : List (List ℕ)) (kind : Argument) (word : List ℕ) (v w 
     → IsValueOf names kind word w → v ≡ w
 same_value names Defined word v w one two = one.1 ∙ sym two.1
 same_value names Read word v w one two = some_is v w (sym one.1 ∙ two.1)
-same_value names Fields word v w one two = same_number word v w one.0 two.0
-same_value names Index word v w one two = same_number word v w one.0 two.0
-same_value names Number word v w one two = same_number word v w one.0 two.0
+same_value names _ word v w one two = same_number word v w one.0 two.0
 
 pub same_word : (names : List (List ℕ)) (kind : Argument) (words : List (List ℕ)) (x y : ℕ × List (List ℕ))
     → ReadsWord names kind words x → ReadsWord names kind words y → x ≡ y
@@ -125,20 +123,16 @@ line_parts roots names words word behind command read split named line =
           (subst (λ (ws : List (List ℕ)). DefinesFirst (defines line.command) roots names ws read.1) rest line.next),
     )
 
-abbrev is_byte : List (List ℕ) → Argument → Bool
-is_byte names Defined = true
-is_byte names Read = true
-is_byte names Fields = true
-is_byte names Index = true
-is_byte names Number = false
+abbrev is_byte : Argument → Bool
+is_byte Number = false
+is_byte _ = true
 
 value_fits : (names : List (List ℕ)) (kind : Argument) (word : List ℕ) (v : ℕ) → length names < 256
-    → is_byte names kind ≡ true → IsValueOf names kind word v → v < 256
-value_fits names Defined word v few b h = omega (arith, h.1, place_below names word)
-value_fits names Read word v few b h = omega (arith, (place_takes names word v h.1).0)
-value_fits names Fields word v few b h = omega (arith, h.2)
-value_fits names Index word v few b h = omega (arith, h.2)
-value_fits names Number word v few b h = absurd cc
+    → is_byte kind ≡ true → IsValueOf names kind word v → v < 256
+value_fits names Number word v few byte h = absurd cc
+value_fits names Defined word v few byte h = omega (arith, h.1, place_below names word)
+value_fits names Read word v few byte h = omega (arith, (place_takes names word v h.1).0)
+value_fits names _ word v few byte h = omega (arith, h.2)
 
 -- the values of a command's arguments are enough for its call
 pub arguments_fit : (command : Command) (names words : List (List ℕ)) (vs : List ℕ)

@@ -16,5 +16,5 @@ Finds Is view (Err e) = Refused Is e
 -- a value for each of a list is read, one behind the other, up to what is left
 abbrev pub ReadsEach : {K V S : Type 0} → (K → S → V × S → Type 0) → List K → S → List V × S → Type 0
 ReadsEach Reads [] s read = (read.0 ≡ []) × (s ≡ read.1)
-ReadsEach {K} {V} {S} Reads (k ∷ ks) s read = (v : V) × (t : S) × (vs : List V) × (read.0 ≡ v ∷ vs) × Reads k s (v, t)
-    × ReadsEach Reads ks t (vs, read.1)
+ReadsEach {K} {V} {S} Reads (k ∷ ks) s read =
+    (v : V) × (t : S) × (vs : List V) × (read.0 ≡ v ∷ vs) × Reads k s (v, t) × ReadsEach Reads ks t (vs, read.1)

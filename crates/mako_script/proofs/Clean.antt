@@ -9,7 +9,7 @@ use Rattle.std.proofs.lemmas.Slice.Eq.{bytes_eq-Decides}
 use Rattle.mako_reader.specs.declared.command.Argument.{Argument}
 use Rattle.mako_reader.specs.declared.command.Argument.TheVariants as arguments
 use Rattle.mako_reader.specs.declared.command.Command.{Command}
-use Rattle.mako_reader.specs.declared.command.Command.TheVariants.{New, Num, Copy, Drop, Get, Put, Show, Collect}
+use Rattle.mako_reader.specs.declared.command.Command.TheVariants.{New, Num, Copy, Get}
 use Rattle.mako_script.specs.declared.fault.Kind.{Kind}
 use Rattle.mako_script.specs.declared.fault.Kind.TheVariants as faults
 use Rattle.mako_script.specs.CommandLines.{CommandFault, IsRead, is_among}
@@ -47,9 +47,7 @@ spelled_name : (names : List (List ℕ)) (kind : Argument) (w : List ℕ) (v : �
     → IsValueOf names kind w v → is_name w ≡ true
 spelled_name names arguments.Defined w v none t = t.0
 spelled_name names arguments.Read w v none t = t.0
-spelled_name names arguments.Fields w v none t = absurd cc
-spelled_name names arguments.Index w v none t = absurd cc
-spelled_name names arguments.Number w v none t = absurd cc
+spelled_name names _ w v none t = absurd cc
 
 number_taken : (names : List (List ℕ)) (kind : Argument) (w : List ℕ) (v most : ℕ) → greatest kind ≡ Some most
     → IsValueOf names kind w v → IsNumber w v × (v ≤ most)
@@ -63,27 +61,16 @@ number_taken names arguments.Number w v most some t = (t.0, omega (arith, t.2, s
 defined_first : (command : Command) (place : ℕ) → slice_get (kinds_of command) place ≡ Some arguments.Defined
     → (defines command ≡ true) × (place ≡ 0)
 defined_first New zero e = (refl, refl)
-defined_first New (suc zero) e = absurd cc
-defined_first New (suc (suc place)) e = absurd cc
 defined_first Num zero e = (refl, refl)
-defined_first Num (suc zero) e = absurd cc
-defined_first Num (suc (suc place)) e = absurd cc
 defined_first Copy zero e = (refl, refl)
-defined_first Copy (suc zero) e = absurd cc
-defined_first Copy (suc (suc place)) e = absurd cc
-defined_first Drop zero e = absurd cc
-defined_first Drop (suc place) e = absurd cc
 defined_first Get zero e = (refl, refl)
-defined_first Get (suc zero) e = absurd cc
-defined_first Get (suc (suc zero)) e = absurd cc
-defined_first Get (suc (suc (suc place))) e = absurd cc
-defined_first Put zero e = absurd cc
-defined_first Put (suc zero) e = absurd cc
-defined_first Put (suc (suc zero)) e = absurd cc
-defined_first Put (suc (suc (suc place))) e = absurd cc
-defined_first Show zero e = absurd cc
-defined_first Show (suc place) e = absurd cc
-defined_first Collect place e = absurd cc
+defined_first New (suc zero) e = absurd cc
+defined_first New (suc (suc zero)) e = absurd cc
+defined_first New (suc (suc (suc place))) e = absurd cc
+defined_first _ zero e = absurd cc
+defined_first _ (suc zero) e = absurd cc
+defined_first _ (suc (suc zero)) e = absurd cc
+defined_first _ (suc (suc (suc place))) e = absurd cc
 
 or_true : (b : Bool) → (b || (true || false)) ≡ true
 or_true true = refl
@@ -187,14 +174,7 @@ module _ (roots : ℕ) (names words after : List (List ℕ)) (read : IsRead root
       by : Defines roots names (word_in line.behind 0) after → ⊥
       by (inl (some, same)) = some (ap (place_at names) (sym d.1) ∙ not_placed names name none)
       by (inr (absent, room, new)) = omega (arith, room, full)
-  no_fault faults.NotAscii fault = fault
-  no_fault faults.Unclosed fault = fault
-  no_fault faults.Header fault = fault
-  no_fault faults.Entries fault = fault
-  no_fault faults.Many fault = fault
-  no_fault faults.NoMutator fault = fault
-  no_fault faults.Words fault = fault
-  no_fault faults.Long fault = fault
+  no_fault _ fault = fault
 
   -- the names behind the line
   abbrev NamesAfter : Type 0

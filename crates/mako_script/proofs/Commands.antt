@@ -10,7 +10,7 @@ use Rattle.std.proofs.lemmas.Slice.Eq.{bytes_eq-Decides}
 use Rattle.mako_reader.specs.declared.command.Argument.{Argument}
 use Rattle.mako_reader.specs.declared.command.Argument.TheVariants as arguments
 use Rattle.mako_reader.specs.declared.command.Command.{Command}
-use Rattle.mako_reader.specs.declared.command.Command.TheVariants.{New, Num, Copy, Drop, Get, Put, Show, Collect}
+use Rattle.mako_reader.specs.declared.command.Command.TheVariants.{New, Num, Copy, Get, Collect}
 use Rattle.mako_script.specs.CommandLines.{AreArguments, IsArgument, IsRead, is_among}
 use Rattle.mako_script.specs.Lines.{word_in}
 use Rattle.mako_reader.specs.Commands.{AreValuesOf, Defines, DefinesFirst, IsValueOf, call_of, defines, kinds_of}
@@ -66,9 +66,7 @@ argument_reads : (names : List (List ℕ)) (roots : ℕ) (kind : Argument) (word
     → IsArgument names roots kind word → (v : ℕ) × IsValueOf names kind word v
 argument_reads names roots arguments.Defined word is = (unwrap_or (place_at names word) (length names), (is.0, refl))
 argument_reads names roots arguments.Read word is = let p = among_place names word is.1 in (p.0, (is.0, p.1))
-argument_reads names roots arguments.Fields word is = is
-argument_reads names roots arguments.Index word is = is
-argument_reads names roots arguments.Number word is = is
+argument_reads names roots _ word is = is
 
 arguments_read : (names : List (List ℕ)) (roots : ℕ) (kinds : List Argument) (words : List (List ℕ))
     → length words ≡ length kinds → AreArguments names roots kinds words
@@ -88,10 +86,7 @@ first_kind New e = refl
 first_kind Num e = refl
 first_kind Copy e = refl
 first_kind Get e = refl
-first_kind Drop e = absurd cc
-first_kind Put e = absurd cc
-first_kind Show e = absurd cc
-first_kind Collect e = absurd cc
+first_kind _ e = absurd cc
 
 -- the words of a command's line, with its arguments
 pub record HasCommand (roots : ℕ) (names : List (List ℕ)) (words : List (List ℕ)) (command : Command)

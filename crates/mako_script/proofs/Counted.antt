@@ -20,10 +20,9 @@ use Rattle.mako_text.specs.Keys.{keys}
 use Rattle.mako_reader.specs.Finds.{ReadsEach}
 use Rattle.mako_reader.specs.Parts.{AreProper, AreSections, IsBody, IsSetting, numbers_in, script_of}
 use Rattle.mako_reader.specs.Words.{lines_of, words_of}
-use Rattle.mako_reader.proofs.Proper.{proper_from}
 use Rattle.mako_reader.proofs.Header.{are_values}
 use Rattle.mako_reader.proofs.Lists.{each_more}
-use Rattle.mako_reader.proofs.Scripts.{spells}
+use Rattle.mako_reader.proofs.Scripts.{proper_from, spells}
 use Rattle.mako_reader.proofs.Sections.{CallsSoFar, SectionsSoFar, calls_end, calls_go, calls_start, sections_begin}
 use Rattle.mako_reader.proofs.Sections.{sections_end, sections_go}
 

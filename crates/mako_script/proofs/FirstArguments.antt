@@ -52,9 +52,7 @@ one_argument names roots arguments.Read word faults.Undefined faults.Word a b = 
 one_argument names roots arguments.Read word faults.Word _ a b = absurd b
 one_argument names roots arguments.Read word faults.Undefined _ a b = absurd b
 one_argument names roots arguments.Read word _ g a b = absurd a
-one_argument names roots arguments.Fields word f g a b = one_value 0 14 word f g a b
-one_argument names roots arguments.Index word f g a b = one_value 0 13 word f g a b
-one_argument names roots arguments.Number word f g a b = one_value 0 4294967295 word f g a b
+one_argument names roots _ word f g a b = one_value 0 _ word f g a b
 
 -- and none where it may stand
 pub no_argument : (names : List (List ℕ)) (roots : ℕ) (kind : Argument) (word : List ℕ) (f : Kind)
@@ -69,9 +67,7 @@ no_argument names roots arguments.Defined word _ is fault = fault
 no_argument names roots arguments.Read word faults.Word is fault = true≢false (sym is.0 ∙ fault)
 no_argument names roots arguments.Read word faults.Undefined is fault = true≢false (sym is.1 ∙ fault.1)
 no_argument names roots arguments.Read word _ is fault = fault
-no_argument names roots arguments.Fields word f is fault = no_value 0 14 word is.0 f is.1 fault
-no_argument names roots arguments.Index word f is fault = no_value 0 13 word is.0 f is.1 fault
-no_argument names roots arguments.Number word f is fault = no_value 0 4294967295 word is.0 f is.1 fault
+no_argument names roots _ word f is fault = no_value 0 _ word is.0 f is.1 fault
 
 -- ---- one word more
 

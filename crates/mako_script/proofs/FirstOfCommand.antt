@@ -65,9 +65,7 @@ module _ (names : List (List ℕ)) (roots : ℕ) (words : List (List ℕ)) (word
       true≢false (sym (spelled_at other is place arguments.Defined e refl) ∙ fault)
   no_spelling place arguments.Read e fault other is = true≢false (sym (spelled_at other is place arguments.Read e refl)
       ∙ fault)
-  no_spelling place arguments.Fields e fault other is = fault
-  no_spelling place arguments.Index e fault other is = fault
-  no_spelling place arguments.Number e fault other is = fault
+  no_spelling place _ e fault other is = fault
 
   word_or_past : (kind : Argument) (w : List ℕ) (f : Kind) → ArgumentFault names roots kind w f → (f ≡ faults.Word)
       ⊎ (4 ≤ rank f)
@@ -77,15 +75,9 @@ module _ (names : List (List ℕ)) (roots : ℕ) (words : List (List ℕ)) (word
   word_or_past arguments.Read w faults.Word fault = inl refl
   word_or_past arguments.Read w faults.Undefined fault = inr (omega arith)
   word_or_past arguments.Read w _ fault = absurd fault
-  word_or_past arguments.Fields w faults.Number fault = inr (omega arith)
-  word_or_past arguments.Fields w faults.Range fault = inr (omega arith)
-  word_or_past arguments.Fields w _ fault = absurd fault
-  word_or_past arguments.Index w faults.Number fault = inr (omega arith)
-  word_or_past arguments.Index w faults.Range fault = inr (omega arith)
-  word_or_past arguments.Index w _ fault = absurd fault
-  word_or_past arguments.Number w faults.Number fault = inr (omega arith)
-  word_or_past arguments.Number w faults.Range fault = inr (omega arith)
-  word_or_past arguments.Number w _ fault = absurd fault
+  word_or_past _ w faults.Number fault = inr (omega arith)
+  word_or_past _ w faults.Range fault = inr (omega arith)
+  word_or_past _ w _ fault = absurd fault
 
   -- the fault of a word is that of the line
   to_line : (kind : Argument) (w : List ℕ) (f : Kind) → ArgumentFault names roots kind w f → HasArgument words kind w
@@ -96,29 +88,16 @@ module _ (names : List (List ℕ)) (roots : ℕ) (words : List (List ℕ)) (word
   to_line arguments.Read w faults.Undefined fault has past = (w, has, fault.1)
   to_line arguments.Read w faults.Word fault has past = absurd (omega (arith, past))
   to_line arguments.Read w _ fault has past = absurd fault
-  to_line arguments.Fields w faults.Number fault has past = (arguments.Fields, w, 14, has, refl, fault)
-  to_line arguments.Fields w faults.Range (n, number, inl below) has past = absurd (omega (arith, below))
-  to_line arguments.Fields w faults.Range (n, number, inr above) has past =
-      (arguments.Fields, w, 14, n, has, refl, number, above)
-  to_line arguments.Fields w _ fault has past = absurd fault
-  to_line arguments.Index w faults.Number fault has past = (arguments.Index, w, 13, has, refl, fault)
-  to_line arguments.Index w faults.Range (n, number, inl below) has past = absurd (omega (arith, below))
-  to_line arguments.Index w faults.Range (n, number, inr above) has past =
-      (arguments.Index, w, 13, n, has, refl, number, above)
-  to_line arguments.Index w _ fault has past = absurd fault
-  to_line arguments.Number w faults.Number fault has past = (arguments.Number, w, 4294967295, has, refl, fault)
-  to_line arguments.Number w faults.Range (n, number, inl below) has past = absurd (omega (arith, below))
-  to_line arguments.Number w faults.Range (n, number, inr above) has past =
-      (arguments.Number, w, 4294967295, n, has, refl, number, above)
-  to_line arguments.Number w _ fault has past = absurd fault
+  to_line kind w faults.Number fault has past = (kind, w, _, has, refl, fault)
+  to_line kind w faults.Range (n, number, inl below) has past = absurd (omega (arith, below))
+  to_line kind w faults.Range (n, number, inr above) has past = (kind, w, _, n, has, refl, number, above)
+  to_line _ w _ fault has past = absurd fault
 
   no_digits : (kind : Argument) (w : List ℕ) (most : ℕ) → greatest kind ≡ Some most → ((n : ℕ) → ¬ IsNumber w n)
       → ArgumentFault names roots kind w faults.Number
   no_digits arguments.Defined w most some none = absurd cc
   no_digits arguments.Read w most some none = absurd cc
-  no_digits arguments.Fields w most some none = none
-  no_digits arguments.Index w most some none = none
-  no_digits arguments.Number w most some none = none
+  no_digits _ w most some none = none
 
   too_great : (kind : Argument) (w : List ℕ) (most n : ℕ) → greatest kind ≡ Some most → IsNumber w n → most < n
       → ArgumentFault names roots kind w faults.Range
@@ -190,9 +169,7 @@ module _ (names : List (List ℕ)) (roots : ℕ) (words : List (List ℕ)) (word
             absurd (omega (arith, past, first.least place arguments.Defined faults.Word e h))
         by arguments.Read e none false h =
             absurd (omega (arith, past, first.least place arguments.Read faults.Word e h))
-        by arguments.Fields e none false h = absurd cc
-        by arguments.Index e none false h = absurd cc
-        by arguments.Number e none false h = absurd cc
+        by _ e none false h = absurd cc
 
     is_this : 4 ≤ rank f → IsCommand words command
     is_this past = record {

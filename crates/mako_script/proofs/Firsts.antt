@@ -15,18 +15,7 @@ by_rank = NotAscii ∷ Unclosed ∷ Header ∷ Word ∷ Number ∷ Range ∷ Ent
 ranked : (kind : Kind) → get_or by_rank (rank kind) Long ≡ kind
 unfolding by_rank
 ranked NotAscii = refl
-ranked Unclosed = refl
-ranked Header = refl
-ranked Word = refl
-ranked Number = refl
-ranked Range = refl
-ranked Entries = refl
-ranked Undefined = refl
-ranked Names = refl
-ranked Many = refl
-ranked NoMutator = refl
-ranked Words = refl
-ranked Long = refl
+ranked _ = refl
 
 by_its_rank : (kind other : Kind) → rank kind ≡ rank other → kind ≡ other
 by_its_rank kind other same = sym (ranked kind) ∙ (ap (λ (r : ℕ). get_or by_rank r Long) same ∙ ranked other)
@@ -56,18 +45,7 @@ ranks_first (suc other) k has = inl (omega arith)
 ranks_first zero NotAscii (inl has) = absurd (true≢false has.1)
 ranks_first zero NotAscii (inr (inl has)) = absurd has.1
 ranks_first zero NotAscii (inr (inr has)) = absurd has.1
-ranks_first zero Unclosed has = inr (refl, omega arith)
-ranks_first zero Header has = inr (refl, omega arith)
-ranks_first zero Word has = inr (refl, omega arith)
-ranks_first zero Number has = inr (refl, omega arith)
-ranks_first zero Range has = inr (refl, omega arith)
-ranks_first zero Entries has = inr (refl, omega arith)
-ranks_first zero Undefined has = inr (refl, omega arith)
-ranks_first zero Names has = inr (refl, omega arith)
-ranks_first zero Many has = inr (refl, omega arith)
-ranks_first zero NoMutator has = inr (refl, omega arith)
-ranks_first zero Words has = inr (refl, omega arith)
-ranks_first zero Long has = inr (refl, omega arith)
+ranks_first zero _ has = inr (refl, omega arith)
 
 pub empty : IsFirstFault [] Unclosed 1
 unfolding lines_of

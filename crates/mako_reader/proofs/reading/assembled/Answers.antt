@@ -5,7 +5,7 @@ use Rattle.mako_shape.specs.Limits.{IsShape}
 use Rattle.mako_shape.proofs.Ranges.{no_fault}
 use Rattle.mako_text.specs.Scripts.{IsProper}
 use Rattle.mako_reader.specs.Parts.{numbers_in}
-use Rattle.mako_reader.proofs.Proper.{proper_from}
+use Rattle.mako_reader.proofs.Scripts.{proper_from}
 use Rattle.mako_reader.proofs.reading.assembled.Goals as goal
 
 pub returns-in_default-clause-err : goal.returns-in_default-clause-err
