@@ -1,7 +1,7 @@
 -- A workload is a script of the grammar.
-use Rattle.std.proofs.Common.{◌≡◌, ◌≢◌, ℕ, zero, suc, ◌+◌, ◌*◌, ◌%◌, ◌<◌, ◌≤◌, ◌^◌, max, Bool, true, false, List, []}
-use Rattle.std.proofs.Common.{◌∷◌, ◌++◌, length, take, get_or, map, refl, sym, ap, subst, ◌∙◌, arith}
-use Rattle.std.specs.Prelude.{slice_index, is_some, sum_by, if◌then◌else◌}
+use Rattle.std.proofs.Common.{◌≡◌, ◌≢◌, ℕ, zero, suc, ◌+◌, ◌*◌, ◌%◌, ◌<◌, ◌≤◌, Bool, true, false, List, []}
+use Rattle.std.proofs.Common.{◌∷◌, ◌++◌, length, refl, sym, ap, subst, ◌∙◌, arith}
+use Rattle.std.specs.Prelude.{slice_index, if◌then◌else◌}
 use Rattle.std.specs.List.{AllByRecursion}
 use Rattle.std.proofs.lemmas.List.{length-append}
 use Rattle.std.proofs.lemmas.List.Sums.{sum_by-cons}
@@ -14,7 +14,7 @@ use Rattle.mako_script.specs.Names.{is_name, name_of, AreNames}
 use Rattle.mako_script.specs.Programs.{ProgramView, IsCall, defined_after, AreCalls, IsProgram}
 use Rattle.mako_script.specs.Scripts.{ScriptView, IsProper, command_count}
 use Rattle.rand_pcg.specs.Lcg.{Lcg}
-use Rattle.mako_gen.specs.Workloads.{word, variable, rare_call, call_of_words, call_drawn, left, AreDrawn, numbers}
+use Rattle.mako_gen.specs.Workloads.{word, variable, call_of_words, left, AreDrawn, numbers}
 use Rattle.mako_gen.specs.Workloads.{names, first_calls, IsSection, AreSections, IsWorkload, seeded}
 
 few_words : total numbers ≤ max_words

@@ -1,5 +1,4 @@
 use Rattle.std.proofs.Common.{refl}
-use Rattle.mako_shape.specs.declared.fault.ShapeFault.{ShapeFault}
 use Rattle.mako_shape.proofs.Ranges.{no_fault}
 use Rattle.mako_gen.specs.Workloads.{numbers}
 use Rattle.mako_gen.proofs.Proper.{is_shape}
