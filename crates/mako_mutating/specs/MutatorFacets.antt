@@ -5,7 +5,6 @@ use Rattle.mako_words.specs.declared.name.Name.{Name}
 use Rattle.mako_words.specs.declared.phase_word.PhaseWord.{PhaseWord}
 use Rattle.mako_words.specs.declared.phase_word.PhaseWord.TheVariants.{Idle, Trace, Evac, Stop}
 use Rattle.mako_shape.specs.declared.numbers.Numbers.{Numbers}
-use Rattle.mako_gate.specs.Standings.{GateFacet, mutator_at}
 use Rattle.mako_model.specs.declared.attempt.Attempt.{Attempt}
 use Rattle.mako_model.specs.declared.attempt.Attempt.TheVariants.{Answer, Full, Pause as Paused}
 use Rattle.mako_model.specs.declared.attempt.Pause.{Pause}
@@ -51,12 +50,8 @@ use Rattle.mako_names.specs.Trying.{Trying}
 use Rattle.mako_phases.specs.Facets.{Admission, outside, asking, inside, PhaseFacet, mutating}
 use Rattle.mako_phases.specs.Orders.{names_in}
 use Rattle.mako_ring.specs.TraceFacets.{TraceFacet, apart, looking, storing}
-use Rattle.mako_state.specs.Standings.{standing_of}
 
--- ---- gates and calls
-
-abbrev pub gate_of : Driving → GateFacet
-gate_of d = mutator_at d.caller.mutator (standing_of d)
+-- ---- calls
 
 -- the calls that are not answered yet
 abbrev pub left_of : Driving → List Call
