@@ -1,8 +1,7 @@
 //! The commands, over streams in memory.
 
-use mako_cli::{gen_top, load_top, replay_top, top};
+use mako_cli::{gen_top, load_top, top};
 use mako_io::{MemSink, MemSource, SoundSink, SoundSource};
-use mako_replay::Order;
 use std::alloc::{AllocError, Global};
 use std::test::Fail;
 
@@ -82,7 +81,8 @@ fn reports_a_read_fault(rt: HostRuntime) -> Result<(), Fail> {
     let fails = Vec::from_slice(alloc, &[2])?;
     let mut source = MemSource::new(joined(alloc, HEADER, READS_BACK)?, fails);
     let mut sink = SoundSink::new(alloc, 100)?;
-    let ended = replay_top(alloc, Order::Turns, 1000, &mut source, &mut sink);
+    let command = words(alloc, &["replay", "turns", "1000"])?;
+    let ended = top(&rt, alloc, &command, &mut source, &mut sink);
     assert_eq!(rt; ended.status, 3);
     assert_eq!(rt; sink.bytes(), b"read fault\n".as_slice());
     Ok(())
@@ -94,7 +94,8 @@ fn reports_a_write_fault(rt: HostRuntime) -> Result<(), Fail> {
     let fails = Vec::from_slice(alloc, &[3])?;
     let mut source = SoundSource::new(joined(alloc, HEADER, READS_BACK)?);
     let mut sink = MemSink::new(alloc, 100, fails)?;
-    let ended = replay_top(alloc, Order::Seed(7), 1000, &mut source, &mut sink);
+    let command = words(alloc, &["replay", "7", "1000"])?;
+    let ended = top(&rt, alloc, &command, &mut source, &mut sink);
     assert_eq!(rt; ended.status, 4);
     assert_eq!(rt; sink.bytes(), b"mutator 0\nnew 1#0\n".as_slice());
     Ok(())
