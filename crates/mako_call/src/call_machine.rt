@@ -59,7 +59,8 @@ impl Model for CallMachine {
 impl CallMachine {
     ghost use Rattle.mako_call.specs.declared.call_stage.CallStage.TheVariants as stages;
 
-    /// An attempt of the mutator's call. Where it is the last, a `new` that finds no room is answered.
+    /// An attempt of the mutator's call. Where it is the last, a `new` that finds no room is answered. `keep` is what
+    /// the attempt before came to, or at first no cycle and the slot 0.
     pub fn new(shape: Shape, mutator: u32, call: Call, last: bool, keep: Keep) -> CallMachine
         requires mutator { mutator < shape.mutators }
         requires call { CallFits shape call }

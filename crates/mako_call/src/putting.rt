@@ -18,7 +18,8 @@ use mako_model::{Attempt, Pause, Reply};
 use mako_step::Step;
 use mako_words::{Name, PhaseWord, Value};
 
-/// Where a `put` stands at its object's record.
+/// Where a `put` stands at its object's record. While the servers trace, the name that it overwrites is recorded first:
+/// the usual scheme of a snapshot at the beginning.
 #[derive(Clone, Copy)]
 pub enum PutStage {
     LoadingHeader,

@@ -61,8 +61,9 @@ impl Count {
         Ok(workers)
     }
 
-    /// Starts the count of a worker for each of the seeds, which are the pieces that wait for it at first. Each worker
-    /// may send `sends` times.
+    /// Starts the count of a worker for each of the seeds, which are the pieces that wait for it at first. There are 1
+    /// to 64 workers, and each may send `sends` times. It takes all memory that the count ever takes; `Memory` means
+    /// that there was not enough.
     pub fn start(alloc: Global, seeds: &[u32], sends: u32) -> Result<Counted, Memory>
         requires { (0 < length seeds.now) × (length seeds.now ≤ 64) }
         ensures crew { IfOk result (λ r. crew_of r.count ≡ length seeds.now) }

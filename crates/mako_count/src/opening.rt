@@ -25,7 +25,8 @@ fn push_zeros(words: &mut Vec<u64>, count: usize) -> Result<(), AllocError>
     Ok(())
 }
 
-/// The seeds count as sent, none is handled, and all wait in their boxes.
+/// The words at the start, in three columns of a word for each worker: the seeds count as sent, none is handled, and
+/// all wait in their boxes.
 pub fn opening_words(alloc: Global, seeds: &[u32]) -> Result<Vec<u64>, AllocError>
     ensures { IfOk result (λ v. v.items ≡ seeds.now ++ (replicate (length seeds.now) 0 ++ seeds.now)) }
 {
@@ -36,6 +37,7 @@ pub fn opening_words(alloc: Global, seeds: &[u32]) -> Result<Vec<u64>, AllocErro
     Ok(words)
 }
 
+/// The seeds, from which the first seat knows the words at the start.
 pub fn setup_of(alloc: Global, seeds: &[u32]) -> Result<Setup, AllocError>
     ensures { IfOk result (λ k. k.seeds.items ≡ seeds.now) }
 {

@@ -68,7 +68,7 @@ impl CountPoller {
     }
 
     /// Reads what each worker has sent and handled, and then all again. Where the four sums are equal, no piece is
-    /// left.
+    /// left (the four counter method, after Mattern 1987).
     pub fn poll(&mut self, count: &Count) -> Counting
         requires table { self.old.table ≡ table_of count.now }
         ensures same { (self.new.table ≡ self.old.table) × (self.new.met ≡ self.old.met) }

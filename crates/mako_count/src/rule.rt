@@ -11,6 +11,7 @@ use crate::setup::Setup;
 use crate::views::View;
 use atomic_table::{Join, Play, Seat, Shared, Split, TableRule};
 
+/// The rule that every step of every thread keeps on the words of a count.
 pub struct CountingRule;
 
 impl TableRule<(), View, Setup> for CountingRule {
@@ -19,8 +20,10 @@ impl TableRule<(), View, Setup> for CountingRule {
     ghost first = { opening_view };
 }
 
+/// The words of a count, which all threads share.
 pub type Words = Shared<(), View, Setup, CountingRule>;
 
+/// A seat at these words, with what it knows.
 pub type Place = Seat<(), View>;
 
 /// A worker's sent word rises.

@@ -169,7 +169,8 @@ fn count_all<R: Threads + Wait + Sync>(
 }
 
 /// Counts the pieces of a ring of so many workers on threads, each of which starts with 8 pieces and sends one piece on
-/// for each of the first 8 that it handles. It waits until all pieces are handled, as long as that takes.
+/// for each of the first 8 that it handles. There are 1 to 64 workers. It waits until all pieces are handled, as
+/// long as that takes, and answers how many they were. `Memory` comes only before the first thread starts.
 pub fn count_pieces<R: Threads + Wait + Sync>(
     rt: &R,
     alloc: Global,

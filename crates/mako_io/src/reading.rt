@@ -21,7 +21,9 @@ pub enum ReadRefusal {
     Memory,
 }
 
-/// Reads until a read gives nothing: all the bytes that are left, where these are at most `limit`.
+/// Reads until a read gives nothing: all the bytes that are left, where these are at most `limit`. Where more come it
+/// takes at most 4,096 bytes beyond them, and answers `TooLong`. After `Fault`, `TooLong` and `Memory` the bytes that
+/// were taken are lost.
 pub fn read_all<S: Source>(
     alloc: Global,
     source: &mut S,

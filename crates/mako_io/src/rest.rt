@@ -20,13 +20,14 @@ impl Model for Rest {
 }
 
 impl Rest {
+    /// Bytes of which none was given.
     pub fn new(bytes: Vec<u8>) -> Rest
         ensures { result ≡ bytes.items }
     {
         Rest { bytes, given: 0 }
     }
 
-    /// Moves as many bytes as fit to the front of the buffer.
+    /// Moves as many bytes as fit to the front of the buffer, and answers how many.
     pub fn give(&mut self, buf: &mut [u8]) -> usize
         ensures count { result ≡ min (length buf.old) (length self.old) }
         ensures given { self.old ≡ take result buf.new ++ self.new }

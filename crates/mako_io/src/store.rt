@@ -26,6 +26,7 @@ impl Model for Store {
 }
 
 impl Store {
+    /// Nothing is taken yet, and there is room for so many bytes in all.
     pub fn with_room(alloc: Global, room: usize) -> Result<Store, Memory>
         ensures { IfOk result (λ store. store ≡ record { taken = []; room = room }) }
     {
@@ -33,7 +34,7 @@ impl Store {
         Ok(Store { bytes, room })
     }
 
-    /// Takes what still fits.
+    /// Takes what still fits, and answers how many bytes that is.
     pub fn take(&mut self, piece: &[u8]) -> usize
         ensures count { result ≡ fitting self.old.taken self.old.room piece.now }
         ensures taken { self.new.taken ≡ self.old.taken ++ take result piece.now }
@@ -46,6 +47,7 @@ impl Store {
         }
     }
 
+    /// The bytes taken so far.
     pub fn bytes(&self) -> &[u8]
         ensures { result.now ≡ self.now.taken }
     {

@@ -15,6 +15,7 @@ pub struct Deaths {
 }
 
 impl Deaths {
+    /// No cycle has begun.
     pub fn new(alloc: Global) -> Deaths
         ensures { lists_in result ≡ [] }
     {

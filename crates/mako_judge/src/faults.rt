@@ -28,6 +28,7 @@ const CLAUSES: [Clause; 9] = [
 ];
 
 impl<'a> Trial<'a> {
+    /// How far the front answers the script, or the first fault.
     pub fn verdict(&self, alloc: Global) -> Result<Verdict, Memory>
         requires { IsFair self.now }
         ensures { IfOk result (IsTrueOf (script self.now) (front self.now)) }

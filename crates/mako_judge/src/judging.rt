@@ -15,7 +15,7 @@ use mako_words::Memory;
 use std::alloc::Global;
 
 /// Whether the history and its finished cycles answer the script to the end, so far, or not, and
-/// which clause they do not meet first.
+/// which clause they do not meet first. `Memory` means that there was not enough, and says nothing of them.
 pub fn judge(
     alloc: Global,
     setup: &Setup,

@@ -50,7 +50,7 @@ impl Objects {
         }
     }
 
-    /// The object has these fields from now on.
+    /// The object has these fields from now on. After `Memory` nothing has changed.
     pub fn insert(&mut self, name: Name, fields: Vec<Value>) -> Result<(), Memory>
         ensures ok { OnOk result (self.new ≡ finite.insert self.old name fields.items) }
         ensures err { OnErr result (self.new ≡ self.old) }

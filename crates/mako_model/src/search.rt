@@ -21,7 +21,7 @@ struct Search {
 }
 
 /// The names that are reachable from the roots, by paths through the fields of objects. It looks at
-/// each object once.
+/// each object once, breadth first. `Memory` means that there was not enough.
 pub fn reach(alloc: Global, state: &Immortal) -> Result<BTreeSet<Name>, Memory>
     ensures { IfOk result (λ found. (name : Name)
         → IsTrue (contains name_cmp found name) ↔ IsReachable state.now name) }

@@ -60,7 +60,7 @@ impl Put {
     ghost use Rattle.mako_ring.specs.Windows.{IsWindow};
     ghost use Rattle.mako_ring.specs.declared.put.PutStage.TheVariants as stages;
 
-    /// A put of this word into the ring, at the head of its putter's window.
+    /// A put of this word, which is not 0, into the ring, at the head of its putter's window.
     pub fn new(shape: Shape, ring: Ring, window: Window, word: u64) -> Put
         requires ring { IsRing shape ring }
         requires window { IsWindow shape.ring window }

@@ -57,7 +57,7 @@ impl Take {
     ghost use Rattle.mako_ring.specs.Rings.{IsRing};
     ghost use Rattle.mako_ring.specs.declared.take.TakeStage.TheVariants as stages;
 
-    /// A take out of the ring, at its taker's position.
+    /// A take out of the ring, at its taker's position: the number of a slot.
     pub fn new(shape: Shape, ring: Ring, at: u64) -> Take
         requires ring { IsRing shape ring }
         requires position { at < shape.ring }

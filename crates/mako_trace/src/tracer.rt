@@ -37,7 +37,8 @@ impl Tracer {
     ghost use Rattle.mako_ring.specs.Tracing as tracing;
     ghost use Rattle.mako_step.specs.declared.step.Step.TheVariants.{Ended};
 
-    /// The tracing of this server, with no turn begun. It takes all memory that it ever takes.
+    /// The tracing of this server, with no turn begun. It takes all memory that it ever takes: room for the entries of
+    /// all its tablets, and a live count, in words, for each tablet. `Memory` means that there was not enough.
     pub fn new(alloc: Global, shape: Shape, server: u32) -> Result<Tracer, Memory>
         requires { server < shape.servers }
         ensures { IfOk result (λ t. t ≡ tracing.new_tracer shape server) }
