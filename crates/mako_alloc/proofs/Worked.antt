@@ -5,13 +5,14 @@ use Rattle.mako_step.specs.Trails.{Observation}
 use Rattle.mako_step.specs.declared.act.Op.TheVariants.{Load, Store, Add, Sub, Exchange}
 use Rattle.mako_alloc.specs.Causes.{IsFull, IsMade, null_stores}
 use Rattle.mako_alloc.specs.Notes.{IsFirstNote}
+use Rattle.mako_gate.specs.Runs.{sees}
 use Rattle.mako_gate.specs.Standings.{with_turn, arrived, holds_turn}
 use Rattle.mako_alloc.specs.Standings.{StandsBy, arrivals, leaves, turns_taken, turns_given}
-use Rattle.mako_alloc.specs.Examples.{job, saw, making, made, shut_out, found_shut}
+use Rattle.mako_alloc.specs.Examples.{job, making, made, shut_out, found_shut}
 
 -- what was seen before the entry
 abbrev before : List Observation
-before = saw 10 (Add 1) 0 ∷ saw 11 (Exchange 0 1) 0 ∷ saw 14 Load 0 ∷ saw 13 Load 2 ∷ []
+before = sees 10 (Add 1) 0 ∷ sees 11 (Exchange 0 1) 0 ∷ sees 14 Load 0 ∷ sees 13 Load 2 ∷ []
 
 pub is_made : IsMade job making made 0
 unfolding index null_stores
@@ -22,7 +23,8 @@ is_made = record {
     earlier = before;
     word = 0x800_0000_0000;
     place = 0;
-    later = saw 35 (Store 1) 0 ∷ saw 36 (Store 0) 0 ∷ saw 13 (Store 4) 0 ∷ saw 16 (Store 0x8000_0800_0080_0023) 0 ∷ [];
+    later =
+        sees 35 (Store 1) 0 ∷ sees 36 (Store 0) 0 ∷ sees 13 (Store 4) 0 ∷ sees 16 (Store 0x8000_0800_0080_0023) 0 ∷ [];
     tablet = lit< tt;
     place_below = lit< tt;
     entry_is = refl;
@@ -56,8 +58,8 @@ pub is_noted : IsFirstNote job shut_out found_shut
 unfolding index
 is_noted = record {
   earlier = [];
-  observation = saw 10 (Add 1) 0x1_0001;
-  later = saw 10 (Sub 1) 0x1_0002 ∷ [];
+  observation = sees 10 (Add 1) 0x1_0001;
+  later = sees 10 (Sub 1) 0x1_0002 ∷ [];
   splits = refl;
   tells = (lit< tt, refl, refl);
   first = λ k d below. absurd (omega (arith, below));
@@ -65,4 +67,4 @@ is_noted = record {
 
 pub is_not_full : ¬ IsFull job shut_out
 unfolding index
-is_not_full h = h.no_note 0 (saw 10 (Add 1) 0) (lit< tt) found_shut (lit< tt, refl, refl)
+is_not_full h = h.no_note 0 (sees 10 (Add 1) 0) (lit< tt) found_shut (lit< tt, refl, refl)

@@ -1,10 +1,9 @@
 -- Worked examples: a record made in a heap of 49 words, and a gate found shut there.
 use Rattle.std.specs.Prelude.{List, [], ◌∷◌}
 use Rattle.mako_words.specs.declared.name.Name.{Name}
-use Rattle.mako_step.specs.declared.act.Op.{Op}
 use Rattle.mako_step.specs.declared.act.Op.TheVariants.{Load, Store, Add, Sub, Exchange}
 use Rattle.mako_step.specs.Trails.{Observation}
-use Rattle.std.specs.Prelude.{ℕ}
+use Rattle.mako_gate.specs.Runs.{sees}
 use Rattle.mako_model.specs.declared.attempt.Pause.{Pause}
 use Rattle.mako_model.specs.declared.attempt.Pause.TheVariants.{Shut}
 use Rattle.mako_alloc.specs.declared.job.Job.{Job}
@@ -29,24 +28,21 @@ job = record {
   cycle = 1;
 }
 
-abbrev pub saw : ℕ → Op → ℕ → Observation
-saw word op found = record { act = record { word = word; op = op }; found = found }
-
 -- The gate is word 10, the turn 11, the home 12, the top 13, what is left 14 and the entry 16. Region 1 begins at word
 -- 33.
 -- The entry is free and had one object; two words of region 1 are used.
 abbrev pub making : List Observation
 making =
-    saw 10 (Add 1) 0
-    ∷ saw 11 (Exchange 0 1) 0
-    ∷ saw 14 Load 0
-    ∷ saw 13 Load 2
-    ∷ saw 16 Load 0x800_0000_0000
-    ∷ saw 12 Load 1
-    ∷ saw 35 (Store 1) 0
-    ∷ saw 36 (Store 0) 0
-    ∷ saw 13 (Store 4) 0
-    ∷ saw 16 (Store 0x8000_0800_0080_0023) 0
+    sees 10 (Add 1) 0
+    ∷ sees 11 (Exchange 0 1) 0
+    ∷ sees 14 Load 0
+    ∷ sees 13 Load 2
+    ∷ sees 16 Load 0x800_0000_0000
+    ∷ sees 12 Load 1
+    ∷ sees 35 (Store 1) 0
+    ∷ sees 36 (Store 0) 0
+    ∷ sees 13 (Store 4) 0
+    ∷ sees 16 (Store 0x8000_0800_0080_0023) 0
     ∷ []
 
 abbrev pub made : Name
@@ -54,7 +50,7 @@ made = record { entry = 0; generation = 1 }
 
 -- the gate is shut, and one mutator is inside
 abbrev pub shut_out : List Observation
-shut_out = saw 10 (Add 1) 0x1_0001 ∷ saw 10 (Sub 1) 0x1_0002 ∷ []
+shut_out = sees 10 (Add 1) 0x1_0001 ∷ sees 10 (Sub 1) 0x1_0002 ∷ []
 
 abbrev pub found_shut : Pause
 found_shut = Shut 0 0x1_0001

@@ -114,11 +114,6 @@ along k c d a w r q calls replies decides act acts =
     let With : Reply → Type 0 = λ x. Decides k c a w x in
     subst Of calls (subst By same (subst With (same_Some r q replies) decides))
 
--- nothing is decided where no reply comes to stand
-undecided : (k : Caller) (call : Call) (step : Step) (w : ℕ) (reply : Reply) (o : Option Reply) → o ≡ None
-    → o ≡ Some reply → IsDeciding k call step w reply
-undecided k call step w reply o none some = absurd (none-some reply (sym none ∙ some))
-
 source_decides : (k : Caller) (to from field w : ℕ) (v : Value) (reply : Reply) → value_at w ≡ v
     → decided (source_fed to field v) ≡ Some reply
     → IsDeciding k (Get to from field) (root_next k (LoadingSource to from field)) w reply

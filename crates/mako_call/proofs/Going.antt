@@ -25,7 +25,7 @@ use Rattle.mako_call.specs.Agreeing.{StageOf}
 use Rattle.mako_call.specs.Objects.{tablet_of, at_record, AccessIsKnown, ErrandIsKnown, LocatedIsKnown}
 use Rattle.mako_call.specs.Callers.{IsCaller}
 use Rattle.mako_call.specs.Allocating.{opening_search, search_bound}
-use Rattle.mako_call.specs.Leaving.{leaving, leaving_tablet}
+use Rattle.mako_call.specs.Leaving.{leaving_tablet}
 use Rattle.mako_call.specs.Calls.{StageIsKnown, stage_rank}
 
 -- a stage of the call that is known, and of a rank below this
@@ -33,11 +33,6 @@ pub record GoesOn (k : Caller) (call : Call) (r : ℕ) (stage : CallStage) : Typ
   pub known : StageIsKnown k stage
   pub agrees : StageOf k.shape call stage
   pub lower : stage_rank k.shape stage < r
-
--- it leaves its own gate
-pub leaves : (k : Caller) (call : Call) (r : ℕ) (outcome : Attempt) → OutcomeOf call outcome → 1 < r
-    → GoesOn k call r (leaving outcome)
-leaves k call r outcome arrives h = record { known = tt; agrees = arrives; lower = h }
 
 -- the tablet of an object that is known
 pub tablet_known : (k : Caller) (e : Errand) → ErrandIsKnown k.shape e

@@ -2,19 +2,11 @@
 use Rattle.std.proofs.Common.{◌≡◌, ℕ, true, false, Option, Some, None, refl}
 use Rattle.mako_model.specs.declared.call.Call.{Call}
 use Rattle.mako_model.specs.declared.reply.Reply.{Reply}
-use Rattle.mako_model.specs.declared.event.Event.TheVariants.{Nothing}
 use Rattle.mako_call.specs.Calls.{newly, event_by}
 
 pub same_tells_nothing : (o : Option Reply) → newly o o ≡ false
 same_tells_nothing None = refl
 same_tells_nothing (Some reply) = refl
-
--- a step that does not decide the call tells nothing
-pub tells_nothing : (m : ℕ) (call : Call) (before after : Option Reply) → newly before after ≡ false
-    → event_by m call before after ≡ Nothing
-tells_nothing m call None None is = refl
-tells_nothing m call None (Some reply) is = absurd (let no : true ≡ false = is in cc)
-tells_nothing m call (Some earlier) after is = refl
 
 -- the call is not decided before the step that decides it
 pub tells_first : (m : ℕ) (call : Call) (before after : Option Reply) → newly before after ≡ true

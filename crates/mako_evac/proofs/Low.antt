@@ -1,8 +1,6 @@
 -- Low copies fit, and stay low.
-use Rattle.std.proofs.Common.{◌≡◌, ℕ, ◌+◌, ◌<◌, ◌≤◌, ◌==◌, if◌then◌else◌, List, slice_index, ap, ◌∙◌, sym, subst, arith}
+use Rattle.std.proofs.Common.{◌≡◌, ℕ, ◌+◌, ◌≤◌, ◌==◌, if◌then◌else◌, List, slice_index, ap, ◌∙◌, sym, subst}
 use Rattle.mako_words.specs.Entries.{entry_at}
-use Rattle.mako_shape.specs.Limits.{IsShape}
-use Rattle.mako_shape.specs.Places.{total}
 use Rattle.mako_step.specs.Acts.{found, finds}
 use Rattle.mako_step.specs.Machines.{machine_stepped}
 use Rattle.mako_step.specs.declared.act.Act.{Act}
@@ -30,23 +28,6 @@ use Rattle.mako_evac.specs.Tablets.{copy_fed, tablet_fed}
 use Rattle.mako_evac.specs.Freeing.{free_fed}
 use Rattle.mako_evac.specs.Evacuating.{Evacuation, next_of, stage_fed, fed}
 use Rattle.mako_evac.specs.Low.{IsLowStage, IsLowCopy, IsLow, IsLowTablet, KeepsTabletLow, KeepsLow}
-
--- a copy that is low fits
-copy_fits : (c : Copy) (s : CopyStage) (w : ℕ) → IsShape c.shape → c.entry.address + 7 < total c.shape → IsLowStage s
-    → w ≤ 7 → copying.StageFits c.shape c.entry s w
-copy_fits c LoadingTop w shape address low small = let each = shape.in_range.each in omega (arith, each, small)
-copy_fits c (LoadingHeader offset) w shape address low small =
-    let each = shape.in_range.each in
-    (omega (arith, small), omega (arith, small, address), omega (arith, each, small, low))
-copy_fits c (StoringHeader offset fields) w shape address low small = tt
-copy_fits c (LoadingField offset fields field) w shape address low small = tt
-copy_fits c (StoringField offset fields field word) w shape address low small = tt
-copy_fits c (StoringEntry offset fields) w shape address low small = tt
-copy_fits c (RaisingTop offset fields) w shape address low small = tt
-copy_fits c (Copied address) w shape within low small = tt
-
-pub low_fits : (c : Copy) (w : ℕ) → copying.IsKnown c → IsLowCopy c → w ≤ 7 → copying.Fits c w
-low_fits c w known low small = copy_fits c c.stage w known.shape low.0 low.1 small
 
 before_low : (offset fields field : ℕ) → IsLowStage (copying.before_field offset fields field)
 before_low offset fields field =
@@ -120,9 +101,6 @@ stays_low o AwaitingEnd w low keeps =
     by_bool (λ b. IsLow (if b then TellingEnd else AwaitingEnd)) (w == 0) (λ _. tt) (λ _. tt)
 stays_low o TellingEnd w low keeps = tt
 stays_low o Ended w low keeps = tt
-
-pub opening_low : (o : Owner) → IsLow (at_tablet o (first_tablet o))
-opening_low o = tablet_low o (first_tablet o)
 
 -- after a step on words that keep it low
 pub step_low : (v after : Evacuation) (act : Act) (words : List ℕ) (w : ℕ) → next_of v ≡ Do act

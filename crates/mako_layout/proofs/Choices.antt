@@ -38,9 +38,6 @@ module _ (n : Numbers) (l : Layout) (o : OneCopy n l) (m : Layout) (t r : ℕ) (
     | inr g ↦ absurd (let z = ap l.given e ∙ p.settled in omega (arith, g.region))
   ]
 
-  not_left : l.leaving t ≡ 0
-  not_left = elim (cases_eq (l.leaving t) 0) [ inl e ↦ e | inr d ↦ absurd (d (o.leaves t p.inside d ∙ p.settled)) ]
-
   -- the tablet is t, or nothing of it changed
   none_home : home_words n m t ≡ 0
   none_home = over_none n t p.inside (λ y. part_in (m.home t) (m.slot y)) (λ y h e.

@@ -12,7 +12,7 @@ use Rattle.mako_words.specs.declared.value.Value.TheVariants.{Null, Ref}
 use Rattle.mako_words.specs.Names.{name_cmp}
 use Rattle.mako_model.specs.declared.point.Point.{Point}
 use Rattle.mako_model.specs.Heaps.{Heap, fields_of, root_of, with_root, with_fields, board_name, opening, opening_roots}
-use Rattle.mako_model.specs.Lawful.{IsNoRef, IsAtHand, IsLawful, heap_after}
+use Rattle.mako_model.specs.Lawful.{IsNoRef, IsAtHand, heap_after}
 use Rattle.mako_model.specs.Legal.{Facts, opening_of, state_of, AreLawful, IsLegal}
 use Rattle.mako_model.specs.Dead.{made_by, names_made}
 use Rattle.mako_model.specs.Laws.{HasObject, IsClosed}
@@ -36,19 +36,6 @@ has_still h x fields y has =
 pub has_cases : (h : Heap) (x : Name) (fields : List Value) (y : Name) → HasObject (with_fields h x fields) y → (y ≡ x)
     ⊎ HasObject h y
 has_cases h x fields y has = ⊎_elim (λ t. inl t.0) (λ t. inr (has.0, t.1)) (fields_cases h x fields y has.0 has.1)
-
-stays_in : (h after : Heap) (made : List Name) (x : Name) → Change h after made → HasObject h x → HasObject after x
-stays_in h after made x (Nothing e none) has = subst (λ a. HasObject a x) (sym e) has
-stays_in h after made x (Snapped e none) has = subst (λ a. HasObject a x) (sym e) has
-stays_in h after made x (Rooted m q v root at e none) has = subst (λ a. HasObject a x) (sym e) has
-stays_in h after made x (Written m q name fields i v refers at e none) has =
-    subst (λ a. HasObject a x) (sym e) (has_still h name _ x has)
-stays_in h after made x (New m q name fields root fresh e one) has =
-    subst (λ a. HasObject a x) (sym e) (has_still h name _ x has)
-
--- an object stays
-pub object_stays : (h : Heap) (p : Point) (x : Name) → IsLawful h p → HasObject h x → HasObject (heap_after h p) x
-object_stays h p x lawful has = stays_in h (heap_after h p) (made_by p) x (change_of h p lawful) has
 
 -- ---- the names made
 

@@ -31,7 +31,3 @@ pub row_more : (items items' : List Value) (k : ℕ) (first rest : Value) → it
     → items' ≡ items ++ rest ∷ [] → items' ≡ first ∷ replicate (k + 1) rest
 row_more items items' k first rest is more =
     more ∙ ap (λ (vs : List Value). vs ++ rest ∷ []) is ∙ ap (λ (vs : List Value). first ∷ vs) (replicate_push k rest)
-
-pub rows_more : {A : Type 0} (items items' : List A) (k : ℕ) (x : A) → items ≡ replicate k x → items' ≡ items ++ x ∷ []
-    → items' ≡ replicate (k + 1) x
-rows_more items items' k x is more = more ∙ ap (λ xs. xs ++ x ∷ []) is ∙ replicate_push k x

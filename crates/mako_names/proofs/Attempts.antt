@@ -1,5 +1,5 @@
 -- The steps of waiting and of last attempts, from the words that they find.
-use Rattle.std.proofs.Common.{◌≡◌, ℕ, ◌+◌, ◌*◌, ◌<◌, ◌≤◌, ◌^◌, ◌⊎◌, ⊎_elim, true, false, List, ◌∷◌, length, set}
+use Rattle.std.proofs.Common.{◌≡◌, ℕ, ◌+◌, ◌*◌, ◌<◌, ◌≤◌, ◌⊎◌, ⊎_elim, true, false, List, ◌∷◌, length, set}
 use Rattle.std.proofs.Common.{slice_get, Some, sym, subst, refl, ◌∙◌, arith}
 use Rattle.mako_words.specs.Phases.{cycle_of}
 use Rattle.mako_shape.specs.declared.numbers.Numbers.{Numbers}
@@ -16,15 +16,12 @@ use Rattle.mako_model.specs.Starved.{IsEntryUnavailable, words_made}
 use Rattle.mako_model.specs.LawfulFronts.{IsLawfulFront}
 use Rattle.mako_model.proofs.CycleCounts.{cycles_stay}
 use Rattle.mako_model.proofs.Histories.{legal_push}
-use Rattle.mako_names.specs.Counts.{name_of}
-use Rattle.mako_names.specs.Tables.{IsWorkloadOf, EntryStands, TableStands, SameTable, entry_of, phase_of, settled_of}
+use Rattle.mako_names.specs.Tables.{EntryStands, TableStands, SameTable, entry_of, phase_of, settled_of}
 use Rattle.mako_names.specs.Tables.{running_of}
 use Rattle.mako_names.specs.Uses.{SameSlots}
 use Rattle.mako_names.specs.Trying as trying
 use Rattle.mako_names.specs.Trying.{Trying, TryingStands, tablet_at}
 use Rattle.mako_names.specs.Holding.{NameFacets, NamesHoldWith}
-use Rattle.mako_names.proofs.Counts.{names_in_order}
-use Rattle.mako_names.proofs.Entries.{held_is_made}
 use Rattle.mako_names.proofs.Holding.{hold_tries, hold_decides}
 use Rattle.mako_names.proofs.Next.{plain_next, cycle_next, not_full}
 use Rattle.mako_model.proofs.RootRows.{has_roots}
@@ -190,16 +187,3 @@ module _ (n : Numbers) (w : Facts) where
   -- the board is in range, so that there is a generation
   pub some_generation : (front : Seen) → IsLawfulFront w front → 0 < w.generations
   some_generation front lawful = let l = (lawful.names board_name (0, omega arith, refl)).generation in omega arith
-
-  -- the generation after that of a taken entry fits its bits
-  pub next_generation_fits : (ws : List ℕ) (front : Seen) (x : ℕ) → IsWorkloadOf n w → IsLawfulFront w front
-      → TableStands n ws w front → x < all_entries n → (entry_of n ws x).taken ≡ true
-      → (entry_of n ws x).generation + 1 < 2 ^ 20
-  next_generation_fits ws front x of_it lawful table within taken =
-      let g : ℕ = (entry_of n ws x).generation in
-      let made =
-      held_is_made w front (settled_of (phase_of n ws)) x g (names_in_order w front lawful)
-      (subst (λ b. EntryStands w front (settled_of (phase_of n ws)) x b g) taken (table.entries x within)) in
-      let l = (lawful.names (name_of x g) made).generation in
-      let few = of_it.few_generations in
-      omega arith

@@ -96,11 +96,6 @@ pub free_is_new : (w : Facts) (front : Seen) (settled x g : ℕ) → NamesStand 
 free_is_new w front settled x g stand stands made =
     let l = (stand x g).0 made in let count = stands.count in omega arith
 
--- the one before was made
-pub before_is_made : (w : Facts) (front : Seen) (settled x g : ℕ) → NamesStand front.history
-    → EntryStands w front settled x false (g + 1) → Contains (names_made front.history) (name_of x g)
-before_is_made w front settled x g stand stands = let count = stands.count in (stand x g).1 (omega arith)
-
 -- the name of a taken entry was made
 pub held_is_made : (w : Facts) (front : Seen) (settled x g : ℕ) → NamesStand front.history
     → EntryStands w front settled x true g → Contains (names_made front.history) (name_of x g)

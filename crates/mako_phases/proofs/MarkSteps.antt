@@ -45,11 +45,6 @@ module _ (n : Numbers) (words : List ℕ) (before : List Point) (cycle : ℕ) (s
   same_name x y e g = λ i. record { entry = sym e i; generation = sym g i }
 
   -- where the entry of one name alone is written
-  else_same : (e v : ℕ) → Within n (entry e) → (y : Name) → y.entry ≢ e → Within n (entry y.entry)
-      → word_at n (set words (index n (entry e)) v) (entry y.entry) ≡ word_at n words (entry y.entry)
-  else_same e v within y ne in_y =
-      ⊎_elim (λ t. absurd (ne t.0)) (λ t. t.1) (entry_written n words e v within size y.entry in_y)
-
   here_is : (e v : ℕ) → Within n (entry e) → (y : Name) → y.entry ≡ e → Within n (entry y.entry)
       → entry_of n (set words (index n (entry e)) v) y.entry ≡ entry_at v
   here_is e v within y same in_y =

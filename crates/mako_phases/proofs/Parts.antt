@@ -93,9 +93,6 @@ server_part n words p q s stage ended laden same st fits rests = record {
 
 -- ---- a server goes on
 
-rest_passed : (cycle ended u : ℕ) → HasPassed cycle resting ended u → ended ≡ cycle
-rest_passed cycle ended u has = ⊎_elim (λ e. e) (λ none. absurd none) has
-
 module _ (n : Numbers) (words : List ℕ) (part : Part) (s ended : ℕ) (laden : Bool) where
   -- from its turn to its end
   goes_off : ServerStands n words part s resting ended laden → ServerFits part s gone ended

@@ -14,9 +14,3 @@ abbrev pub CanGo : {M : Type 0} → (M → Step) → (M → ℕ → Type 0) → 
 CanGo next Fits fed zero m words = Unit {0}
 CanGo next Fits fed (suc k) m words = CanStep (next m) words (Fits m)
     × CanGo next Fits fed k (machine_stepped (next m) m (fed m (finds (next m) words))) (words_stepped (next m) words)
-
--- the machine and the words after so many steps
-abbrev pub gone : {M : Type 0} → (M → Step) → (M → ℕ → M) → ℕ → M → List ℕ → M × List ℕ
-gone next fed zero m words = (m, words)
-gone next fed (suc k) m words =
-    gone next fed k (machine_stepped (next m) m (fed m (finds (next m) words))) (words_stepped (next m) words)

@@ -73,9 +73,6 @@ module _ (size : ℕ) (slot : ℕ → ℕ) where
   pub content_prefix : (at : ℕ) → Prefix size size slot at (content size slot at)
   content_prefix at = within_is_prefix size at
 
-  pub content_few : (at : ℕ) → length (content size slot at) ≤ size
-  content_few at = (content_prefix at).few
-
 -- the names are all that stands in the ring
 pub record Holds (size : ℕ) (slot : ℕ → ℕ) (at : ℕ) (names : List ℕ) : Type 0 where
   pub few : length names ≤ size

@@ -108,14 +108,7 @@ range_room base room es once inside =
     (distinct_from base es (λ k c. (inside k c).0) once) below in
     (let same : length (map (λ (k : ℕ). k - base) es) ≡ length es = length-map es (λ (k : ℕ). k - base) in omega arith)
 
--- the stack of a server has room in as many entries as the server has
-pub stack_room : (n : Numbers) (w : Facts) (words : List ℕ) (history : List Point) (cycle : ℕ) (job : Work)
-    → ServerStands n w words history cycle job → length job.stack ≤ n.entries * n.tablets
-stack_room n w words history cycle job stands =
-    range_room (n.entries * (n.tablets * job.server)) (n.entries * n.tablets) job.stack stands.once
-    (λ e on. own_entry n e job.server (stands.stack e on).in_range (stands.mine e on))
-
--- and where an entry is about to be pushed, there is room for it
+-- where an entry is about to be pushed, there is room for it
 pub push_room : (n : Numbers) (w : Facts) (words : List ℕ) (history : List Point) (cycle : ℕ) (job : Work) (x : Name)
     → ServerStands n w words history cycle job → job.hand ≡ pushing x → length job.stack < n.entries * n.tablets
 push_room n w words history cycle job x stands hand =

@@ -32,14 +32,6 @@ marked_same n words words' cycle x same marked = record {
   epoch = ap (λ (k : ℕ). (entry_at k).epoch) same ∙ marked.epoch;
 }
 
--- two names that are marked at one entry are one
-pub one_marked : (n : Numbers) (words : List ℕ) (cycle : ℕ) (x y : Name) → IsMarked n words cycle x
-    → IsMarked n words cycle y → x.entry ≡ y.entry → x ≡ y
-one_marked n words cycle x y mx my e =
-    let g : x.generation ≡ y.generation = sym mx.generation ∙ ap (λ (k : ℕ). (entry_of n words k).generation) e ∙
-    my.generation in
-    λ i. record { entry = e i; generation = g i }
-
 module _ (n : Numbers) (words : List ℕ) (p : Place) (v : ℕ) (size : length words ≡ total n) (within : Within n p) where
   -- what stands at a place after a write
   pub written : (r : Place) → Within n r → ((r ≡ p) × (word_at n (set words (index n p) v) r ≡ v))

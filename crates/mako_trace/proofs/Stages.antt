@@ -1,8 +1,7 @@
--- What a tracer does and becomes at a stage is the same whatever stage it kept.
+-- What a tracer becomes at a stage is the same whatever stage it kept.
 use Rattle.std.proofs.Common.{◌≡◌, ℕ, ◌+◌, ◌==◌, Bool, true, false, if◌then◌else◌, refl}
 use Rattle.mako_step.specs.Machines.{IsAct}
 use Rattle.mako_ring.specs.Tracing.{TracerView, window_of, set_window, at_stage, stage_next, windows_from, stage_fed}
-use Rattle.mako_ring.specs.Tracing.{begun}
 use Rattle.mako_ring.specs.Windows.{tail_up}
 use Rattle.mako_ring.specs.declared.window.Window.{Window}
 use Rattle.mako_ring.specs.declared.tracing.Source.TheVariants.{Collector, Server}
@@ -19,27 +18,6 @@ use Rattle.mako_ring.specs.declared.tracing.TraceStage.TheVariants.{Ended}
 -- the tracer at its end, as far as the stage is not read
 abbrev pub unstaged : TracerView → TracerView
 unstaged t = at_stage t Ended
-
-pub next_at : (t : TracerView) (s : TraceStage) → stage_next (unstaged t) s ≡ stage_next t s
-next_at t (Sending (HeadLook x)) = refl
-next_at t (Sending (GhostRaise x)) = refl
-next_at t (Sending (HeadStore x)) = refl
-next_at t (Scanning (FieldLoad s)) = refl
-next_at t (Scanning (EntryLoad x)) = refl
-next_at t (Scanning (HeaderLoad x address)) = refl
-next_at t (Receiving (SlotLook Collector)) = refl
-next_at t (Receiving (SlotLook (Server a))) = refl
-next_at t (Receiving (BusyRaise source x)) = refl
-next_at t (Receiving (SlotClear Collector x)) = refl
-next_at t (Receiving (SlotClear (Server a) x)) = refl
-next_at t (Marking (Considering x)) = refl
-next_at t (Marking (Measuring x e)) = refl
-next_at t (Marking (EntryMark x e fields)) = refl
-next_at t (Marking (Counting x fields)) = refl
-next_at t (Resting BusyLower) = refl
-next_at t (Resting (TailLook r)) = refl
-next_at t (Resting GhostLower) = refl
-next_at t Ended = refl
 
 pub fed_at : (t : TracerView) (s : TraceStage) (w : ℕ) → IsAct (stage_next t s)
     → stage_fed (unstaged t) s w ≡ stage_fed t s w
@@ -69,6 +47,3 @@ fed_at t (Resting (TailLook r)) w acts = looked (w == 0)
     looked false = refl
 fed_at t (Resting GhostLower) w acts = refl
 fed_at t Ended w acts = absurd acts
-
-pub begun_at : (t : TracerView) (c : ℕ) → begun (unstaged t) c ≡ begun t c
-begun_at t c = refl
