@@ -122,9 +122,6 @@ module _ (n : Numbers) (w : Facts) (s : JointScene) (j : Joint n w s) (old : Col
   abbrev pub gate_words : List ℕ
   gate_words = words_after (record { word = index n p; op = op }) s.words
 
-  v : ℕ
-  v = after_op op (word_at n s.words p)
-
   pub gate_makes : Makes n (λ q. word_at n s.words q) (λ q. word_at n gate_words q) (mutator_gate m) op
   gate_makes = acts_make n s.words p op j.names.hold.size low
 

@@ -56,12 +56,6 @@ shade_is_use (work s slot) is = tt
 shade_is_use (ghost a b slot) is = tt
 shade_is_use p is = absurd is
 
-pub use_is_shade : (p : Place) → IsUseSlot p → IsShadeSlot p
-use_is_shade (barrier m slot) is = tt
-use_is_shade (work s slot) is = tt
-use_is_shade (ghost a b slot) is = tt
-use_is_shade p is = absurd is
-
 -- a mark is one, as tracing and as the order of the phases read it
 same_mark : (n : Numbers) (words : List ℕ) (cycle : ℕ) (x : Name) → shades.IsMarked n words cycle x
     → IsMarked n words cycle x

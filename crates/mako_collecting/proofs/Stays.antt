@@ -69,9 +69,6 @@ module _ (n : Numbers) (w : Facts) (s : JointScene) (old c : Collecting) (at : I
   abbrev seat : ℕ
   seat = collector_seat n
 
-  abbrev with_words : List ℕ → JointScene
-  with_words us = record s { words = us }
-
   pub tracks_as : (us : List ℕ) (choice : Choice) → names_of c ≡ names_of old
       → TracksFit (phase_of n us) n w (trace_in (record s { words = us }))
       → TracksFit (phase_of n us) n w (trace_in (with_collector n s us choice c))

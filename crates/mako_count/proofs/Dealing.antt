@@ -1,13 +1,12 @@
 -- The workers get their seats one after another.
-use Rattle.std.proofs.Common.{◌≡◌, ℕ, zero, suc, ◌+◌, ◌*◌, ◌^◌, ◌<◌, ◌≤◌, List, [], ◌∷◌, ◌++◌, length, map, get_or}
-use Rattle.std.proofs.Common.{take, drop, All, sym, refl, ap, ◌∙◌, subst, arith, drop-cons, drop_of_length-le}
-use Rattle.std.proofs.lemmas.List.{take_all}
+use Rattle.std.proofs.Common.{◌≡◌, ℕ, zero, suc, ◌+◌, ◌*◌, ◌^◌, ◌<◌, List, [], ◌∷◌, ◌++◌, length, map, get_or}
+use Rattle.std.proofs.Common.{take, drop, All, sym, refl, ap, ◌∙◌, subst, arith, drop-cons}
 use Rattle.atomic_table.specs.Seated.{TableId}
 use Rattle.std.proofs.lemmas.List.Elements.{All-push}
 use Rattle.mako_count.specs.declared.views.WorkerView.{WorkerView}
 use Rattle.mako_count.specs.Views.{alone, gathering, openings, opening_worker, opening_poll, first_of, rest_of}
 use Rattle.mako_count.specs.Views.{worker_of, IsPollers, Seated}
-use Rattle.mako_count.specs.States.{WorkerState, worker_state, Desk, IsWorkerHeld, AreStarting}
+use Rattle.mako_count.specs.States.{WorkerState, worker_state, Desk, IsWorkerHeld}
 
 -- the first i workers have their seats
 pub record Deals (table : TableId) (seeds : List ℕ) (most i : ℕ) (desk : Desk) (ws : List WorkerState) : Type 0 where
@@ -79,13 +78,3 @@ module _ (table : TableId) (seeds : List ℕ) (most i : ℕ) (desk : Desk) (ws :
               ap (λ (s : WorkerState). s.most) is,
             );
       }
-
-pub all_dealt : (table : TableId) (seeds : List ℕ) (most i : ℕ) (desk : Desk) (ws : List WorkerState) → length seeds ≤ i
-    → Deals table seeds most i desk ws
-    → AreStarting table seeds most ws × (desk.me ≡ (gathering [] (opening_poll (length seeds)), []))
-all_dealt table seeds most i desk ws le d = (
-  (d.known ∙ ap (openings 0) (take_all i seeds le), d.each),
-  d.rest
-      ∙ ap (λ (l : List ℕ). (gathering (openings i l) (opening_poll (length seeds)), []))
-      (drop_of_length-le seeds le),
-)

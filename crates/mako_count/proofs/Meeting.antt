@@ -1,5 +1,5 @@
 -- The poller meets the workers one after another.
-use Rattle.std.proofs.Common.{◌≡◌, ℕ, ◌+◌, ◌*◌, ◌<◌, ◌≤◌, List, [], ◌∷◌, ◌++◌, length, length-append, sum_by, All, Some}
+use Rattle.std.proofs.Common.{◌≡◌, ℕ, ◌+◌, ◌*◌, ◌≤◌, List, [], ◌∷◌, ◌++◌, length, length-append, sum_by, All, Some}
 use Rattle.std.proofs.Common.{sym, ap, ◌∙◌, subst, arith, suc-mul, mul_comm}
 use lib.ListN.{get_or-append}
 use lib.Seq.{get_or-append_seam}
@@ -24,11 +24,6 @@ pub record Meeting (table : TableId) (crew most pieces : ℕ) (poller : PollerSt
   pub done : All (HasDone most) poller.met
   pub between : AreBetweenPieces table most most left
   pub count : length poller.met + length left ≡ crew
-
-pub none_met : (crew : ℕ) (p : PollerState) → 0 < crew → p.met ≡ [] → MeetingTells crew p.met p.poll
-none_met crew p some none n told = subst (λ (ws : List WorkerView). All (λ w. w.seeds ≤ w.handled) ws
-    × (length ws ≡ crew → n ≡ sum_by (λ w. w.seeds + w.sends) ws)) (sym none)
-    ((λ k d lt. absurd (omega arith)), (λ e. absurd (omega arith)))
 
 all_sent : (most : ℕ) (ws : List WorkerView) → All (HasDone most) ws → All (λ w. w.seeds ≤ w.handled) ws
     → sum_by (λ w. w.seeds + w.sends) ws ≡ length ws * (2 * most)

@@ -1,6 +1,6 @@
 -- When two passes tell.
-use Rattle.std.proofs.Common.{◌≡◌, ℕ, true, ◌&&◌, ◌==◌, length, sum, eq-eqb, eqb-true}
-use Rattle.std.proofs.lemmas.Bool.{and_parts, and_from}
+use Rattle.std.proofs.Common.{◌≡◌, ℕ, true, ◌&&◌, ◌==◌, length, sum, eqb-true}
+use Rattle.std.proofs.lemmas.Bool.{and_parts}
 use Rattle.mako_count.specs.declared.views.Reading.{Reading}
 use Rattle.mako_count.specs.declared.views.PollView.{PollView}
 use Rattle.mako_count.specs.Changes.{is_whole, agree, tells}
@@ -19,10 +19,6 @@ whole_parts : (n : ℕ) (r : Reading) → is_whole n r ≡ true → IsWholeReadi
 whole_parts n r e = let t = and_parts (length r.sent == n) (length r.handled == n) e in
     (eqb-true (length r.sent) n t.0, eqb-true (length r.handled) n t.1)
 
-whole_from : (n : ℕ) (r : Reading) → IsWholeReading n r → is_whole n r ≡ true
-whole_from n r w = and_from (length r.sent == n) (length r.handled == n) (eq-eqb (length r.sent) n w.0)
-    (eq-eqb (length r.handled) n w.1)
-
 pub telling : (p : PollView) → tells p ≡ true → Telling p
 telling p e =
     let t = and_parts p.again ((is_whole p.count p.first && is_whole p.count p.later) && agree p.first p.later) e in
@@ -38,16 +34,3 @@ telling p e =
       later_sent = eqb-true (sum p.later.sent) (sum p.first.sent) b.0;
       later_handled = eqb-true (sum p.later.handled) (sum p.first.sent) b.1;
     }
-
-pub tells_so : (p : PollView) → Telling p → tells p ≡ true
-tells_so p t =
-    and_from p.again ((is_whole p.count p.first && is_whole p.count p.later) && agree p.first p.later) t.again
-    (and_from (is_whole p.count p.first && is_whole p.count p.later) (agree p.first p.later)
-    (and_from (is_whole p.count p.first) (is_whole p.count p.later) (whole_from p.count p.first t.first)
-    (whole_from p.count p.later t.later))
-    (and_from (sum p.first.handled == sum p.first.sent)
-    ((sum p.later.sent == sum p.first.sent) && (sum p.later.handled == sum p.first.sent))
-    (eq-eqb (sum p.first.handled) (sum p.first.sent) t.handled)
-    (and_from (sum p.later.sent == sum p.first.sent) (sum p.later.handled == sum p.first.sent)
-    (eq-eqb (sum p.later.sent) (sum p.first.sent) t.later_sent)
-    (eq-eqb (sum p.later.handled) (sum p.first.sent) t.later_handled))))

@@ -100,9 +100,6 @@ record IsWithin (call : Call) : Type 0 where
   is : IsCall 7 call
   after : defined_after 7 call ≡ 7
 
-variable_few : (w : ℕ) → variable w ≤ 6
-variable_few w = omega arith
-
 either : {A : Type 0} (P : A → Type 0) (t : Bool) (x y : A) → P x → P y → P (if t then x else y)
 either P true x y p q = p
 either P false x y p q = q
