@@ -12,7 +12,6 @@ use Rattle.mako_shape.proofs.PlaceLaws.{word_other, index_below}
 use Rattle.mako_step.proofs.Cases.{when_lt}
 use Rattle.mako_gate.specs.Standings.{GateFacet, has_drained, shutter_at, writes}
 use Rattle.mako_gate.proofs.Numbers.{count_at}
-use Rattle.mako_model.specs.Heaps.{Heap}
 use Rattle.mako_model.specs.Legal.{Facts, state_of}
 use Rattle.mako_names.specs.Uses.{IsNamePlace}
 use Rattle.mako_ring.specs.Facets.{IsPolled}
@@ -29,7 +28,7 @@ use Rattle.mako_evac.specs.declared.tablet.TabletStage.TheVariants.{Copying}
 use Rattle.mako_evac.specs.Owners.{IsEntryOf}
 use Rattle.mako_evac.specs.Tablets.{copy_fed}
 use Rattle.mako_evac.proofs.Bounds.{record_within}
-use Rattle.mako_layout.specs.Evacuations.{State, Seat, Fills, slot_of, slot_at, layout, name_of}
+use Rattle.mako_layout.specs.Evacuations.{Seat, Fills, slot_of, slot_at, layout, name_of}
 use Rattle.mako_layout.specs.Facets.{Work, moves, fills, carries}
 use Rattle.mako_layout.specs.Layouts.{Slot, entries_of}
 use Rattle.mako_layout.specs.Steps as step
@@ -85,14 +84,8 @@ module _ (n : Numbers) (w : Facts) (s : JointScene) (server cycle ended : ℕ) (
   abbrev pub gate : GateFacet
   gate = shutter_at seat (has_drained t x)
 
-  abbrev pub st : State
-  st = layout_in n w s
-
   abbrev pub slot : Slot
   slot = slot_at n (layout_in n w s) x
-
-  abbrev pub heap : Heap
-  heap = state_of w s.front.history
 
   -- the size of the entry's record, by the entry's word
   abbrev pub size_by : ℕ → ℕ

@@ -141,9 +141,6 @@ module _ (n : Numbers) (w : Facts) (s : JointScene) (server cycle ended : ℕ) (
     top_in : Within n (top (tablet_of_entry n x))
     top_in = belongings_in_range.entry n x x_in
 
-    abbrev new_top : ℕ
-    new_top = offset + fields + 1
-
     abbrev vs : List ℕ
     vs = set s.words (index n (top (tablet_of_entry n x))) (offset + fields + 1)
 

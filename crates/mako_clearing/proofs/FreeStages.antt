@@ -35,8 +35,8 @@ use Rattle.mako_joint.proofs.Pauses.{gates_drain}
 use Rattle.mako_clearing.specs.ClearingFacets.{server_seat, place_of, free_through, free_carries, stage_phase}
 use Rattle.mako_clearing.specs.ClearingFacets.{stage_ended, stage_watch, stage_work, stage_through}
 use Rattle.mako_clearing.specs.Notices.{SendingStands}
-use Rattle.mako_clearing.specs.Clearing.{FreeKnows, ClearingStands, ClearingGoesOn}
-use Rattle.mako_clearing.proofs.Seated.{phase_is_evac, Owed, owner, Laid, laid_state}
+use Rattle.mako_clearing.specs.Clearing.{FreeKnows, ClearingStands}
+use Rattle.mako_clearing.proofs.Seated.{phase_is_evac, owner, Laid, laid_state}
 use Rattle.mako_clearing.proofs.Stages.{at_stage, Goes, phase_stays, names_else, layout_else}
 
 -- ---- places among the own entries
@@ -98,14 +98,8 @@ module _ (n : Numbers) (w : Facts) (s : JointScene) (server cycle ended : ℕ) (
   abbrev Stands : EvacStage → Type 0
   Stands stage = ClearingStands n w s (at_stage n w s server cycle ended laden taker stage at) ended laden taker sent
 
-  abbrev Kept : EvacStage → Type 0
-  Kept stage = ClearingGoesOn n w s (at_stage n w s server cycle ended laden taker stage at) ended laden taker sent
-
   abbrev pub To : List ℕ → EvacStage → ℕ → List Name → Type 0
   To us stage at' sent' = Goes n w s server cycle ended laden taker us stage at' sent'
-
-  abbrev Owes : List ℕ → EvacStage → List Name → Type 0
-  Owes us stage sent' = Owed n w s server cycle ended laden us stage sent'
 
   abbrev pub seat : ℕ
   seat = server_seat n server

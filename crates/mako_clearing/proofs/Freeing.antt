@@ -17,20 +17,18 @@ use Rattle.mako_evac.specs.Owners.{is_dead, IsOwnEntry}
 use Rattle.mako_evac.specs.Passing.{at_entry}
 use Rattle.mako_evac.proofs.Bounds.{entry_within}
 use Rattle.mako_names.specs.Freeing.{entry_by}
-use Rattle.mako_names.specs.Going.{NamesHold}
 use Rattle.mako_names.specs.Steps.{ComesTo, MayFree, Passes}
 use Rattle.mako_names.specs.Tables.{entry_of}
 use Rattle.mako_names.proofs.StepsKept.{step_kept}
 use Rattle.mako_names.proofs.Words.{phase_else}
 use Rattle.mako_shape.proofs.PlaceLaws.{word_other}
-use Rattle.mako_phases.specs.Facets.{Part, serving, collecting, freeing}
-use Rattle.mako_phases.specs.Orders.{PhaseOrder}
+use Rattle.mako_phases.specs.Facets.{Part, collecting, freeing}
 use Rattle.mako_joint.specs.Joints.{JointScene, names_in, Joint}
 use Rattle.mako_joint.proofs.EachKind.{frees_entry}
 use Rattle.mako_clearing.specs.ClearingFacets.{server_seat, place_of}
 use Rattle.mako_clearing.specs.Notices.{SameNotices}
 use Rattle.mako_clearing.specs.Clearing.{IsDue, ClearingStands, ReadersMatch, ClearingGoesOn}
-use Rattle.mako_clearing.proofs.Seated.{is_in_evac, Owed, owner}
+use Rattle.mako_clearing.proofs.Seated.{is_in_evac, owner}
 use Rattle.mako_clearing.proofs.Rings.{sending_stays}
 use Rattle.mako_clearing.proofs.Stages.{at_stage, Goes, loads, sends_none, known, sent_stays, finish, index_in}
 use Rattle.mako_clearing.proofs.FreeStages.{entry_is, place_below, dead_is, live_is, has_next, OwedFreeing, still}
@@ -50,21 +48,8 @@ module _ (n : Numbers) (w : Facts) (s : JointScene) (server cycle ended : ℕ) (
   abbrev pub To : List ℕ → EvacStage → ℕ → List Name → Type 0
   To us stage at' sent' = Goes n w s server cycle ended laden taker us stage at' sent'
 
-  abbrev Owes : List ℕ → EvacStage → List Name → Type 0
-  Owes us stage sent' = Owed n w s server cycle ended laden us stage sent'
-
   abbrev pub seat : ℕ
   seat = server_seat n server
-
-  abbrev pub stays_freeing : List ℕ → Type 0
-  stays_freeing us = PhaseOrder n us (set s.facets.phases seat (serving server (freeing cycle) ended laden))
-
-  abbrev pub named : List ℕ → ℕ → List Name → Type 0
-  named us i sent' = NamesHold n w us s.front
-      (record s.facets.names {
-        through = set s.facets.names.through server i;
-        sent = set s.facets.names.sent server sent';
-      })
 
   -- ---- an entry is loaded
 

@@ -55,9 +55,6 @@ module _ (w : Facts) (s : JointScene) (k : Holdings) (j : Joint k.shape w s) (se
   abbrev n : Numbers
   n = k.shape
 
-  abbrev place : ℕ
-  place = slice_index k.notice_at server
-
   abbrev Goes : NoticeStage → Type 0
   Goes stage = HearingGoesOn k.shape w s k stage server next sent carried done
 

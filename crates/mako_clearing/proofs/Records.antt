@@ -2,7 +2,6 @@
 use Rattle.std.proofs.Common.{◌≡◌, ℕ, ◌+◌, ◌-◌, ◌*◌, ◌<◌, ◌≤◌, ◌==◌, ◌&&◌, Bool, true, false, not, List, set, Some, sym}
 use Rattle.std.proofs.Common.{ap, subst, refl, ◌∙◌, arith, nat_lt}
 use Rattle.mako_words.specs.declared.name.Name.{Name}
-use Rattle.mako_words.specs.declared.entry_word.EntryWord.{EntryWord}
 use Rattle.mako_words.specs.declared.phase_word.PhaseWord.TheVariants.{Evac}
 use Rattle.mako_words.specs.Entries.{entry_at}
 use Rattle.mako_words.specs.Phases.{cycle_of}
@@ -226,9 +225,6 @@ module _ (n : Numbers) (w : Facts) (s : JointScene) (server cycle ended : ℕ) (
   module _ (region x : ℕ) (c : Stands (LoadingEntry region x)) where
     abbrev here_gate : GateFacet
     here_gate = shutter_at seat (has_drained t x)
-
-    abbrev found : EntryWord
-    found = entry_at (word_at n s.words (entry x))
 
     of_tablet : IsEntryOf n t x
     of_tablet = c.known.stage.1.entry_is

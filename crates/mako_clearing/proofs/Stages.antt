@@ -17,7 +17,7 @@ use Rattle.mako_evac.specs.declared.owner.Owner.{Owner}
 use Rattle.mako_evac.specs.declared.stage.EvacStage.{EvacStage}
 use Rattle.mako_evac.specs.Evacuating.{Evacuation, next_of, Fits, stage_fed, at_fed}
 use Rattle.mako_evac.proofs.Going.{step_known}
-use Rattle.mako_layout.specs.Evacuations.{Evacuation as Layout, Seat}
+use Rattle.mako_layout.specs.Evacuations.{Evacuation as Layout}
 use Rattle.mako_layout.specs.Frames.{IsElsewhere, IsNoGate}
 use Rattle.mako_layout.specs.Steps.Step.{outside}
 use Rattle.mako_layout.proofs.EachStep.{each_step_keeps}
@@ -67,10 +67,6 @@ module _ (n : Numbers) (w : Facts) (s : JointScene) (server cycle ended : ℕ) (
       pub known : server < n.servers
       known = server_known n w s j server (stage_ended cycle stage ended) laden (stage_phase cycle stage) works
           c.facets.phase
-
-      pub seat_is : Seat (layout_in n w s) (server_seat n server)
-          (shutter_at (server_seat n server) (stage_watch n stage)) (stage_work stage)
-      seat_is = record { gate = c.facets.gate; work = c.facets.work }
 
       -- ---- groups that a step leaves as they are
 

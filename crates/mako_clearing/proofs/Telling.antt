@@ -17,10 +17,8 @@ use Rattle.mako_evac.specs.Evacuating.{slot_at}
 use Rattle.mako_evac.specs.Freeing.{name_of}
 use Rattle.mako_evac.proofs.Bounds.{entry_within}
 use Rattle.mako_names.specs.Freeing.{own_entries}
-use Rattle.mako_names.specs.Going.{NamesHold}
 use Rattle.mako_ring.specs.Contents.{after_place}
 use Rattle.mako_phases.specs.Facets.{serving, freeing, resting}
-use Rattle.mako_phases.specs.Orders.{PhaseOrder}
 use Rattle.mako_phases.specs.Steps as phases
 use Rattle.mako_phases.proofs.AllPhases.{phase_kept}
 use Rattle.mako_joint.specs.Joints.{JointScene, phases_in, Joint}
@@ -28,7 +26,7 @@ use Rattle.mako_joint.proofs.EachKind.{polls_stay}
 use Rattle.mako_joint.proofs.Pauses.{gates_drain}
 use Rattle.mako_clearing.specs.ClearingFacets.{server_seat, place_of}
 use Rattle.mako_clearing.specs.Clearing.{ClearingStands, ClearingGoesOn}
-use Rattle.mako_clearing.proofs.Seated.{phase_is_evac, Owed, owner}
+use Rattle.mako_clearing.proofs.Seated.{phase_is_evac, owner}
 use Rattle.mako_clearing.proofs.Rings.{name_put, end_put}
 use Rattle.mako_clearing.proofs.Stages.{at_stage, Goes, loads, sends_none, known, finish, phase_stays, names_else}
 use Rattle.mako_clearing.proofs.Stages.{layout_else, index_in}
@@ -48,21 +46,8 @@ module _ (n : Numbers) (w : Facts) (s : JointScene) (server cycle ended : ℕ) (
   abbrev pub To : List ℕ → EvacStage → ℕ → List Name → Type 0
   To us stage at' sent' = Goes n w s server cycle ended laden taker us stage at' sent'
 
-  abbrev Owes : List ℕ → EvacStage → List Name → Type 0
-  Owes us stage sent' = Owed n w s server cycle ended laden us stage sent'
-
   abbrev pub seat : ℕ
   seat = server_seat n server
-
-  abbrev pub stays_freeing : List ℕ → Type 0
-  stays_freeing us = PhaseOrder n us (set s.facets.phases seat (serving server (freeing cycle) ended laden))
-
-  abbrev pub named : List ℕ → ℕ → List Name → Type 0
-  named us i sent' = NamesHold n w us s.front
-      (record s.facets.names {
-        through = set s.facets.names.through server i;
-        sent = set s.facets.names.sent server sent';
-      })
 
   -- ---- the notice slot is looked at
 

@@ -305,7 +305,3 @@ module _ (n : Numbers) (w : Facts) (s : JointScene) (j : Joint n w s) (m : ℕ) 
     unread = λ e. e;
     out = λ z. omega arith;
   })
-
-  -- the cycle of the phase is as it was
-  pub cycle_stays : cycle_of (phase_of n us) ≡ cycle_of (phase_of n s.words)
-  cycle_stays = ap cycle_of (phase_else n s.words name.entry (entry_word made_entry) within)

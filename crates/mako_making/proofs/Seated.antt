@@ -1,7 +1,6 @@
 -- What ties the groups, once the seat of a mutator has made a step.
 use Rattle.std.proofs.Common.{◌≡◌, ◌≢◌, ℕ, ◌+◌, ◌<◌, inl, inr, ⊎_elim, List, length, set, slice_get, Some, sym, ap}
 use Rattle.std.proofs.Common.{subst, refl, ◌∙◌, arith}
-use Rattle.std.proofs.lemmas.Option.{same_Some}
 use Rattle.mako_words.specs.declared.name.Name.{Name}
 use Rattle.mako_shape.specs.declared.numbers.Numbers.{Numbers}
 use Rattle.mako_shape.specs.Places.{Place, index, total, Within, word_at}
@@ -23,11 +22,11 @@ use Rattle.mako_layout.specs.Facets.{Work, Choice}
 use Rattle.mako_layout.specs.Evacuations.{Evacuation}
 use Rattle.mako_layout.specs.Beside as beside
 use Rattle.mako_layout.specs.Beside.{IsReading}
-use Rattle.mako_phases.specs.Facets.{PhaseFacet, mutating, serving, clearing, collecting, Admission, Part}
+use Rattle.mako_phases.specs.Facets.{PhaseFacet, mutating, collecting, Admission, Part}
 use Rattle.mako_phases.specs.Facets.{IsNotAdmitted}
 use Rattle.mako_phases.specs.Steps.{PhaseOrderIn}
 use Rattle.mako_joint.specs.Joints.{JointScene, names_in, trace_in, layout_in, polls_in, phases_in, TracksFit, HasName}
-use Rattle.mako_joint.specs.Joints.{ReadsAreHeld, IsClearing, GatesMatch, ChoiceMatches, Joint}
+use Rattle.mako_joint.specs.Joints.{ReadsAreHeld, GatesMatch, ChoiceMatches, Joint}
 use Rattle.mako_mutating.specs.Mutators.{IsSeen, View, with_view}
 
 -- ---- words that names, tracing and polls do not read
@@ -69,12 +68,6 @@ same_admission a b e = ap admission_in e
     admission_in : PhaseFacet → Admission
     admission_in (mutating c) = c
     admission_in f = a
-
-no_clearing : (a : Admission) (phases : List PhaseFacet) (m : ℕ) → slice_get phases m ≡ Some (mutating a)
-    → IsClearing phases m → ⊥
-no_clearing a phases m here c =
-    let e : mutating a ≡ serving c.server (clearing c.cycle c.tablet c.at) c.ended c.laden =
-    same_Some (mutating a) (serving c.server (clearing c.cycle c.tablet c.at) c.ended c.laden) (sym here ∙ c.is) in cc
 
 module _ (n : Numbers) (m : ℕ) (low : m < n.mutators) where
   -- other seats keep their names
