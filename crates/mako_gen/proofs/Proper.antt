@@ -114,28 +114,28 @@ within kind a b c =
     (either IsWithin _ _ _ num (either IsWithin _ _ _ shown (either IsWithin _ _ _ collected other_shown)))))))))
   where
     new : IsWithin (New (variable a) (b % 6))
-    new = record { is = (omega arith, omega arith); after = omega arith }
+    new = record { is = omega arith; after = omega arith }
 
     get : IsWithin (Get (variable a) (variable b) (c % 3))
-    get = record { is = (omega arith, omega arith, omega arith); after = omega arith }
+    get = record { is = omega arith; after = omega arith }
 
     put : IsWithin (Put (variable a) (b % 3) (variable c))
-    put = record { is = (omega arith, omega arith, omega arith); after = refl }
+    put = record { is = omega arith; after = refl }
 
     copied : IsWithin (CopyRoot (variable a) (variable b))
-    copied = record { is = (omega arith, omega arith); after = omega arith }
+    copied = record { is = omega arith; after = omega arith }
 
     dropped : IsWithin (DropRoot (variable a))
     dropped = record { is = omega arith; after = refl }
 
     board_put : IsWithin (Put 0 (a % 8) (variable b))
-    board_put = record { is = (omega arith, omega arith, omega arith); after = refl }
+    board_put = record { is = omega arith; after = refl }
 
     board_get : IsWithin (Get (variable a) 0 (b % 8))
-    board_get = record { is = (omega arith, omega arith, omega arith); after = omega arith }
+    board_get = record { is = omega arith; after = omega arith }
 
     num : IsWithin (Num (variable a) (b % 1000))
-    num = record { is = (omega arith, omega arith); after = omega arith }
+    num = record { is = omega arith; after = omega arith }
 
     shown : IsWithin (Show (variable a))
     shown = record { is = omega arith; after = refl }
@@ -154,17 +154,8 @@ calls_within g h (call ∷ calls) d =
 
 section_calls : (g h : Lcg) (calls : List Call) → AreDrawn g calls h → AreCalls 1 (first_calls ++ calls) 7
 section_calls g h calls d = (
-  (omega arith, omega arith),
-  (
-    (omega arith, omega arith),
-    (
-      (omega arith, omega arith),
-      (
-        (omega arith, omega arith),
-        ((omega arith, omega arith), ((omega arith, omega arith), calls_within g h calls d)),
-      ),
-    ),
-  ),
+  omega arith,
+  (omega arith, (omega arith, (omega arith, (omega arith, (omega arith, calls_within g h calls d))))),
 )
 
 pub is_program : (size : ℕ) (g h : Lcg) (p : ProgramView) → IsSection size g p h → IsProgram 8 p

@@ -31,16 +31,16 @@ defined_within d names (call ∷ calls) are =
 -- with so many names, which are at most as many as there are roots, a call has roots that there are
 call_fits : (n : Numbers) (d names : ℕ) (call : Call) → IsCall d call → defined_after d call ≤ names → names ≤ n.roots
     → CallFits n call
-call_fits n d names (New root fields) is grown few = (omega (arith, grown, few), is.1)
-call_fits n d names (Num root number) is grown few = (omega (arith, grown, few), is.1)
-call_fits n d names (CopyRoot to from) is grown few = let from_is = is.1 in
+call_fits n d names (New root fields) is grown few = (omega (arith, grown, few), is.1.0)
+call_fits n d names (Num root number) is grown few = (omega (arith, grown, few), omega (arith, is.1.0))
+call_fits n d names (CopyRoot to from) is grown few = let from_is = is.1.0 in
     (omega (arith, grown, few), omega (arith, from_is, grown, few))
-call_fits n d names (DropRoot root) is grown few = omega (arith, is, grown, few)
-call_fits n d names (Get to from field) is grown few = let from_is = is.1 in
+call_fits n d names (DropRoot root) is grown few = omega (arith, is.0, grown, few)
+call_fits n d names (Get to from field) is grown few = let from_is = is.1.0 in
     (omega (arith, grown, few), omega (arith, from_is, grown, few))
-call_fits n d names (Put to field from) is grown few = let to_is = is.0 in let from_is = is.2 in
+call_fits n d names (Put to field from) is grown few = let to_is = is.0 in let from_is = is.1.1.0 in
     (omega (arith, to_is, grown, few), omega (arith, from_is, grown, few))
-call_fits n d names (Show root) is grown few = omega (arith, is, grown, few)
+call_fits n d names (Show root) is grown few = omega (arith, is.0, grown, few)
 call_fits n d names Collect is grown few = tt
 
 calls_fit : (n : Numbers) (d names : ℕ) (calls : List Call) → AreCalls d calls names → names ≤ n.roots

@@ -16,18 +16,18 @@ use Rattle.std.proofs.lemmas.List.Splits.{slice_split_none, slice_split_at}
 use Rattle.std.proofs.lemmas.Fmt.{digits_decimal}
 use Rattle.mako_model.specs.declared.call.Call.{Call}
 use Rattle.mako_model.specs.declared.call.Call.TheVariants as calls
-use Rattle.mako_reader.specs.declared.command.Command.{Command}
-use Rattle.mako_reader.specs.declared.command.Command.TheVariants.{New, Num, Copy, Drop, Get, Put, Show, Collect}
-use Rattle.mako_reader.specs.declared.command.Argument.TheVariants.{Defined, Read}
+use Rattle.mako_text.specs.declared.command.Command.{Command}
+use Rattle.mako_text.specs.declared.command.Command.TheVariants.{New, Num, Copy, Drop, Get, Put, Show, Collect}
+use Rattle.mako_text.specs.declared.command.Argument.TheVariants.{Defined, Read}
 use Rattle.mako_text.specs.Names.{is_name, is_letter_or_digit, name_of, AreNames, board_name}
 use Rattle.mako_text.specs.Programs.{ProgramView, IsCall, defined_after, AreCalls, IsProgram}
 use Rattle.mako_text.specs.Texts.{command_words, end_word, mutator_word, section_lines, line_text, script_lines}
-use Rattle.mako_text.specs.Texts.{script_text}
-use Rattle.mako_text.specs.Printed.{values_of, setting_lines}
+use Rattle.mako_text.specs.Texts.{script_text, setting_values}
+use Rattle.mako_text.specs.Printed.{setting_lines}
 use Rattle.mako_text.specs.Scripts.{ScriptView, IsProper}
 use Rattle.mako_text.specs.Keys.{keys}
-use Rattle.mako_reader.specs.Commands.{AreValuesOf, DefinesFirst, IsCommandLine, IsValueOf, call_of, defines, kinds_of}
-use Rattle.mako_reader.specs.Commands.{place_at, word_of}
+use Rattle.mako_text.specs.Commands.{call_of, defines, kinds_of, word_of}
+use Rattle.mako_reader.specs.Commands.{AreValuesOf, DefinesFirst, IsCommandLine, IsValueOf, place_at}
 use Rattle.mako_reader.specs.Parts.{lines_from}
 use Rattle.mako_reader.specs.Words.{IsWithin, lines_of, words_of}
 use Rattle.mako_reader.proofs.Digits.{own}
@@ -215,44 +215,41 @@ module _ (final : List (List ℕ)) (are : AreNames final) (roots : ℕ) (few : l
       → IsCommandLine roots (take k final) (command_words final call) (call, take (defined_after k call) final)
   command_again k (calls.New r n) within fits after =
       command_by roots (take k final) _ _ New (r ∷ n ∷
-      []) (defined_again final are k within r fits.0 (omega arith), (number_arg 14 n fits.1 (omega arith), tt))
+      []) (defined_again final are k within r fits.0 (omega arith), (number_arg 14 n fits.1.0 (omega arith), tt))
       (define_again final are k within roots r (decimal n ∷ []) few fits.0 (omega arith))
   command_again k (calls.Num r n) within fits after =
       command_by roots (take k final) _ _ Num (r ∷ n ∷
       []) (
         defined_again final are k within r fits.0 (omega arith),
-        (number_arg 4294967295 n (omega (arith, fits.1)) (omega arith), tt),
+        (number_arg 4294967295 n fits.1.0 (omega arith), tt),
       )
       (define_again final are k within roots r (decimal n ∷ []) few fits.0 (omega arith))
   command_again k (calls.CopyRoot r n) within fits after =
       command_by roots (take k final) _ _ Copy (r ∷ n ∷
-      []) (defined_again final are k within r fits.0 (omega arith), (reads_again final are k within n fits.1, tt))
+      []) (defined_again final are k within r fits.0 (omega arith), (reads_again final are k within n fits.1.0, tt))
       (define_again final are k within roots r (name_of final n ∷ []) few fits.0 (omega arith))
   command_again k (calls.DropRoot r) within fits after =
-      command_by roots (take k final) _ _ Drop (r ∷ []) (reads_again final are k within r fits, tt) refl
+      command_by roots (take k final) _ _ Drop (r ∷ []) (reads_again final are k within r fits.0, tt) refl
   command_again k (calls.Get r n i) within fits after =
       command_by roots (take k final) _ _ Get (r ∷ n ∷ i ∷
       []) (
         defined_again final are k within r fits.0 (omega arith),
-        (reads_again final are k within n fits.1, (number_arg 13 i fits.2 (omega arith), tt)),
+        (reads_again final are k within n fits.1.0, (number_arg 13 i fits.1.1.0 (omega arith), tt)),
       )
       (define_again final are k within roots r (name_of final n ∷ decimal i ∷ []) few fits.0 (omega arith))
   command_again k (calls.Put r i n) within fits after =
       command_by roots (take k final) _ _ Put (r ∷ i ∷ n ∷
       []) (
         reads_again final are k within r fits.0,
-        (number_arg 13 i fits.1 (omega arith), (reads_again final are k within n fits.2, tt)),
+        (number_arg 13 i fits.1.0 (omega arith), (reads_again final are k within n fits.1.1.0, tt)),
       ) refl
   command_again k (calls.Show r) within fits after =
-      command_by roots (take k final) _ _ Show (r ∷ []) (reads_again final are k within r fits, tt) refl
+      command_by roots (take k final) _ _ Show (r ∷ []) (reads_again final are k within r fits.0, tt) refl
   command_again k calls.Collect within fits after = command_by roots (take k final) [] _ Collect [] tt refl
 
 -- ---- sections
 
 -- the words of a command are words
-number_words : (n : ℕ) → n ≤ 14 → IsWord (decimal n)
-number_words n h = decimal_word n (omega arith)
-
 module _ (final : List (List ℕ)) (are : AreNames final) where
   root_word : (r : ℕ) → r < length final → IsWord (name_of final r)
   root_word r below = name_word (name_of final r) (are.spelled r below)
@@ -260,26 +257,29 @@ module _ (final : List (List ℕ)) (are : AreNames final) where
   pub command_is_words : (k : ℕ) (call : Call) → k ≤ length final → IsCall k call → defined_after k call ≤ length final
       → AllByRecursion IsWord (command_words final call)
   command_is_words k (calls.New r n) within fits after =
-      (letters_word (codes "new") refl, (root_word r (omega arith), (number_words n fits.1, tt)))
+      (letters_word (codes "new") refl, (root_word r (omega arith), (decimal_word n (omega (arith, fits.1.0)), tt)))
   command_is_words k (calls.Num r n) within fits after =
-      (letters_word (codes "num") refl, (root_word r (omega arith), (decimal_word n fits.1, tt)))
+      (letters_word (codes "num") refl, (root_word r (omega arith), (decimal_word n (omega (arith, fits.1.0)), tt)))
   command_is_words k (calls.CopyRoot r n) within fits after =
-      (letters_word (codes "copy") refl, (root_word r (omega arith), (root_word n (omega (arith, fits.1)), tt)))
+      (letters_word (codes "copy") refl, (root_word r (omega arith), (root_word n (omega (arith, fits.1.0)), tt)))
   command_is_words k (calls.DropRoot r) within fits after =
-      (letters_word (codes "drop") refl, (root_word r (omega arith), tt))
+      (letters_word (codes "drop") refl, (root_word r (omega (arith, fits.0)), tt))
   command_is_words k (calls.Get r n i) within fits after = (
     letters_word (codes "get") refl,
-    (root_word r (omega arith), (root_word n (omega (arith, fits.1)), (number_words i (omega (arith, fits.2)), tt))),
+    (
+      root_word r (omega arith),
+      (root_word n (omega (arith, fits.1.0)), (decimal_word i (omega (arith, fits.1.1.0)), tt)),
+    ),
   )
   command_is_words k (calls.Put r i n) within fits after = (
     letters_word (codes "put") refl,
     (
       root_word r (omega (arith, fits.0)),
-      (number_words i (omega (arith, fits.1)), (root_word n (omega (arith, fits.2)), tt)),
+      (decimal_word i (omega (arith, fits.1.0)), (root_word n (omega (arith, fits.1.1.0)), tt)),
     ),
   )
   command_is_words k (calls.Show r) within fits after =
-      (letters_word (codes "show") refl, (root_word r (omega arith), tt))
+      (letters_word (codes "show") refl, (root_word r (omega (arith, fits.0)), tt))
   command_is_words k calls.Collect within fits after = (letters_word (codes "collect") refl, tt)
 
 -- no command's line is the end of a section
@@ -329,7 +329,7 @@ settings_words (key ∷ table) (v ∷ vs) keyed h = let k = key_is key table key
 -- ---- scripts
 
 -- the numbers of a script's settings
-pub in_ranges : (s : ScriptView) → IsProper s → InRanges keys (values_of s)
+pub in_ranges : (s : ScriptView) → IsProper s → InRanges keys (setting_values s)
 in_ranges s proper =
     let e2 = proper.shape.in_range.each.2 in
     let e3 = e2.2 in
@@ -340,7 +340,7 @@ in_ranges s proper =
     let e8 = e7.2 in
     let e9 = e8.2 in
     let e10 = e9.2 in
-    let half : InRanges (drop 7 keys) (drop 7 (values_of s)) =
+    let half : InRanges (drop 7 keys) (drop 7 (setting_values s)) =
     (e8.0, e8.1, (e9.0, e9.1, (e10.0, e10.1, (proper.board_low, proper.board_high, tt)))) in
     (omega arith, omega arith, (e2.0, e2.1, (e3.0, e3.1, (e4.0, e4.1, (e5.0, e5.1, (e6.0, e6.1, (e7.0, e7.1, half)))))))
 
@@ -370,8 +370,8 @@ sections_words roots (p ∷ ps) h =
 
 pub script_words : (s : ScriptView) → IsProper s → AllByRecursion (AllByRecursion IsWord) (script_lines s)
 script_words s proper =
-    all-append (AllByRecursion IsWord) (setting_lines keys (values_of s)) (flat_map section_lines s.programs)
-    (settings_words keys (values_of s) refl (in_ranges s proper))
+    all-append (AllByRecursion IsWord) (setting_lines keys (setting_values s)) (flat_map section_lines s.programs)
+    (settings_words keys (setting_values s) refl (in_ranges s proper))
     (sections_words s.numbers.roots s.programs proper.programs)
 
 -- each line of a script's text is printable

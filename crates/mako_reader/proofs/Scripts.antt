@@ -5,10 +5,11 @@ use Rattle.std.specs.List.{join_with_byte, flat_map}
 use Rattle.std.proofs.lemmas.List.{append-nil, length-append}
 use Rattle.std.proofs.lemmas.List.Splits.{join_with_byte-slice_split}
 use Rattle.mako_text.specs.Keys.{keys}
-use Rattle.mako_text.specs.Printed.{setting_lines, values_of}
+use Rattle.mako_text.specs.Printed.{setting_lines}
 use Rattle.mako_text.specs.Programs.{ProgramView}
 use Rattle.mako_text.specs.Scripts.{ScriptView, IsProper, command_count}
 use Rattle.mako_text.specs.Texts.{IsScript, line_text, script_lines, script_text, section_lines}
+use Rattle.mako_text.specs.Texts.{setting_values}
 use Rattle.mako_reader.specs.Finds.{ReadsEach}
 use Rattle.mako_shape.specs.Limits.{IsShape}
 use Rattle.mako_reader.specs.Parts.{AreProper, AreSections, AreValues, IsSetting, lines_from, numbers_in, script_of}
@@ -58,21 +59,22 @@ proper_from v ps values programs shape = record {
 -- the settings and the programs of a script's text
 pub record HasParts (text : List ℕ) (s : ScriptView) : Type 0 where
   pub left : List (List ℕ)
-  pub header : ReadsEach IsSetting keys (lines_of text) (values_of s, left)
+  pub header : ReadsEach IsSetting keys (lines_of text) (setting_values s, left)
   pub sections : AreSections s.numbers.roots left s.programs
 
 pub parts_of : (text : List ℕ) (s : ScriptView) → IsScript text s → HasParts text s
 unfolding script_text
 parts_of text s is =
     let sections = flat_map section_lines s.programs in
-    let lines : lines_of text ≡ lines_from (setting_lines keys (values_of s)) ++ (lines_from sections ++ [] ∷ []) =
+    let lines : lines_of text ≡ lines_from (setting_lines keys (setting_values s)) ++ (lines_from sections ++ [] ∷ []) =
     ap lines_of is.spelled ∙ lines_again (script_lines s) (script_words s is.proper)
-    ∙ lines_more (setting_lines keys (values_of s)) sections ([] ∷ []) in
+    ∙ lines_more (setting_lines keys (setting_values s)) sections ([] ∷ []) in
     record {
       left = lines_from sections ++ [] ∷ [];
-      header = subst (λ (ls : List (List ℕ)). ReadsEach IsSetting keys ls (values_of s, lines_from sections ++ [] ∷ []))
+      header = subst
+          (λ (ls : List (List ℕ)). ReadsEach IsSetting keys ls (setting_values s, lines_from sections ++ [] ∷ []))
           (sym lines)
-          (header_from keys (values_of s) (lines_from sections ++ [] ∷
+          (header_from keys (setting_values s) (lines_from sections ++ [] ∷
           []) (omega (arith, length-append (lines_from sections) ([] ∷ []))) refl (in_ranges s is.proper));
       sections = record {
         spelled = refl;
@@ -83,7 +85,7 @@ parts_of text s is =
     }
 
 -- a script is made of the numbers of its settings and its programs
-pub made_again : (s : ScriptView) → IsProper s → s ≡ script_of (values_of s) s.programs
+pub made_again : (s : ScriptView) → IsProper s → s ≡ script_of (setting_values s) s.programs
 made_again s proper = ap (λ (n : ℕ). record s { numbers = record s.numbers { mutators = n } }) proper.mutators
 
 same_sections : (roots : ℕ) (lines : List (List ℕ)) (ps qs : List ProgramView) → AreSections roots lines ps
@@ -104,14 +106,14 @@ same_sections roots lines ps qs one two = by t.rest t.programs_are t.spelled
 -- the settings and the programs of a script's text are those that were read
 pub its_settings : (text : List ℕ) (s : ScriptView) → IsScript text s → (read : List ℕ × List (List ℕ))
     × ReadsEach IsSetting keys (lines_of text) read
-its_settings text s is = let parts = parts_of text s is in ((values_of s, parts.left), parts.header)
+its_settings text s is = let parts = parts_of text s is in ((setting_values s, parts.left), parts.header)
 
 pub its_programs : (text vs : List ℕ) (left : List (List ℕ)) → ReadsEach IsSetting keys (lines_of text) (vs, left)
     → (s : ScriptView) → IsScript text s
     → (ps : List ProgramView) × AreSections (get_or vs 7 0) left ps × (s ≡ script_of vs ps)
 its_programs text vs left header s is =
     let parts = parts_of text s is in
-    let same = same_each IsSetting same_setting keys (lines_of text) (values_of s, parts.left)
+    let same = same_each IsSetting same_setting keys (lines_of text) (setting_values s, parts.left)
     (vs, left) parts.header header in (
       s.programs,
       subst (λ (x : List ℕ × List (List ℕ)). AreSections (get_or x.0 7 0) x.1 s.programs) same parts.sections,
@@ -132,6 +134,6 @@ no_script text vs left ps header sections none s is =
 pub same_script : (text : List ℕ) (s t : ScriptView) → IsScript text s → IsScript text t → s ≡ t
 same_script text s t one two =
     let parts = parts_of text t two in
-    let programs = its_programs text (values_of t) parts.left parts.header s one in
+    let programs = its_programs text (setting_values t) parts.left parts.header s one in
     let same = same_sections t.numbers.roots parts.left programs.0 t.programs programs.1 parts.sections in
-    programs.2 ∙ ap (script_of (values_of t)) same ∙ sym (made_again t two.proper)
+    programs.2 ∙ ap (script_of (setting_values t)) same ∙ sym (made_again t two.proper)

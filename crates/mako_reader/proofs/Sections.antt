@@ -11,12 +11,12 @@ use Rattle.mako_model.specs.declared.call.Call.{Call}
 use Rattle.mako_text.specs.Names.{AreNames, board_name, is_name, name_of}
 use Rattle.mako_text.specs.Programs.{ProgramView, IsCall, AreCalls, IsProgram, defined_after}
 use Rattle.mako_text.specs.Scripts.{command_count}
-use Rattle.mako_text.specs.Texts.{argument_words, command_word, command_words, end_word, mutator_word, section_lines}
-use Rattle.mako_reader.specs.Commands.{AreValuesOf, DefinesFirst, IsCommandLine, IsStep, call_of, defines, kinds_of}
-use Rattle.mako_reader.specs.Commands.{word_of}
+use Rattle.mako_text.specs.Texts.{argument_words, command_words, end_word, mutator_word, section_lines}
+use Rattle.mako_text.specs.Commands.{call_of, command_of, defines, kinds_of, word_of}
+use Rattle.mako_reader.specs.Commands.{AreValuesOf, DefinesFirst, IsCommandLine, IsStep}
 use Rattle.mako_reader.specs.Parts.{AreSections, IsBody, IsSection, body_lines, lines_from}
 use Rattle.mako_reader.specs.Words.{IsFirstLine, words_of}
-use Rattle.mako_reader.specs.declared.command.Command.{Command}
+use Rattle.mako_text.specs.declared.command.Command.{Command}
 use Rattle.mako_reader.proofs.Again.{all-append, at_most, command_again, command_is_words, first_name, not_end}
 use Rattle.mako_reader.proofs.Again.{words_again}
 use Rattle.mako_reader.proofs.Spelled.{command_takes, line_is}
@@ -164,9 +164,9 @@ module _ (roots : ℕ) (xs ys : List (List ℕ)) (are : AreNames xs) (too : AreN
       → join_with_byte 32 (command_words xs c) ≡ join_with_byte 32 (command_words ys d) → (c ≡ d)
       × (take (defined_after k c) xs ≡ take (defined_after k d) ys)
   same_call k c d inx iny same fits_c fits_d after_c after_d line =
-      let words_c = words_again (command_word c) (argument_words xs c)
+      let words_c = words_again (word_of (command_of c)) (argument_words xs c)
       (command_is_words xs are k c inx fits_c after_c) in
-      let words_d = words_again (command_word d) (argument_words ys d)
+      let words_d = words_again (word_of (command_of d)) (argument_words ys d)
       (command_is_words ys too k d iny fits_d after_d) in
       let words : command_words ys d ≡ command_words xs c = sym words_d ∙ ap words_of (sym line) ∙ words_c in
       let one = command_again xs are roots few k c inx fits_c after_c in
@@ -270,7 +270,7 @@ its_step roots count start names calls lines so_far p body = by t.rest t.spelled
     by (c ∷ rest) spelled fits =
         let final = p.0.names in
         let after = at_most (defined_after (length names) c) rest (length final) fits.1 in
-        let words = words_again (command_word c) (argument_words final c)
+        let words = words_again (word_of (command_of c)) (argument_words final c)
         (command_is_words final body.program.names (length names) c t.within fits.0 after) in
         let next = take (defined_after (length names) c) final in
         let read = command_again final body.program.names roots body.program.few

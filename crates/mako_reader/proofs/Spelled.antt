@@ -8,14 +8,14 @@ use Rattle.std.proofs.lemmas.List.{get_or_append_left, get_or_push, length_push,
 use Rattle.std.proofs.lemmas.List.Splits.{join_with_byte-slice_split}
 use Rattle.mako_model.specs.declared.call.Call.{Call}
 use Rattle.mako_model.specs.declared.call.Call.TheVariants as calls
-use Rattle.mako_reader.specs.declared.command.Command.{Command}
-use Rattle.mako_reader.specs.declared.command.Command.TheVariants.{New, Num, Copy, Drop, Get, Put, Show, Collect}
-use Rattle.mako_reader.specs.declared.command.Argument.TheVariants.{Defined, Read}
+use Rattle.mako_text.specs.declared.command.Command.{Command}
+use Rattle.mako_text.specs.declared.command.Command.TheVariants.{New, Num, Copy, Drop, Get, Put, Show, Collect}
+use Rattle.mako_text.specs.declared.command.Argument.TheVariants.{Defined, Read}
 use Rattle.mako_text.specs.Names.{is_name, name_of, AreNames}
 use Rattle.mako_text.specs.Programs.{IsCall, defined_after}
 use Rattle.mako_text.specs.Texts.{command_words}
-use Rattle.mako_reader.specs.Commands.{AreValuesOf, Defines, DefinesFirst, IsCommandLine, IsValueOf, call_of, defines}
-use Rattle.mako_reader.specs.Commands.{kinds_of, place_at, word_of}
+use Rattle.mako_text.specs.Commands.{call_of, defines, kinds_of, word_of}
+use Rattle.mako_reader.specs.Commands.{AreValuesOf, Defines, DefinesFirst, IsCommandLine, IsValueOf, place_at}
 use Rattle.mako_reader.specs.Words.{words_of}
 use Rattle.mako_reader.proofs.Values.{counts}
 use Rattle.mako_reader.proofs.NameLists.{place_none, place_takes}
@@ -155,30 +155,32 @@ module _ (roots : ℕ) (names : List (List ℕ)) (are : AreNames names) (few : l
       → TakesCall roots names (word_of command ∷ words) (call_of command vs) after
   by_command New (w ∷ x ∷ []) (v ∷ n ∷ []) after h e =
       let d = defined_first roots names w (x ∷ []) after v are few h.0 e in
-      defining w v after _ (calls.New v n) d (λ more named. rw (named, h.1.0.0.0) refl) (d.low, h.1.0.2) refl
+      defining w v after _ (calls.New v n) d (λ more named. rw (named, h.1.0.0.0) refl) (d.low, (h.1.0.2, tt)) refl
   by_command Num (w ∷ x ∷ []) (v ∷ n ∷ []) after h e =
       let d = defined_first roots names w (x ∷ []) after v are few h.0 e in
       defining w v after _ (calls.Num v n) d (λ more named. rw (named, h.1.0.0.0) refl)
-      (d.low, omega (arith, h.1.0.2)) refl
+      (d.low, (h.1.0.2, tt)) refl
   by_command Copy (w ∷ x ∷ []) (v ∷ n ∷ []) after h e =
       let d = defined_first roots names w (x ∷ []) after v are few h.0 e in
       defining w v after _ (calls.CopyRoot v n) d
       (λ more named. (let read = ap (λ (ns : List (List ℕ)). name_of (ns ++ more) n) d.front
-      ∙ read_along names d.rest more x n h.1.0 in rw (named, read) refl)) (d.low, below names x n h.1.0) refl
+      ∙ read_along names d.rest more x n h.1.0 in rw (named, read) refl)) (d.low, (below names x n h.1.0, tt)) refl
   by_command Drop (w ∷ []) (v ∷ []) after h e =
-      plain after _ (calls.DropRoot v) e (λ more. rw (read_along names [] more w v h.0) refl) (below names w v h.0) refl
+      plain after _ (calls.DropRoot v) e (λ more. rw (read_along names [] more w v h.0) refl)
+      (below names w v h.0, tt) refl
   by_command Get (w ∷ x ∷ y ∷ []) (v ∷ n ∷ k ∷ []) after h e =
       let d = defined_first roots names w (x ∷ y ∷ []) after v are few h.0 e in
       defining w v after _ (calls.Get v n k) d
       (λ more named. (let read = ap (λ (ns : List (List ℕ)). name_of (ns ++ more) n) d.front
       ∙ read_along names d.rest more x n h.1.0 in rw (named, read, h.1.1.0.0.0) refl))
-      (d.low, below names x n h.1.0, h.1.1.0.2) refl
+      (d.low, (below names x n h.1.0, (h.1.1.0.2, tt))) refl
   by_command Put (w ∷ x ∷ y ∷ []) (v ∷ n ∷ k ∷ []) after h e =
       plain after _ (calls.Put v n k) e
       (λ more. rw (read_along names [] more w v h.0, read_along names [] more y k h.1.1.0, h.1.0.0.0) refl)
-      (below names w v h.0, h.1.0.2, below names y k h.1.1.0) refl
+      (below names w v h.0, (h.1.0.2, (below names y k h.1.1.0, tt))) refl
   by_command Show (w ∷ []) (v ∷ []) after h e =
-      plain after _ (calls.Show v) e (λ more. rw (read_along names [] more w v h.0) refl) (below names w v h.0) refl
+      plain after _ (calls.Show v) e (λ more. rw (read_along names [] more w v h.0) refl)
+      (below names w v h.0, tt) refl
   by_command Collect [] [] after h e = plain after _ calls.Collect e (λ more. refl) tt refl
   by_command command words vs after h e = let n = counts names (kinds_of command) words vs h in
       absurd (omega (arith, n.0, n.1))

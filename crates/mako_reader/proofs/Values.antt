@@ -5,12 +5,12 @@ use Rattle.std.specs.Prelude.{Err, Result, slice_index}
 use Rattle.std.specs.Result.{IsErrAnd}
 use Rattle.std.proofs.lemmas.Result.{err_from_is_err_and}
 use Rattle.mako_model.specs.declared.call.Call.{Call}
-use Rattle.mako_reader.specs.declared.command.Command.{Command}
-use Rattle.mako_reader.specs.declared.command.Command.TheVariants.{New, Num, Copy, Drop, Get, Put, Show, Collect}
-use Rattle.mako_reader.specs.declared.command.Argument.{Argument}
-use Rattle.mako_reader.specs.declared.command.Argument.TheVariants.{Defined, Read, Fields, Index, Number}
-use Rattle.mako_reader.specs.Commands.{AreValuesOf, DefinesFirst, FitCall, IsCommandLine, IsValueOf, ReadsWord, defines}
-use Rattle.mako_reader.specs.Commands.{kinds_of, word_of}
+use Rattle.mako_text.specs.declared.command.Command.{Command}
+use Rattle.mako_text.specs.declared.command.Command.TheVariants.{New, Num, Copy, Drop, Get, Put, Show, Collect}
+use Rattle.mako_text.specs.declared.command.Argument.{Argument}
+use Rattle.mako_text.specs.declared.command.Argument.TheVariants.{Defined, Read, Number}
+use Rattle.mako_text.specs.Commands.{FitCall, defines, kinds_of, word_of}
+use Rattle.mako_reader.specs.Commands.{AreValuesOf, DefinesFirst, IsCommandLine, IsValueOf, ReadsWord}
 use Rattle.mako_reader.specs.Finds.{Finds, ReadsEach, Refused}
 use Rattle.mako_reader.specs.Words.{IsFirstWord}
 use Rattle.mako_reader.proofs.Lists.{same_each}
@@ -44,7 +44,7 @@ same_value : (names : List (List ℕ)) (kind : Argument) (word : List ℕ) (v w 
     → IsValueOf names kind word w → v ≡ w
 same_value names Defined word v w one two = one.1 ∙ sym two.1
 same_value names Read word v w one two = some_is v w (sym one.1 ∙ two.1)
-same_value names _ word v w one two = same_number word v w one.0 two.0
+same_value names (Number greatest) word v w one two = same_number word v w one.0 two.0
 
 pub same_word : (names : List (List ℕ)) (kind : Argument) (words : List (List ℕ)) (x y : ℕ × List (List ℕ))
     → ReadsWord names kind words x → ReadsWord names kind words y → x ≡ y
@@ -123,39 +123,40 @@ line_parts roots names words word behind command read split named line =
           (subst (λ (ws : List (List ℕ)). DefinesFirst (defines line.command) roots names ws read.1) rest line.next),
     )
 
-abbrev is_byte : Argument → Bool
-is_byte Number = false
-is_byte _ = true
+-- a value other than a number, or of a number that is small, is a byte
+abbrev IsSmall : Argument → Type 0
+IsSmall Defined = Unit {0}
+IsSmall Read = Unit {0}
+IsSmall (Number greatest) = greatest < 256
 
-value_fits : (names : List (List ℕ)) (kind : Argument) (word : List ℕ) (v : ℕ) → length names < 256
-    → is_byte kind ≡ true → IsValueOf names kind word v → v < 256
-value_fits names Number word v few byte h = absurd cc
-value_fits names Defined word v few byte h = omega (arith, h.1, place_below names word)
-value_fits names Read word v few byte h = omega (arith, (place_takes names word v h.1).0)
-value_fits names _ word v few byte h = omega (arith, h.2)
+value_fits : (names : List (List ℕ)) (kind : Argument) (word : List ℕ) (v : ℕ) → length names < 256 → IsSmall kind
+    → IsValueOf names kind word v → v < 256
+value_fits names Defined word v few small h = omega (arith, h.1, place_below names word)
+value_fits names Read word v few small h = omega (arith, (place_takes names word v h.1).0)
+value_fits names (Number greatest) word v few small h = omega (arith, h.2)
 
 -- the values of a command's arguments are enough for its call
 pub arguments_fit : (command : Command) (names words : List (List ℕ)) (vs : List ℕ)
     → AreValuesOf names (kinds_of command) words vs → length names < 256 → FitCall command vs
 arguments_fit New names (w ∷ x ∷ []) (v ∷ n ∷ []) h few =
-    (refl, value_fits names Defined w v few refl h.0, value_fits names Fields x n few refl h.1.0)
-arguments_fit Num names (w ∷ x ∷ []) (v ∷ n ∷ []) h few = (refl, value_fits names Defined w v few refl h.0)
+    (refl, value_fits names Defined w v few tt h.0, value_fits names (Number 14) x n few (omega arith) h.1.0)
+arguments_fit Num names (w ∷ x ∷ []) (v ∷ n ∷ []) h few = (refl, value_fits names Defined w v few tt h.0)
 arguments_fit Copy names (w ∷ x ∷ []) (v ∷ n ∷ []) h few =
-    (refl, value_fits names Defined w v few refl h.0, value_fits names Read x n few refl h.1.0)
-arguments_fit Drop names (w ∷ []) (v ∷ []) h few = (refl, value_fits names Read w v few refl h.0)
+    (refl, value_fits names Defined w v few tt h.0, value_fits names Read x n few tt h.1.0)
+arguments_fit Drop names (w ∷ []) (v ∷ []) h few = (refl, value_fits names Read w v few tt h.0)
 arguments_fit Get names (w ∷ x ∷ y ∷ []) (v ∷ n ∷ k ∷ []) h few = (
   refl,
-  value_fits names Defined w v few refl h.0,
-  value_fits names Read x n few refl h.1.0,
-  value_fits names Index y k few refl h.1.1.0,
+  value_fits names Defined w v few tt h.0,
+  value_fits names Read x n few tt h.1.0,
+  value_fits names (Number 13) y k few (omega arith) h.1.1.0,
 )
 arguments_fit Put names (w ∷ x ∷ y ∷ []) (v ∷ n ∷ k ∷ []) h few = (
   refl,
-  value_fits names Read w v few refl h.0,
-  value_fits names Index x n few refl h.1.0,
-  value_fits names Read y k few refl h.1.1.0,
+  value_fits names Read w v few tt h.0,
+  value_fits names (Number 13) x n few (omega arith) h.1.0,
+  value_fits names Read y k few tt h.1.1.0,
 )
-arguments_fit Show names (w ∷ []) (v ∷ []) h few = (refl, value_fits names Read w v few refl h.0)
+arguments_fit Show names (w ∷ []) (v ∷ []) h few = (refl, value_fits names Read w v few tt h.0)
 arguments_fit Collect names words vs h few = tt
 arguments_fit command names words vs h few = let n = counts names (kinds_of command) words vs h in
     absurd (omega (arith, n.0, n.1))

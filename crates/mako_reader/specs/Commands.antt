@@ -1,71 +1,15 @@
--- The commands of scripts: the one table of their words, their arguments and their calls, and their lines.
-use Rattle.std.specs.Prelude.{◌≡◌, ◌≢◌, ℕ, ◌<◌, ◌⊎◌, Bool, true, false, List, [], ◌∷◌, ◌++◌, length, slice_index}
-use Rattle.std.specs.Prelude.{position, unwrap_or, Option, Some, None, codes}
+-- The lines of commands.
+use Rattle.std.specs.Prelude.{◌≡◌, ◌≢◌, ℕ, ◌<◌, ◌⊎◌, Bool, true, false, List, [], ◌∷◌, ◌++◌, length, position}
+use Rattle.std.specs.Prelude.{unwrap_or, Option, Some, None}
 use Rattle.std.specs.Str.{bytes_eq}
 use Rattle.mako_model.specs.declared.call.Call.{Call}
-use Rattle.mako_model.specs.declared.call.Call.TheVariants as calls
-use Rattle.mako_reader.specs.declared.command.Command.{Command}
-use Rattle.mako_reader.specs.declared.command.Command.TheVariants.{New, Num, Copy, Drop, Get, Put, Show, Collect}
-use Rattle.mako_reader.specs.declared.command.Argument.{Argument}
-use Rattle.mako_reader.specs.declared.command.Argument.TheVariants.{Defined, Read, Fields, Index, Number}
+use Rattle.mako_text.specs.declared.command.Command.{Command}
+use Rattle.mako_text.specs.declared.command.Argument.{Argument}
+use Rattle.mako_text.specs.declared.command.Argument.TheVariants.{Defined, Read, Number}
 use Rattle.mako_reader.specs.Words.{IsWithin, words_of}
+use Rattle.mako_text.specs.Commands.{call_of, defines, kinds_of, word_of}
 use Rattle.mako_text.specs.Names.{is_name}
 use Rattle.mako_text.specs.Texts.{end_word}
-
--- ---- the table
-
-abbrev pub word_of : Command → List ℕ
-word_of New = codes "new"
-word_of Num = codes "num"
-word_of Copy = codes "copy"
-word_of Drop = codes "drop"
-word_of Get = codes "get"
-word_of Put = codes "put"
-word_of Show = codes "show"
-word_of Collect = codes "collect"
-
-abbrev pub kinds_of : Command → List Argument
-kinds_of New = Defined ∷ Fields ∷ []
-kinds_of Num = Defined ∷ Number ∷ []
-kinds_of Copy = Defined ∷ Read ∷ []
-kinds_of Drop = Read ∷ []
-kinds_of Get = Defined ∷ Read ∷ Index ∷ []
-kinds_of Put = Read ∷ Index ∷ Read ∷ []
-kinds_of Show = Read ∷ []
-kinds_of Collect = []
-
-abbrev pub defines : Command → Bool
-defines New = true
-defines Num = true
-defines Copy = true
-defines Drop = false
-defines Get = true
-defines Put = false
-defines Show = false
-defines Collect = false
-
-abbrev pub call_of : Command → List ℕ → Call
-call_of New v = calls.New (slice_index v 0) (slice_index v 1)
-call_of Num v = calls.Num (slice_index v 0) (slice_index v 1)
-call_of Copy v = calls.CopyRoot (slice_index v 0) (slice_index v 1)
-call_of Drop v = calls.DropRoot (slice_index v 0)
-call_of Get v = calls.Get (slice_index v 0) (slice_index v 1) (slice_index v 2)
-call_of Put v = calls.Put (slice_index v 0) (slice_index v 1) (slice_index v 2)
-call_of Show v = calls.Show (slice_index v 0)
-call_of Collect v = calls.Collect
-
--- the values are enough for the call, and those of roots, fields and indexes are bytes
-abbrev pub FitCall : Command → List ℕ → Type 0
-FitCall New v = (length v ≡ 2) × (slice_index v 0 < 256) × (slice_index v 1 < 256)
-FitCall Num v = (length v ≡ 2) × (slice_index v 0 < 256)
-FitCall Copy v = (length v ≡ 2) × (slice_index v 0 < 256) × (slice_index v 1 < 256)
-FitCall Drop v = (length v ≡ 1) × (slice_index v 0 < 256)
-FitCall Get v = (length v ≡ 3) × (slice_index v 0 < 256) × (slice_index v 1 < 256) × (slice_index v 2 < 256)
-FitCall Put v = (length v ≡ 3) × (slice_index v 0 < 256) × (slice_index v 1 < 256) × (slice_index v 2 < 256)
-FitCall Show v = (length v ≡ 1) × (slice_index v 0 < 256)
-FitCall Collect v = Unit {0}
-
--- ---- lines
 
 -- the root that has this name
 unfoldable pub place_at : List (List ℕ) → List ℕ → Option ℕ
@@ -78,9 +22,7 @@ IsName word name = (is_name word ≡ true) × (word ≡ name)
 abbrev pub IsValueOf : List (List ℕ) → Argument → List ℕ → ℕ → Type 0
 IsValueOf names Defined word v = (is_name word ≡ true) × (v ≡ unwrap_or (place_at names word) (length names))
 IsValueOf names Read word v = (is_name word ≡ true) × (place_at names word ≡ Some v)
-IsValueOf names Fields word v = IsWithin 0 14 word v
-IsValueOf names Index word v = IsWithin 0 13 word v
-IsValueOf names Number word v = IsWithin 0 4294967295 word v
+IsValueOf names (Number greatest) word v = IsWithin 0 greatest word v
 
 -- the value of the first of some words
 abbrev pub ReadsWord : List (List ℕ) → Argument → List (List ℕ) → ℕ × List (List ℕ) → Type 0

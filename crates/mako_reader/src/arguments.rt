@@ -6,18 +6,14 @@ ghost use Rattle.mako_reader.specs.Commands.{AreValuesOf, DefinesFirst, IsComman
 ghost use Rattle.mako_reader.specs.Finds.{Finds};
 ghost use Rattle.mako_reader.specs.Words.{words_behind, words_of};
 
-use crate::command::{Argument, Command};
 use crate::lines::{next_word, split_word};
 use crate::names::{define, name, root_of, root_or_next};
 use crate::numbers::number_within;
 use crate::refusal::Refusal;
-use arrayvec::ArrayVec;
 use indexmap::IndexSet;
 use mako_model::Call;
+use mako_text::command::{Argument, Command, Values};
 use std::alloc::Global;
-
-/// No command has more arguments.
-const MAX_ARGUMENTS: usize = 3;
 
 /// The value of an argument: the root of a name, or a number. A name that is yet to be defined has the next root.
 fn argument(names: &IndexSet<String>, kind: Argument, word: &[u8]) -> Result<u32, Refusal>
@@ -33,9 +29,7 @@ fn argument(names: &IndexSet<String>, kind: Argument, word: &[u8]) -> Result<u32
             let name = name(word)?;
             Ok(root_of(names, name).ok_or(Refusal::Bad)? as u32)
         }
-        Argument::Fields => number_within(0, 14, word),
-        Argument::Index => number_within(0, 13, word),
-        Argument::Number => number_within(0, u32::MAX, word),
+        Argument::Number(greatest) => number_within(0, greatest, word),
     }
 }
 
@@ -54,16 +48,12 @@ fn next_value<'a>(
 }
 
 /// The values of as many arguments as there are kinds, with nothing behind them.
-fn arguments(
-    names: &IndexSet<String>,
-    kinds: &[Argument],
-    text: &[u8],
-) -> Result<ArrayVec<u32, MAX_ARGUMENTS>, Refusal>
+fn arguments(names: &IndexSet<String>, kinds: &[Argument], text: &[u8]) -> Result<Values, Refusal>
     requires few { length (texts names.now) < 2 ^ 32 }
     requires short { length kinds.now ≤ 3 }
     ensures { Finds (AreValuesOf (texts names.now) kinds.now (words_behind text.now)) (λ v. v.items) result }
 {
-    let mut values = ArrayVec::new();
+    let mut values = Values::new();
     let mut rest = text;
     for kind in kinds {
         let (value, after) = next_value(names, *kind, rest)?;
@@ -107,7 +97,9 @@ pub fn command(
         (λ call. (call, texts names.new)) result }
 {
     let (word, rest) = split_word(line);
-    let command = Command::named(word)?;
+    let Some(command) = Command::named(word) else {
+        return Err(Refusal::Bad);
+    };
     let values = arguments(names, command.arguments(), rest)?;
     define_first(alloc, command.defines(), roots, names, rest)?;
     Ok(command.call(&values))

@@ -2,7 +2,6 @@
 #![tactic(auto)]
 
 mod arguments;
-pub mod command;
 pub mod lines;
 pub mod names;
 pub mod numbers;

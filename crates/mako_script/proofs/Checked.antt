@@ -163,7 +163,7 @@ from_range lines at word n setting words number Word fault = absurd (no_word lin
 from_range lines at word n setting words number Number (other, range, inl is, none) =
     absurd (none n (subst (λ (w : List ℕ). IsNumber w n) (sym (is.1 ∙ ap second words)) number))
 from_range lines at word n setting words number Number (other, range, inr is, none) =
-    absurd (not_in lines is.0 at (omega arith) is.2)
+    absurd (not_in lines is.0 at (omega arith) is.1)
 from_range lines at word n setting words number _ fault = omega arith
 
 -- ---- the first fault of all

@@ -6,19 +6,18 @@ use Rattle.std.proofs.lemmas.Bool.{cases_lt}
 use Rattle.std.proofs.lemmas.List.{get_or_append_left, get_or_push, length_push}
 use Rattle.std.proofs.lemmas.List.Folds.{list_any-append, list_any_at}
 use Rattle.std.proofs.lemmas.Slice.Eq.{bytes_eq-Decides}
-use Rattle.mako_reader.specs.declared.command.Argument.{Argument}
-use Rattle.mako_reader.specs.declared.command.Argument.TheVariants as arguments
-use Rattle.mako_reader.specs.declared.command.Command.{Command}
-use Rattle.mako_reader.specs.declared.command.Command.TheVariants.{New, Num, Copy, Get}
+use Rattle.mako_text.specs.declared.command.Argument.{Argument}
+use Rattle.mako_text.specs.declared.command.Argument.TheVariants as arguments
+use Rattle.mako_text.specs.declared.command.Command.{Command}
+use Rattle.mako_text.specs.declared.command.Command.TheVariants.{New, Num, Copy, Get}
 use Rattle.mako_script.specs.declared.fault.Kind.{Kind}
 use Rattle.mako_script.specs.declared.fault.Kind.TheVariants as faults
 use Rattle.mako_script.specs.CommandLines.{CommandFault, IsRead, is_among}
-use Rattle.mako_script.specs.Lines.{greatest, word_in, HasArgument, IsCommand}
+use Rattle.mako_script.specs.Lines.{word_in, HasArgument, IsCommand, IsSpelled}
 use Rattle.mako_script.specs.States.{AreApart}
-use Rattle.mako_text.specs.Names.{is_name, name_of}
-use Rattle.mako_reader.specs.Commands.{AreValuesOf, Defines, DefinesFirst, IsCommandLine, IsValueOf, defines, kinds_of}
-use Rattle.mako_reader.specs.Commands.{place_at, word_of}
-use Rattle.mako_reader.specs.Words.{IsNumber}
+use Rattle.mako_text.specs.Names.{name_of}
+use Rattle.mako_text.specs.Commands.{defines, kinds_of, word_of}
+use Rattle.mako_reader.specs.Commands.{AreValuesOf, Defines, DefinesFirst, IsCommandLine, IsValueOf, place_at}
 use Rattle.mako_script.proofs.Commands.{among_any, first_kind, not_placed}
 use Rattle.mako_reader.proofs.NameLists.{no_place}
 use Rattle.mako_script.proofs.GoodSettings.{number_is}
@@ -43,19 +42,11 @@ behind_at words word behind place e =
     let next : place + 1 ≡ suc place = omega arith in
     ap (λ (t : List (List ℕ)). word_in t (place + 1)) e ∙ ap (word_in (word ∷ behind)) next
 
-spelled_name : (names : List (List ℕ)) (kind : Argument) (w : List ℕ) (v : ℕ) → greatest kind ≡ None
-    → IsValueOf names kind w v → is_name w ≡ true
-spelled_name names arguments.Defined w v none t = t.0
-spelled_name names arguments.Read w v none t = t.0
-spelled_name names _ w v none t = absurd cc
-
-number_taken : (names : List (List ℕ)) (kind : Argument) (w : List ℕ) (v most : ℕ) → greatest kind ≡ Some most
-    → IsValueOf names kind w v → IsNumber w v × (v ≤ most)
-number_taken names arguments.Defined w v most some t = absurd cc
-number_taken names arguments.Read w v most some t = absurd cc
-number_taken names arguments.Fields w v most some t = (t.0, omega (arith, t.2, some_is 14 most some))
-number_taken names arguments.Index w v most some t = (t.0, omega (arith, t.2, some_is 13 most some))
-number_taken names arguments.Number w v most some t = (t.0, omega (arith, t.2, some_is 4294967295 most some))
+spelled_name : (names : List (List ℕ)) (kind : Argument) (w : List ℕ) (v : ℕ) → IsValueOf names kind w v
+    → IsSpelled kind w
+spelled_name names arguments.Defined w v t = t.0
+spelled_name names arguments.Read w v t = t.0
+spelled_name names (arguments.Number greatest) w v t = tt
 
 -- only the first argument is defined, of the commands that define one
 defined_first : (command : Command) (place : ℕ) → slice_get (kinds_of command) place ≡ Some arguments.Defined
@@ -106,10 +97,10 @@ module _ (roots : ℕ) (names words after : List (List ℕ)) (read : IsRead root
       ap length line.words_are,
       (counts names (kinds_of line.command) line.behind line.values line.are).0,
     );
-    names = λ place kind e none.
+    spelled = λ place kind e.
         let t = taken_at names (kinds_of line.command) line.behind line.values line.are place kind e in
-        ap is_name (behind_at words (word_of line.command) line.behind place line.words_are)
-        ∙ spelled_name names kind (word_in line.behind place) t.0 none t.1;
+        subst (IsSpelled kind) (sym (behind_at words (word_of line.command) line.behind place line.words_are))
+        (spelled_name names kind (word_in line.behind place) t.0 t.1);
   }
 
   same_command : (command : Command) → IsCommand words command → command ≡ line.command
@@ -155,14 +146,12 @@ module _ (roots : ℕ) (names words after : List (List ℕ)) (read : IsRead root
 
   pub no_fault : (k : Kind) → CommandFault names roots words k → ⊥
   no_fault faults.Word fault = fault line.command is_command
-  no_fault faults.Number (kind, word, most, has, some, none) =
-      let t = argument_taken kind word has in
-      let n = number_taken names kind word t.0 most some t.1 in
-      none t.0 n.0
-  no_fault faults.Range (kind, word, most, n, has, some, number, above) =
-      let t = argument_taken kind word has in
-      let v = number_taken names kind word t.0 most some t.1 in
-      omega (arith, number_is word t.0 n v.0.0 v.0.1 number, v.1, above)
+  no_fault faults.Number (word, greatest, has, none) =
+      let t = argument_taken (arguments.Number greatest) word has in
+      none t.0 t.1.0
+  no_fault faults.Range (word, greatest, n, has, number, above) =
+      let t = argument_taken (arguments.Number greatest) word has in
+      omega (arith, number_is word t.0 n t.1.0.0 t.1.0.1 number, t.1.2, above)
   no_fault faults.Undefined (name, has, none) =
       let t = argument_taken arguments.Read name has in
       (let no = sym t.1.1 ∙ not_placed names name none in cc)

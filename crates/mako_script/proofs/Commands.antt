@@ -7,14 +7,14 @@ use Rattle.std.specs.List.{list_any}
 use Rattle.std.specs.Str.{bytes_eq}
 use Rattle.std.proofs.lemmas.List.Folds.{list_any_at}
 use Rattle.std.proofs.lemmas.Slice.Eq.{bytes_eq-Decides}
-use Rattle.mako_reader.specs.declared.command.Argument.{Argument}
-use Rattle.mako_reader.specs.declared.command.Argument.TheVariants as arguments
-use Rattle.mako_reader.specs.declared.command.Command.{Command}
-use Rattle.mako_reader.specs.declared.command.Command.TheVariants.{New, Num, Copy, Get, Collect}
+use Rattle.mako_text.specs.declared.command.Argument.{Argument}
+use Rattle.mako_text.specs.declared.command.Argument.TheVariants as arguments
+use Rattle.mako_text.specs.declared.command.Command.{Command}
+use Rattle.mako_text.specs.declared.command.Command.TheVariants.{New, Num, Copy, Get, Collect}
 use Rattle.mako_script.specs.CommandLines.{AreArguments, IsArgument, IsRead, is_among}
 use Rattle.mako_script.specs.Lines.{word_in}
-use Rattle.mako_reader.specs.Commands.{AreValuesOf, Defines, DefinesFirst, IsValueOf, call_of, defines, kinds_of}
-use Rattle.mako_reader.specs.Commands.{place_at, word_of}
+use Rattle.mako_text.specs.Commands.{call_of, defines, kinds_of, word_of}
+use Rattle.mako_reader.specs.Commands.{AreValuesOf, Defines, DefinesFirst, IsValueOf, place_at}
 use Rattle.mako_text.specs.Names.{is_name}
 use Rattle.mako_reader.proofs.NameLists.{no_place, place_takes}
 
@@ -66,7 +66,7 @@ argument_reads : (names : List (List ℕ)) (roots : ℕ) (kind : Argument) (word
     → IsArgument names roots kind word → (v : ℕ) × IsValueOf names kind word v
 argument_reads names roots arguments.Defined word is = (unwrap_or (place_at names word) (length names), (is.0, refl))
 argument_reads names roots arguments.Read word is = let p = among_place names word is.1 in (p.0, (is.0, p.1))
-argument_reads names roots _ word is = is
+argument_reads names roots (arguments.Number greatest) word is = is
 
 arguments_read : (names : List (List ℕ)) (roots : ℕ) (kinds : List Argument) (words : List (List ℕ))
     → length words ≡ length kinds → AreArguments names roots kinds words

@@ -84,13 +84,7 @@ program : IsProgram 4 storing_program
 program = record {
   names = record { some = omega arith; board = refl; spelled = are_spelled; distinct = differ };
   few = omega arith;
-  calls = (
-    (omega arith, omega arith),
-    (
-      (omega arith, omega arith),
-      ((omega arith, omega arith, omega arith), ((omega arith, omega arith, omega arith), refl)),
-    ),
-  );
+  calls = (omega arith, (omega arith, (omega arith, (omega arith, refl))));
 }
 
 pub proper : IsProper storing

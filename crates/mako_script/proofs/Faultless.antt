@@ -11,11 +11,11 @@ use Rattle.mako_shape.specs.declared.numbers.Numbers.{Numbers}
 use Rattle.mako_shape.specs.Limits.{all_entries, max_entries, max_words}
 use Rattle.mako_shape.specs.Places.{total}
 use Rattle.mako_text.specs.Names.{AreNames}
-use Rattle.mako_text.specs.Printed.{values_of}
 use Rattle.mako_text.specs.Programs.{AreCalls, IsProgram, ProgramView, defined_after}
 use Rattle.mako_text.specs.Scripts.{ScriptView, command_count}
-use Rattle.mako_text.specs.Texts.{IsScript, argument_words, command_word, command_words, end_word, mutator_word}
-use Rattle.mako_text.specs.Texts.{section_lines}
+use Rattle.mako_text.specs.Texts.{IsScript, argument_words, command_words, end_word, mutator_word}
+use Rattle.mako_text.specs.Commands.{command_of, word_of}
+use Rattle.mako_text.specs.Texts.{section_lines, setting_values}
 use Rattle.mako_reader.specs.Parts.{IsSetting, body_lines, lines_from, numbers_in}
 use Rattle.mako_reader.specs.Commands.{IsCommandLine}
 use Rattle.mako_reader.specs.Words.{words_of, lines_of}
@@ -71,7 +71,7 @@ module _ (text : List ℕ) (roots : ℕ) (some : 1 ≤ roots) (printable : (at :
         (line + 1, subst (λ (n : ℕ). Between text roots sections n (line + 1) left) none end)
     calls_walk sections count k (c ∷ calls) line within fits room st =
         let after = at_most (defined_after k c) calls (length final) fits.1 in
-        let words = words_again (command_word c) (argument_words final c)
+        let words = words_again (word_of (command_of c)) (argument_words final c)
         (command_is_words final are k c within fits.0 after) in
         let l = join_with_byte 32 (command_words final c) in
         let read = subst (λ (ws : List (List ℕ)). IsCommandLine roots (take k final) ws
@@ -144,9 +144,10 @@ module _ (text : List ℕ) (s : ScriptView) (is : IsScript text s) where
   parts : HasParts text s
   parts = parts_of text s is
 
-  have : HaveSettings lines (values_of s)
+  have : HaveSettings lines (setting_values s)
   have at below =
-      let line = header_at keys lines (values_of s, parts.left) parts.header at ([], (0, 0)) (omega (arith, below)) in
+      let line = header_at keys lines (setting_values s, parts.left) parts.header at ([], (0, 0))
+      (omega (arith, below)) in
       let same : line_in lines at ≡ line.line = sym (front lines at)
       ∙ ap (λ (ls : List (List ℕ)). line_in ls 0) line.lines_are in
       record {
@@ -158,27 +159,27 @@ module _ (text : List ℕ) (s : ScriptView) (is : IsScript text s) where
         high = line.high;
       }
 
-  few : ¬ (max_entries < all_entries (numbers_in (values_of s) 0))
+  few : ¬ (max_entries < all_entries (numbers_in (setting_values s) 0))
   few many = not_more (all_entries s.numbers) max_entries is.proper.shape.entries many
 
-  count : length (values_of s) ≡ 11
+  count : length (setting_values s) ≡ 11
   count = refl
 
   abbrev roots : ℕ
-  roots = slice_index (values_of s) 7
+  roots = slice_index (setting_values s) 7
 
   some : 1 ≤ roots
-  some = (some_roots lines (values_of s) have count).0
+  some = (some_roots lines (setting_values s) have count).0
 
   left_is : parts.left ≡ drop 11 lines
   left_is = ap (λ (x : List ℕ × List (List ℕ)). x.1)
-      (same_each IsSetting same_setting keys lines (values_of s, parts.left) (values_of s, drop 11 lines) parts.header
-      (settings_are lines (values_of s) have count))
+      (same_each IsSetting same_setting keys lines (setting_values s, parts.left) (setting_values s, drop 11 lines)
+      parts.header (settings_are lines (setting_values s) have count))
 
   end : ReachesEnd text roots some printable 0 s.programs
   end =
       let start = subst (Between text roots 0 0 11) (sym left_is
-      ∙ parts.sections.spelled) (begins text (values_of s) have count few) in
+      ∙ parts.sections.spelled) (begins text (setting_values s) have count few) in
       sections_walk text roots some printable 0 0 11 s.programs start
       (omega (arith, parts.sections.few)) parts.sections.proper (omega (arith, parts.sections.total))
 
@@ -188,8 +189,8 @@ module _ (text : List ℕ) (s : ScriptView) (is : IsScript text s) where
   few_words (inr (inl fault)) = fault.1
   few_words (inr (inr (last, (v, are, many)))) =
       let number : (at : ℕ) → at < 11
-      → slice_index v at ≡ slice_index (values_of s) at =
-      λ at under. number_at text (values_of s) have count few at (slice_index v at) under (are.each at under) in
+      → slice_index v at ≡ slice_index (setting_values s) at =
+      λ at under. number_at text (setting_values s) have count few at (slice_index v at) under (are.each at under) in
       let mutators : sections_before lines end.0 ≡ s.numbers.mutators =
       omega (arith, end.2.reached.sections_are, is.proper.mutators) in
       let n1 = number 1 (omega arith) in

@@ -3,8 +3,8 @@ use Rattle.std.proofs.Common.{◌≡◌, ℕ, zero, suc, ◌+◌, ◌<◌, ◌�
 use Rattle.std.proofs.Common.{◌∷◌, length, take, slice_get, Option, Some, None, refl, sym, ap, subst, ◌∙◌, arith}
 use Rattle.std.specs.Prelude.{IfNone, IfSome, Ok, Err}
 use Rattle.std.proofs.lemmas.Bool.{cases_lt, lt-ltb, le-ltb}
-use Rattle.mako_reader.specs.declared.command.Argument.{Argument}
-use Rattle.mako_reader.specs.declared.command.Argument.TheVariants as arguments
+use Rattle.mako_text.specs.declared.command.Argument.{Argument}
+use Rattle.mako_text.specs.declared.command.Argument.TheVariants as arguments
 use Rattle.mako_script.specs.declared.fault.Kind.{Kind}
 use Rattle.mako_script.specs.declared.fault.Kind.TheVariants as faults
 use Rattle.mako_script.specs.Checks.{IsValue}
@@ -52,7 +52,7 @@ one_argument names roots arguments.Read word faults.Undefined faults.Word a b = 
 one_argument names roots arguments.Read word faults.Word _ a b = absurd b
 one_argument names roots arguments.Read word faults.Undefined _ a b = absurd b
 one_argument names roots arguments.Read word _ g a b = absurd a
-one_argument names roots _ word f g a b = one_value 0 _ word f g a b
+one_argument names roots (arguments.Number greatest) word f g a b = one_value 0 greatest word f g a b
 
 -- and none where it may stand
 pub no_argument : (names : List (List ℕ)) (roots : ℕ) (kind : Argument) (word : List ℕ) (f : Kind)
@@ -67,7 +67,7 @@ no_argument names roots arguments.Defined word _ is fault = fault
 no_argument names roots arguments.Read word faults.Word is fault = true≢false (sym is.0 ∙ fault)
 no_argument names roots arguments.Read word faults.Undefined is fault = true≢false (sym is.1 ∙ fault.1)
 no_argument names roots arguments.Read word _ is fault = fault
-no_argument names roots _ word f is fault = no_value 0 _ word is.0 f is.1 fault
+no_argument names roots (arguments.Number greatest) word f is fault = no_value 0 greatest word is.0 f is.1 fault
 
 -- ---- one word more
 

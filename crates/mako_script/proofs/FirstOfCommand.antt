@@ -1,20 +1,19 @@
 -- The first fault of a command line, from those of its words.
-use Rattle.std.proofs.Common.{◌≡◌, ℕ, ◌+◌, ◌<◌, ◌≤◌, ◌⊎◌, inl, inr, Bool, true, false, true≢false, List, ◌∷◌, length}
-use Rattle.std.proofs.Common.{slice_get, Option, Some, None, refl, sym, ap, subst, ◌∙◌, arith}
+use Rattle.std.proofs.Common.{◌≡◌, ℕ, ◌+◌, ◌≤◌, ◌⊎◌, inl, inr, Bool, true, false, true≢false, List, ◌∷◌, length}
+use Rattle.std.proofs.Common.{slice_get, Some, refl, sym, ap, subst, ◌∙◌, arith}
 use Rattle.std.specs.Prelude.{◌≢◌}
-use Rattle.mako_reader.specs.declared.command.Argument.{Argument}
-use Rattle.mako_reader.specs.declared.command.Argument.TheVariants as arguments
-use Rattle.mako_reader.specs.declared.command.Command.{Command}
+use Rattle.mako_text.specs.declared.command.Argument.{Argument}
+use Rattle.mako_text.specs.declared.command.Argument.TheVariants as arguments
+use Rattle.mako_text.specs.declared.command.Command.{Command}
 use Rattle.mako_script.specs.declared.fault.Kind.{Kind}
 use Rattle.mako_script.specs.declared.fault.Kind.TheVariants as faults
 use Rattle.mako_script.specs.CommandLines.{ArgumentFault, CommandFault, IsFirstOfCommand, IsLeastFault}
 use Rattle.mako_script.specs.Faults.{rank}
-use Rattle.mako_script.specs.Lines.{greatest, word_in, HasArgument, IsCommand}
-use Rattle.mako_reader.specs.Words.{IsNumber}
+use Rattle.mako_script.specs.Lines.{word_in, HasArgument, IsCommand, IsSpelled}
 use Rattle.mako_text.specs.Names.{is_name}
-use Rattle.mako_reader.specs.Commands.{kinds_of, word_of}
+use Rattle.mako_text.specs.Commands.{kinds_of, word_of}
 use Rattle.mako_script.proofs.Clean.{behind_at}
-use Rattle.mako_reader.proofs.Values.{by_word, some_is}
+use Rattle.mako_reader.proofs.Values.{by_word}
 
 from_word : (names : List (List ℕ)) (roots : ℕ) (words : List (List ℕ)) (k : Kind) → CommandFault names roots words k
     → 3 ≤ rank k
@@ -52,20 +51,20 @@ module _ (names : List (List ℕ)) (roots : ℕ) (words : List (List ℕ)) (word
   place_in other is place kind e = ap (λ (c : Command). slice_get (kinds_of c) place) (sym (this_command other is)) ∙ e
 
   spelled_at : (other : Command) → IsCommand words other → (place : ℕ) (kind : Argument)
-      → slice_get (kinds_of command) place ≡ Some kind → greatest kind ≡ None → is_name (word_in behind place) ≡ true
-  spelled_at other is place kind e none =
+      → slice_get (kinds_of command) place ≡ Some kind → IsSpelled kind (word_in behind place)
+  spelled_at other is place kind e =
       let at = ap (λ (c : Command). slice_get (kinds_of c) place) (this_command other is) ∙ e in
-      ap is_name (sym (behind_at words word behind place same)) ∙ is.names place kind at none
+      subst (IsSpelled kind) (behind_at words word behind place same) (is.spelled place kind at)
 
   -- a word that should be a name and is none
   no_spelling : (place : ℕ) (kind : Argument) → slice_get (kinds_of command) place ≡ Some kind
       → ArgumentFault names roots kind (word_in behind place) faults.Word
       → (other : Command) → ¬ IsCommand words other
   no_spelling place arguments.Defined e fault other is =
-      true≢false (sym (spelled_at other is place arguments.Defined e refl) ∙ fault)
-  no_spelling place arguments.Read e fault other is = true≢false (sym (spelled_at other is place arguments.Read e refl)
-      ∙ fault)
-  no_spelling place _ e fault other is = fault
+      true≢false (sym (spelled_at other is place arguments.Defined e) ∙ fault)
+  no_spelling place arguments.Read e fault other is =
+      true≢false (sym (spelled_at other is place arguments.Read e) ∙ fault)
+  no_spelling place (arguments.Number greatest) e fault other is = fault
 
   word_or_past : (kind : Argument) (w : List ℕ) (f : Kind) → ArgumentFault names roots kind w f → (f ≡ faults.Word)
       ⊎ (4 ≤ rank f)
@@ -75,9 +74,9 @@ module _ (names : List (List ℕ)) (roots : ℕ) (words : List (List ℕ)) (word
   word_or_past arguments.Read w faults.Word fault = inl refl
   word_or_past arguments.Read w faults.Undefined fault = inr (omega arith)
   word_or_past arguments.Read w _ fault = absurd fault
-  word_or_past _ w faults.Number fault = inr (omega arith)
-  word_or_past _ w faults.Range fault = inr (omega arith)
-  word_or_past _ w _ fault = absurd fault
+  word_or_past (arguments.Number greatest) w faults.Number fault = inr (omega arith)
+  word_or_past (arguments.Number greatest) w faults.Range fault = inr (omega arith)
+  word_or_past (arguments.Number greatest) w _ fault = absurd fault
 
   -- the fault of a word is that of the line
   to_line : (kind : Argument) (w : List ℕ) (f : Kind) → ArgumentFault names roots kind w f → HasArgument words kind w
@@ -88,25 +87,11 @@ module _ (names : List (List ℕ)) (roots : ℕ) (words : List (List ℕ)) (word
   to_line arguments.Read w faults.Undefined fault has past = (w, has, fault.1)
   to_line arguments.Read w faults.Word fault has past = absurd (omega (arith, past))
   to_line arguments.Read w _ fault has past = absurd fault
-  to_line kind w faults.Number fault has past = (kind, w, _, has, refl, fault)
-  to_line kind w faults.Range (n, number, inl below) has past = absurd (omega (arith, below))
-  to_line kind w faults.Range (n, number, inr above) has past = (kind, w, _, n, has, refl, number, above)
-  to_line _ w _ fault has past = absurd fault
-
-  no_digits : (kind : Argument) (w : List ℕ) (most : ℕ) → greatest kind ≡ Some most → ((n : ℕ) → ¬ IsNumber w n)
-      → ArgumentFault names roots kind w faults.Number
-  no_digits arguments.Defined w most some none = absurd cc
-  no_digits arguments.Read w most some none = absurd cc
-  no_digits _ w most some none = none
-
-  too_great : (kind : Argument) (w : List ℕ) (most n : ℕ) → greatest kind ≡ Some most → IsNumber w n → most < n
-      → ArgumentFault names roots kind w faults.Range
-  too_great arguments.Defined w most n some number above = absurd cc
-  too_great arguments.Read w most n some number above = absurd cc
-  too_great arguments.Fields w most n some number above = (n, number, inr (omega (arith, above, some_is 14 most some)))
-  too_great arguments.Index w most n some number above = (n, number, inr (omega (arith, above, some_is 13 most some)))
-  too_great arguments.Number w most n some number above =
-      (n, number, inr (omega (arith, above, some_is 4294967295 most some)))
+  to_line (arguments.Number greatest) w faults.Number fault has past = (w, greatest, has, fault)
+  to_line (arguments.Number greatest) w faults.Range (n, number, inl below) has past = absurd (omega (arith, below))
+  to_line (arguments.Number greatest) w faults.Range (n, number, inr above) has past =
+      (w, greatest, n, has, number, above)
+  to_line (arguments.Number greatest) w _ fault has past = absurd fault
 
   -- the fault of a line is that of a word
   record OfWord (f : Kind) : Type 0 where
@@ -116,8 +101,7 @@ module _ (names : List (List ℕ)) (roots : ℕ) (words : List (List ℕ)) (word
     has : ArgumentFault names roots kind (word_in behind place) f
 
   of_word : (kind : Argument) (w : List ℕ) (f : Kind) → HasArgument words kind w
-      → ((other : Command) → IsCommand words other → (is_name w ≡ true) ⊎ (greatest kind ≢ None)
-      → ArgumentFault names roots kind w f) → OfWord f
+      → (IsSpelled kind w → ArgumentFault names roots kind w f) → OfWord f
   of_word kind w f (other, place, is, among, spelled) fault =
       let at = place_in other is place kind among in
       let here = spelled ∙ behind_at words word behind place same in
@@ -126,56 +110,44 @@ module _ (names : List (List ℕ)) (roots : ℕ) (words : List (List ℕ)) (word
         kind = kind;
         among = at;
         has = subst (λ (v : List ℕ). ArgumentFault names roots kind v f) here
-            (fault other is (by kind (greatest kind) refl (λ none. ap is_name here
-            ∙ spelled_at other is place kind at none)));
+            (fault (subst (IsSpelled kind) (sym here) (spelled_at other is place kind at)));
       }
-    where
-      by : (k : Argument) (o : Option ℕ) → greatest k ≡ o → (greatest k ≡ None → is_name w ≡ true) → (is_name w ≡ true)
-          ⊎ (greatest k ≢ None)
-      by k None e name = inl (name e)
-      by k (Some most) e name = inr (λ none. absurd (let no : None ≡ Some most = sym none ∙ e in cc))
-
-  name_is : (w : List ℕ) (kind : Argument) → greatest kind ≡ None → (is_name w ≡ true) ⊎ (greatest kind ≢ None)
-      → is_name w ≡ true
-  name_is w kind none (inl is) = is
-  name_is w kind none (inr some) = absurd (some none)
 
   from_line : (f : Kind) → CommandFault names roots words f → (f ≡ faults.Word) ⊎ OfWord f
   from_line faults.Word fault = inl refl
-  from_line faults.Number (kind, w, most, has, some, none) =
-      inr (of_word kind w faults.Number has (λ other is spelled. no_digits kind w most some none))
-  from_line faults.Range (kind, w, most, n, has, some, number, above) =
-      inr (of_word kind w faults.Range has (λ other is spelled. too_great kind w most n some number above))
+  from_line faults.Number (w, greatest, has, none) =
+      inr (of_word (arguments.Number greatest) w faults.Number has (λ spelled. none))
+  from_line faults.Range (w, greatest, n, has, number, above) =
+      inr (of_word (arguments.Number greatest) w faults.Range has (λ spelled. (n, number, inr above)))
   from_line faults.Undefined (name, has, none) =
-      inr (of_word arguments.Read name faults.Undefined has
-      (λ other is spelled. (name_is name arguments.Read refl spelled, none)))
+      inr (of_word arguments.Read name faults.Undefined has (λ spelled. (spelled, none)))
   from_line faults.Names (name, has, none, full) =
-      inr (of_word arguments.Defined name faults.Names has
-      (λ other is spelled. (name_is name arguments.Defined refl spelled, none, full)))
+      inr (of_word arguments.Defined name faults.Names has (λ spelled. (spelled, none, full)))
   from_line _ fault = absurd fault
 
   -- with as many words as the command has arguments, each name is spelled as one or the fault is a wrong word
   module _ (count : length behind ≡ length (kinds_of command)) (f : Kind)
       (first : IsLeastFault names roots (kinds_of command) behind f) where
     spelled_all : 4 ≤ rank f → (place : ℕ) → (kind : Argument) → slice_get (kinds_of command) place ≡ Some kind
-        → greatest kind ≡ None → is_name (word_in words (place + 1)) ≡ true
-    spelled_all past place kind e none = ap is_name (behind_at words word behind place same)
-        ∙ by kind e none (is_name (word_in behind place)) refl
+        → IsSpelled kind (word_in words (place + 1))
+    spelled_all past place kind e = subst (IsSpelled kind) (sym (behind_at words word behind place same))
+        (by kind e (is_name (word_in behind place)) refl)
       where
-        by : (k : Argument) → slice_get (kinds_of command) place ≡ Some k → greatest k ≡ None → (b : Bool)
-            → is_name (word_in behind place) ≡ b → is_name (word_in behind place) ≡ true
-        by k e none true is = is
-        by arguments.Defined e none false h =
+        by : (k : Argument) → slice_get (kinds_of command) place ≡ Some k → (b : Bool)
+            → is_name (word_in behind place) ≡ b → IsSpelled k (word_in behind place)
+        by arguments.Defined e true is = is
+        by arguments.Read e true is = is
+        by arguments.Defined e false h =
             absurd (omega (arith, past, first.least place arguments.Defined faults.Word e h))
-        by arguments.Read e none false h =
+        by arguments.Read e false h =
             absurd (omega (arith, past, first.least place arguments.Read faults.Word e h))
-        by _ e none false h = absurd cc
+        by (arguments.Number greatest) e b h = tt
 
     is_this : 4 ≤ rank f → IsCommand words command
     is_this past = record {
       named = ap (λ (t : List (List ℕ)). word_in t 0) same ∙ named;
       count = omega (arith, ap length same, count);
-      names = spelled_all past;
+      spelled = spelled_all past;
     }
 
     past_word : 4 ≤ rank f → IsFirstOfCommand names roots words f

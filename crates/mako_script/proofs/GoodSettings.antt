@@ -28,7 +28,7 @@ number_is word n m spelled few is = decimal_injective m n (omega (arith, is.1)) 
 pub good_number : (lines : List (List ℕ)) (at n : ℕ) → IsGood lines at n → LineFault lines at Number → ⊥
 good_number lines at n is (word, range, inl (setting, spelled, ranged), none) =
     none n (spelled ∙ ap (λ (ws : List (List ℕ)). word_in ws 1) is.words, is.few)
-good_number lines at n is (word, range, inr (from, kind, inside, argument, least, most), none) =
+good_number lines at n is (word, range, inr (from, inside, argument, least), none) =
     not_in lines from at (omega (arith, is.setting)) inside
 
 pub good_range : (lines : List (List ℕ)) (at n : ℕ) → IsGood lines at n → LineFault lines at Range → ⊥
@@ -50,5 +50,5 @@ good_range lines at n is (word, range, m, inl (setting, spelled, ranged), number
       is.high,
       high,
     )
-good_range lines at n is (word, range, m, inr (from, kind, inside, argument, least, most), number, out) =
+good_range lines at n is (word, range, m, inr (from, inside, argument, least), number, out) =
     not_in lines from at (omega (arith, is.setting)) inside

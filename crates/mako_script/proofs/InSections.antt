@@ -13,12 +13,12 @@ use Rattle.std.proofs.lemmas.Map.Made.{length-le_from_is_member}
 use Rattle.std.proofs.lemmas.Slice.Eq.{bytes_eq-Decides}
 use Rattle.mako_text.specs.Names.{name_of}
 use Rattle.mako_text.specs.Texts.{end_word, mutator_word}
-use Rattle.mako_reader.specs.declared.command.Argument.{Argument}
-use Rattle.mako_reader.specs.declared.command.Argument.TheVariants as arguments
-use Rattle.mako_reader.specs.declared.command.Command.{Command}
-use Rattle.mako_reader.specs.declared.command.Command.TheVariants.{New}
+use Rattle.mako_text.specs.declared.command.Argument.{Argument}
+use Rattle.mako_text.specs.declared.command.Argument.TheVariants as arguments
+use Rattle.mako_text.specs.declared.command.Command.{Command}
+use Rattle.mako_text.specs.declared.command.Command.TheVariants.{New}
 use Rattle.mako_reader.specs.Words.{IsNumber, lines_of, words_of}
-use Rattle.mako_reader.specs.Commands.{word_of}
+use Rattle.mako_text.specs.Commands.{word_of}
 use Rattle.mako_reader.proofs.NameLists.{place_takes}
 use Rattle.mako_script.specs.declared.fault.Kind.{Kind}
 use Rattle.mako_script.specs.declared.fault.Kind.TheVariants.{Header, NotAscii, Word, Number, Range, Names, Undefined}
@@ -149,13 +149,13 @@ module _ (text : List ℕ) (roots sections commands line : ℕ) (names left : Li
   words_fault Word (inl opens) = absurd (opens.0.closed st.from st.inside)
   words_fault Word (inr (f, is, on, none)) = inl none
   words_fault Number (word, range, inl setting, none) = absurd (omega (arith, setting.0, st.reached.low))
-  words_fault Number (word, range, inr (f, kind, is, has, least, most), none) =
-      inl (kind, word, range.1, has, most, none)
+  words_fault Number (word, range, inr (f, is, has, least), none) =
+      inl (word, range.1, has, none)
   words_fault Range (word, range, n, inl setting, number, out) = absurd (omega (arith, setting.0, st.reached.low))
-  words_fault Range (word, range, n, inr (f, kind, is, has, least, most), number, inl below) =
+  words_fault Range (word, range, n, inr (f, is, has, least), number, inl below) =
       absurd (omega (arith, below, least))
-  words_fault Range (word, range, n, inr (f, kind, is, has, least, most), number, inr above) =
-      inl (kind, word, range.1, n, has, most, number, above)
+  words_fault Range (word, range, n, inr (f, is, has, least), number, inr above) =
+      inl (word, range.1, n, has, number, above)
   words_fault Entries fault = absurd (omega (arith, fault.0, st.reached.low))
   words_fault Undefined (f, name, is, has, undefined) = inl (name, has, unknown f name is undefined)
   words_fault Names (f, name, count, is, has, undefined, number, are) =
@@ -177,9 +177,10 @@ module _ (text : List ℕ) (roots sections commands line : ℕ) (names left : Li
       by Word (inl opens) = opens.0.closed st.from st.inside
       by Word (inr (f, is, on, none)) = on end
       by Number (word, range, inl setting, none) = omega (arith, setting.0, st.reached.low)
-      by Number (word, range, inr (f, kind, is, has, least, most), none) = no_argument kind word has
+      by Number (word, range, inr (f, is, has, least), none) = no_argument (arguments.Number range.1) word has
       by Range (word, range, n, inl setting, number, out) = omega (arith, setting.0, st.reached.low)
-      by Range (word, range, n, inr (f, kind, is, has, least, most), number, out) = no_argument kind word has
+      by Range (word, range, n, inr (f, is, has, least), number, out) =
+          no_argument (arguments.Number range.1) word has
       by Entries fault = omega (arith, fault.0, st.reached.low)
       by Undefined (f, name, is, has, undefined) = no_argument arguments.Read name has
       by Names (f, name, count, is, has, undefined, number, are) = no_argument arguments.Defined name has
@@ -298,10 +299,9 @@ module _ (text : List ℕ) (roots sections commands line : ℕ) (names left : Li
 
           to_text : (k : Kind) → CommandFault names roots (words_at lines line) k → LineFault lines line k
           to_text Word none = inr (st.from, st.inside, going, none)
-          to_text Number (kind, word, most, has, some, none) =
-              (word, (0, most), inr (st.from, kind, st.inside, has, refl, some), none)
-          to_text Range (kind, word, most, n, has, some, number, above) =
-              (word, (0, most), n, inr (st.from, kind, st.inside, has, refl, some), number, inr above)
+          to_text Number (word, greatest, has, none) = (word, (0, greatest), inr (st.from, st.inside, has, refl), none)
+          to_text Range (word, greatest, n, has, number, above) =
+              (word, (0, greatest), n, inr (st.from, st.inside, has, refl), number, inr above)
           to_text Undefined (name, has, none) = (st.from, name, st.inside, has, undefined name none)
           to_text Names (name, has, none, many) =
               (st.from, name, roots, st.inside, has, undefined name none, st.reached.number, are_defined many)

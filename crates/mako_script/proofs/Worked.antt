@@ -11,11 +11,12 @@ use Rattle.mako_shape.specs.Limits.{all_entries, max_entries}
 use Rattle.mako_shape.specs.Places.{total}
 use Rattle.mako_text.specs.Names.{board_name, is_name}
 use Rattle.mako_text.specs.Texts.{end_word, mutator_word}
-use Rattle.mako_reader.specs.declared.command.Argument.{Argument}
-use Rattle.mako_reader.specs.declared.command.Argument.TheVariants as arguments
-use Rattle.mako_reader.specs.declared.command.Command.{Command}
-use Rattle.mako_reader.specs.declared.command.Command.TheVariants.{New, Num, Show}
-use Rattle.mako_reader.specs.Commands.{AreValuesOf, kinds_of, place_at, word_of}
+use Rattle.mako_text.specs.declared.command.Argument.{Argument}
+use Rattle.mako_text.specs.declared.command.Argument.TheVariants as arguments
+use Rattle.mako_text.specs.declared.command.Command.{Command}
+use Rattle.mako_text.specs.declared.command.Command.TheVariants.{New, Num, Show}
+use Rattle.mako_text.specs.Commands.{kinds_of, word_of}
+use Rattle.mako_reader.specs.Commands.{AreValuesOf, place_at}
 use Rattle.mako_reader.specs.Parts.{numbers_in}
 use Rattle.mako_reader.specs.Words.{IsNumber, lines_of, words_of}
 use Rattle.mako_reader.proofs.Digits.{number_plain}
@@ -225,7 +226,7 @@ unfolding words_of digits
 large_first = first_of_words names 4 (words_of (codes "num n 4294967296")) (codes "num") (codes "n" ∷
     codes "4294967296" ∷ []) Num refl refl refl faults.Range (record {
       place = 1;
-      kind = arguments.Number;
+      kind = arguments.Number 4294967295;
       among = refl;
       has = (4294967296, is, inr (omega arith));
       least = least;
@@ -234,7 +235,8 @@ large_first = first_of_words names 4 (words_of (codes "num n 4294967296")) (code
     is : IsNumber (codes "4294967296") 4294967296
     is = (refl, omega arith)
 
-    by : (f : Kind) → ArgumentFault names 4 arguments.Number (codes "4294967296") f → rank faults.Range ≤ rank f
+    by : (f : Kind) → ArgumentFault names 4 (arguments.Number 4294967295) (codes "4294967296") f
+        → rank faults.Range ≤ rank f
     by faults.Number none = absurd (none 4294967296 is)
     by faults.Range wrong = omega arith
     by _ wrong = absurd wrong
@@ -246,7 +248,7 @@ large_first = first_of_words names 4 (words_of (codes "num n 4294967296")) (code
         (sym (some_is arguments.Defined k e)) wrong)
     least (suc zero) k f e wrong =
         by f (subst (λ (a : Argument). ArgumentFault names 4 a (codes "4294967296") f)
-        (sym (some_is arguments.Number k e)) wrong)
+        (sym (some_is (arguments.Number 4294967295) k e)) wrong)
     least (suc (suc other)) k f e wrong = absurd cc
 
 -- no number is spelled with a zero before it
@@ -258,13 +260,13 @@ unfolding words_of
 zero_first = first_of_words names 4 (words_of (codes "num n 07")) (codes "num") (codes "n" ∷ codes "07" ∷
     []) Num refl refl refl faults.Number (record {
       place = 1;
-      kind = arguments.Number;
+      kind = arguments.Number 4294967295;
       among = refl;
       has = no_zero;
       least = least;
     })
   where
-    by : (f : Kind) → ArgumentFault names 4 arguments.Number (codes "07") f → rank faults.Number ≤ rank f
+    by : (f : Kind) → ArgumentFault names 4 (arguments.Number 4294967295) (codes "07") f → rank faults.Number ≤ rank f
     by faults.Number wrong = omega arith
     by faults.Range wrong = omega arith
     by _ wrong = absurd wrong
@@ -276,7 +278,7 @@ zero_first = first_of_words names 4 (words_of (codes "num n 07")) (codes "num") 
         (sym (some_is arguments.Defined k e)) wrong) in omega (arith, past))
     least (suc zero) k f e wrong =
         by f (subst (λ (a : Argument). ArgumentFault names 4 a (codes "07") f)
-        (sym (some_is arguments.Number k e)) wrong)
+        (sym (some_is (arguments.Number 4294967295) k e)) wrong)
     least (suc (suc other)) k f e wrong = absurd cc
 
 -- ---- the texts
@@ -406,7 +408,8 @@ new_first = first_of_words four_names 4 (words_of (codes "num d 1")) (codes "num
     by_name faults.Names wrong = omega arith
     by_name _ wrong = absurd wrong
 
-    by_number : (f : Kind) → ArgumentFault four_names 4 arguments.Number (codes "1") f → rank faults.Names ≤ rank f
+    by_number : (f : Kind) → ArgumentFault four_names 4 (arguments.Number 4294967295) (codes "1") f
+        → rank faults.Names ≤ rank f
     by_number faults.Number none = absurd (none 1 is)
     by_number faults.Range (n, number, out) =
         absurd (in_range (number_is (codes "1") 1 n refl (omega arith) number) out)
@@ -423,7 +426,7 @@ new_first = first_of_words four_names 4 (words_of (codes "num d 1")) (codes "num
         (sym (some_is arguments.Defined k e)) wrong)
     least (suc zero) k f e wrong =
         by_number f (subst (λ (a : Argument). ArgumentFault four_names 4 a (codes "1") f)
-        (sym (some_is arguments.Number k e)) wrong)
+        (sym (some_is (arguments.Number 4294967295) k e)) wrong)
     least (suc (suc other)) k f e wrong = absurd cc
 
 abbrev names_text : List ℕ
@@ -436,7 +439,7 @@ unfolding digits
 num_line known name spelled none room =
     let root : length known ≡ unwrap_or (place_at known name) (length known) =
     ap (λ (o : Option ℕ). unwrap_or o (length known)) (sym none) in
-    let number : AreValuesOf known (arguments.Number ∷ []) (codes "1" ∷ []) (1 ∷ []) =
+    let number : AreValuesOf known (arguments.Number 4294967295 ∷ []) (codes "1" ∷ []) (1 ∷ []) =
     (((refl, omega arith), omega arith, omega arith), tt) in (
       calls.Num (length known) 1,
       record {

@@ -5,15 +5,15 @@ use Rattle.std.specs.List.{list_any}
 use Rattle.std.specs.Str.{bytes_eq}
 use Rattle.mako_model.specs.declared.call.Call.{Call}
 use Rattle.mako_reader.specs.Commands.{IsCommandLine}
-use Rattle.mako_reader.specs.declared.command.Argument.{Argument}
-use Rattle.mako_reader.specs.declared.command.Argument.TheVariants.{Defined, Read, Fields, Index, Number}
-use Rattle.mako_reader.specs.declared.command.Command.{Command}
+use Rattle.mako_text.specs.declared.command.Argument.{Argument}
+use Rattle.mako_text.specs.declared.command.Argument.TheVariants.{Defined, Read, Number}
+use Rattle.mako_text.specs.declared.command.Command.{Command}
 use Rattle.mako_script.specs.declared.fault.Kind.{Kind}
 use Rattle.mako_script.specs.declared.fault.Kind.TheVariants as faults
 use Rattle.mako_text.specs.Names.{is_name}
 use Rattle.mako_script.specs.Checks.{IsValue}
 use Rattle.mako_script.specs.Faults.{rank}
-use Rattle.mako_script.specs.Lines.{greatest, word_in, HasArgument, IsCommand}
+use Rattle.mako_script.specs.Lines.{word_in, HasArgument, IsCommand}
 use Rattle.mako_reader.specs.Words.{IsNumber}
 
 abbrev pub is_among : List (List ℕ) → List ℕ → Bool
@@ -23,9 +23,7 @@ is_among names word = list_any (λ name. bytes_eq name word) names
 abbrev pub IsArgument : List (List ℕ) → ℕ → Argument → List ℕ → Type 0
 IsArgument names roots Defined word = (is_name word ≡ true) × ((is_among names word ≡ true) ⊎ (length names < roots))
 IsArgument names roots Read word = (is_name word ≡ true) × (is_among names word ≡ true)
-IsArgument names roots Fields word = (n : ℕ) × IsValue 0 14 word (Ok n)
-IsArgument names roots Index word = (n : ℕ) × IsValue 0 13 word (Ok n)
-IsArgument names roots Number word = (n : ℕ) × IsValue 0 4294967295 word (Ok n)
+IsArgument names roots (Number greatest) word = (n : ℕ) × IsValue 0 greatest word (Ok n)
 
 -- what is wrong with a word as an argument of this kind
 abbrev pub ArgumentFault : List (List ℕ) → ℕ → Argument → List ℕ → Kind → Type 0
@@ -36,9 +34,7 @@ ArgumentFault names roots Defined word fault = ⊥
 ArgumentFault names roots Read word faults.Word = is_name word ≡ false
 ArgumentFault names roots Read word faults.Undefined = (is_name word ≡ true) × (is_among names word ≡ false)
 ArgumentFault names roots Read word fault = ⊥
-ArgumentFault names roots Fields word fault = IsValue 0 14 word (Err fault)
-ArgumentFault names roots Index word fault = IsValue 0 13 word (Err fault)
-ArgumentFault names roots Number word fault = IsValue 0 4294967295 word (Err fault)
+ArgumentFault names roots (Number greatest) word fault = IsValue 0 greatest word (Err fault)
 
 -- the words may stand there as arguments of these kinds
 abbrev pub AreArguments : List (List ℕ) → ℕ → List Argument → List (List ℕ) → Type 0
@@ -66,11 +62,10 @@ told_first (Some first) (Some found) = if nat_lt (rank found) (rank first) then 
 abbrev pub CommandFault : List (List ℕ) → ℕ → List (List ℕ) → Kind → Type 0
 CommandFault names roots words faults.Word = (command : Command) → ¬ IsCommand words command
 CommandFault names roots words faults.Number =
-    (kind : Argument) × (word : List ℕ) × (most : ℕ) × HasArgument words kind word × (greatest kind ≡ Some most)
-    × ((n : ℕ) → ¬ IsNumber word n)
+    (word : List ℕ) × (greatest : ℕ) × HasArgument words (Number greatest) word × ((n : ℕ) → ¬ IsNumber word n)
 CommandFault names roots words faults.Range =
-    (kind : Argument) × (word : List ℕ) × (most : ℕ) × (n : ℕ) × HasArgument words kind word
-    × (greatest kind ≡ Some most) × IsNumber word n × (most < n)
+    (word : List ℕ) × (greatest : ℕ) × (n : ℕ) × HasArgument words (Number greatest) word × IsNumber word n
+    × (greatest < n)
 CommandFault names roots words faults.Undefined = (name : List ℕ) × HasArgument words Read name
     × (is_among names name ≡ false)
 CommandFault names roots words faults.Names =

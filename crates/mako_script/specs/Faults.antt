@@ -1,5 +1,5 @@
 -- What may be wrong with a text, and which fault is the first.
-use Rattle.std.specs.Prelude.{◌≡◌, ◌≢◌, ℕ, ◌+◌, ◌<◌, ◌≤◌, ◌&&◌, ◌==◌, ◌⊎◌, Bool, false, nat_le, List, [], ◌∷◌, Some}
+use Rattle.std.specs.Prelude.{◌≡◌, ◌≢◌, ℕ, ◌+◌, ◌<◌, ◌≤◌, ◌&&◌, ◌==◌, ◌⊎◌, Bool, false, nat_le, List, [], ◌∷◌}
 use Rattle.std.specs.Prelude.{if◌then◌else◌}
 use Rattle.std.specs.List.{list_all}
 use Rattle.mako_shape.specs.Places.{total}
@@ -7,14 +7,13 @@ use Rattle.mako_shape.specs.Limits.{all_entries, max_entries, max_words}
 use Rattle.mako_script.specs.declared.fault.Kind.{Kind}
 use Rattle.mako_script.specs.declared.fault.Kind.TheVariants.{Header, NotAscii, Word, Number, Range, Names, Undefined}
 use Rattle.mako_script.specs.declared.fault.Kind.TheVariants.{NoMutator, Unclosed, Many, Entries, Words, Long}
-use Rattle.mako_reader.specs.declared.command.Argument.{Argument}
-use Rattle.mako_reader.specs.declared.command.Argument.TheVariants as arguments
-use Rattle.mako_reader.specs.declared.command.Command.{Command}
+use Rattle.mako_text.specs.declared.command.Argument.TheVariants as arguments
+use Rattle.mako_text.specs.declared.command.Command.{Command}
 use Rattle.mako_text.specs.Texts.{mutator_word, end_word}
 use Rattle.mako_reader.specs.Parts.{numbers_in}
 use Rattle.mako_reader.specs.Words.{IsNumber, lines_of}
 use Rattle.mako_script.specs.Lines.{line_in, words_at, word_in, ended, key_at, AreSettings, IsIn, IsBetween}
-use Rattle.mako_script.specs.Lines.{sections_before, commands_before, greatest, IsCommand, HasArgument, IsDefined}
+use Rattle.mako_script.specs.Lines.{sections_before, commands_before, IsCommand, HasArgument, IsDefined}
 use Rattle.mako_script.specs.Lines.{AreDefined}
 
 abbrev pub is_printable : ℕ → Bool
@@ -24,8 +23,8 @@ is_printable c = nat_le 32 c && nat_le c 126
 abbrev pub ShouldBe : List (List ℕ) → ℕ → List ℕ → ℕ × ℕ → Type 0
 ShouldBe lines at word range =
     ((at < 11) × (word ≡ word_in (words_at lines at) 1) × (range ≡ (key_at at).1))
-    ⊎ ((from : ℕ) × (kind : Argument) × IsIn lines from at × HasArgument (words_at lines at) kind word × (range.0 ≡ 0)
-    × (greatest kind ≡ Some range.1))
+    ⊎ ((from : ℕ) × IsIn lines from at × HasArgument (words_at lines at) (arguments.Number range.1) word
+    × (range.0 ≡ 0))
 
 -- the setting is not its key and one word
 abbrev pub IsNoSetting : List (List ℕ) → ℕ → Type 0

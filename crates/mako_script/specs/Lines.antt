@@ -1,15 +1,15 @@
 -- Where a line stands in a text that may be no script. Lines are counted from 0; behind the last line feed there is one
 -- piece more.
 use Rattle.std.specs.Prelude.{◌≡◌, ◌≢◌, ℕ, ◌+◌, ◌-◌, ◌<◌, ◌≤◌, ◌&&◌, ◌⊎◌, true, not, List, [], length, take, drop}
-use Rattle.std.specs.Prelude.{slice_get, slice_index, slice_index_or, count_by, Option, Some, None}
+use Rattle.std.specs.Prelude.{slice_get, slice_index, slice_index_or, count_by, Some}
 use Rattle.std.specs.Str.{bytes_eq}
-use Rattle.mako_reader.specs.declared.command.Command.{Command}
-use Rattle.mako_reader.specs.declared.command.Argument.{Argument}
-use Rattle.mako_reader.specs.declared.command.Argument.TheVariants.{Defined, Read, Fields, Index, Number}
+use Rattle.mako_text.specs.declared.command.Command.{Command}
+use Rattle.mako_text.specs.declared.command.Argument.{Argument}
+use Rattle.mako_text.specs.declared.command.Argument.TheVariants.{Defined, Read, Number}
 use Rattle.mako_text.specs.Names.{is_name, name_of, board_name}
 use Rattle.mako_text.specs.Texts.{mutator_word, end_word}
 use Rattle.mako_text.specs.Keys.{keys}
-use Rattle.mako_reader.specs.Commands.{kinds_of, word_of}
+use Rattle.mako_text.specs.Commands.{kinds_of, word_of}
 use Rattle.mako_reader.specs.Words.{IsNumber, words_of}
 
 abbrev pub line_in : List (List ℕ) → ℕ → List ℕ
@@ -63,20 +63,18 @@ commands_before lines at =
 
 -- ---- commands
 
--- the greatest number that may stand there, or none where there is a name
-abbrev pub greatest : Argument → Option ℕ
-greatest Defined = None
-greatest Read = None
-greatest Fields = Some 14
-greatest Index = Some 13
-greatest Number = Some 4294967295
+-- the word is spelled as a name, where an argument of this kind is one
+abbrev pub IsSpelled : Argument → List ℕ → Type 0
+IsSpelled Defined word = is_name word ≡ true
+IsSpelled Read word = is_name word ≡ true
+IsSpelled (Number greatest) word = Unit {0}
 
 -- the words are those of this command, with names where there should be names
 pub record IsCommand (words : List (List ℕ)) (command : Command) : Type 0 where
   pub named : word_in words 0 ≡ word_of command
   pub count : length words ≡ length (kinds_of command) + 1
-  pub names : (place : ℕ) → (kind : Argument) → slice_get (kinds_of command) place ≡ Some kind → greatest kind ≡ None
-      → is_name (word_in words (place + 1)) ≡ true
+  pub spelled : (place : ℕ) → (kind : Argument) → slice_get (kinds_of command) place ≡ Some kind
+      → IsSpelled kind (word_in words (place + 1))
 
 -- a command has this word as an argument of this kind
 abbrev pub HasArgument : List (List ℕ) → Argument → List ℕ → Type 0

@@ -22,13 +22,13 @@ ghost use Rattle.mako_shape.specs.Limits.{AllInRange, all_entries, max_entries};
 
 use crate::fault::Kind;
 use arrayvec::ArrayVec;
-use mako_reader::command::{Argument, Command};
 use mako_reader::lines::{next_line, next_word, split_word};
 use mako_reader::names::is_spelled_as_name;
 use mako_reader::numbers::number;
 use mako_reader::section::{MAX_COMMANDS, MAX_SECTIONS};
 use mako_reader::settings::numbers_of;
 use mako_shape::{Shape, ShapeFault};
+use mako_text::command::{Argument, Command, MAX_ARGUMENTS};
 use mako_text::keys::{KEYS, Key, SETTINGS};
 
 /// A fault, and the line that is told, counted from 1.
@@ -40,9 +40,6 @@ pub struct Fault {
 
 /// The most roots of a mutator.
 const MAX_ROOTS: usize = 32;
-
-/// No command has more arguments.
-const MAX_ARGUMENTS: usize = 3;
 
 /// The line of the last setting, at which faults of all settings together are told.
 const LAST_SETTING: u32 = 11;
@@ -183,9 +180,7 @@ fn argument_fault(names: &[&[u8]], roots: usize, kind: Argument, word: &[u8]) ->
         }
         Argument::Read if !is_among(names, word) => return Some(Kind::Undefined),
         Argument::Defined | Argument::Read => return None,
-        Argument::Fields => value(0, 14, word),
-        Argument::Index => value(0, 13, word),
-        Argument::Number => value(0, u32::MAX, word),
+        Argument::Number(greatest) => value(0, greatest, word),
     };
     match number {
         Ok(_) => None,
@@ -253,7 +248,7 @@ fn command<'a>(names: &[&[u8]], roots: usize, line: &'a [u8]) -> Result<Option<&
         (with_name (map (λ name. name.now) names.now) (option_map (λ name. name.now) new))) }
 {
     let (word, rest) = split_word(line);
-    let Ok(command) = Command::named(word) else {
+    let Some(command) = Command::named(word) else {
         return Err(Kind::Word);
     };
     let kinds = command.arguments();

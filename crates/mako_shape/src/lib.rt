@@ -9,7 +9,7 @@ mod numbers;
 mod shape;
 
 pub use fault::ShapeFault;
-pub use numbers::Numbers;
+pub use numbers::{Numbers, RANGES};
 pub use shape::Shape;
 
 #[cfg(test)]

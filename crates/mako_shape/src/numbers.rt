@@ -24,8 +24,8 @@ pub struct Numbers {
     pub generations: u32,
 }
 
-/// The least and the greatest value of each number, in the order of the fields.
-const RANGES: [(u32, u32); 10] = [
+/// The least and the greatest value of each of the ten numbers, in the order of the fields.
+pub const RANGES: [(u32, u32); 10] = [
     (1, 16),
     (1, 8),
     (1, 256),

@@ -13,7 +13,7 @@ use Rattle.mako_model.specs.declared.reply.Reply.{Reply}
 use Rattle.mako_model.specs.declared.reply.Reply.TheVariants.{Made, Full, Value, Done, NoRef, NoField, Cycle, Spent}
 use Rattle.mako_model.specs.declared.point.Point.{Point}
 use Rattle.mako_model.specs.Fronts.{Seen, answered_by}
-use Rattle.mako_text.specs.Texts.{command_word}
+use Rattle.mako_text.specs.Commands.{command_of, word_of}
 
 -- a reply's text, behind a space, if it has one
 abbrev pub reply_text : Reply → List ℕ
@@ -28,7 +28,7 @@ reply_text Spent = codes " spent"
 
 -- the line of a call and its reply
 abbrev pub point_text : Call × Reply → List ℕ
-point_text p = command_word p.0 ++ reply_text p.1 ++ 10 ∷ []
+point_text p = word_of (command_of p.0) ++ reply_text p.1 ++ 10 ∷ []
 
 -- the line that begins a mutator's section
 abbrev pub mutator_line : ℕ → List ℕ

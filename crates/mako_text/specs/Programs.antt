@@ -1,7 +1,10 @@
 -- The programs of a script: the names of their roots, and their calls.
-use Rattle.std.specs.Prelude.{◌≡◌, ℕ, ◌+◌, ◌<◌, ◌≤◌, ◌^◌, max, List, [], ◌∷◌, length}
+use Rattle.std.specs.Prelude.{◌≡◌, ℕ, ◌+◌, ◌<◌, ◌≤◌, max, if◌then◌else◌, List, [], ◌∷◌, length, slice_index}
+use Rattle.std.specs.List.{AllByRecursion}
 use Rattle.mako_model.specs.declared.call.Call.{Call}
-use Rattle.mako_model.specs.declared.call.Call.TheVariants.{New, Num, CopyRoot, DropRoot, Get, Put, Show, Collect}
+use Rattle.mako_text.specs.declared.command.Argument.{Argument}
+use Rattle.mako_text.specs.declared.command.Argument.TheVariants.{Defined, Read, Number}
+use Rattle.mako_text.specs.Commands.{arguments_of, command_of, defines, values_of}
 use Rattle.mako_text.specs.Names.{AreNames}
 
 -- the names of a program's roots by their numbers, as bytes, and its calls
@@ -9,28 +12,21 @@ pub record ProgramView : Type 0 where
   pub names : List (List ℕ)
   pub calls : List Call
 
--- with so many names defined, roots that are read have a name, one that is set has a name or gets the next, and numbers
--- are in range
+-- with so many names defined, an argument may have this value: a name that is read is one of them, one that is set is
+-- one of them or the next, and a number is in range
+abbrev pub IsAllowed : ℕ → Argument × ℕ → Type 0
+IsAllowed defined (Defined, root) = root ≤ defined
+IsAllowed defined (Read, root) = root < defined
+IsAllowed defined (Number greatest, value) = value ≤ greatest
+
+-- each argument of a call may have its value
 abbrev pub IsCall : ℕ → Call → Type 0
-IsCall defined (New root fields) = (root ≤ defined) × (fields ≤ 14)
-IsCall defined (Num root value) = (root ≤ defined) × (value < 2 ^ 32)
-IsCall defined (CopyRoot to from) = (to ≤ defined) × (from < defined)
-IsCall defined (DropRoot root) = root < defined
-IsCall defined (Get to from field) = (to ≤ defined) × (from < defined) × (field ≤ 13)
-IsCall defined (Put to field from) = (to < defined) × (field ≤ 13) × (from < defined)
-IsCall defined (Show root) = root < defined
-IsCall defined Collect = Unit {0}
+IsCall defined call = AllByRecursion (IsAllowed defined) (arguments_of call)
 
 -- how many names are defined behind a call
 abbrev pub defined_after : ℕ → Call → ℕ
-defined_after defined (New root fields) = max defined (root + 1)
-defined_after defined (Num root value) = max defined (root + 1)
-defined_after defined (CopyRoot to from) = max defined (to + 1)
-defined_after defined (DropRoot root) = defined
-defined_after defined (Get to from field) = max defined (to + 1)
-defined_after defined (Put to field from) = defined
-defined_after defined (Show root) = defined
-defined_after defined Collect = defined
+defined_after defined call =
+    if defines (command_of call) then max defined (slice_index (values_of call) 0 + 1) else defined
 
 -- from so many names on, the calls define the others in order, up to so many
 abbrev pub AreCalls : ℕ → List Call → ℕ → Type 0

@@ -1,9 +1,13 @@
 -- The one spelling of each script.
-use Rattle.std.specs.Prelude.{◌≡◌, ℕ, List, [], ◌∷◌, ◌++◌, map, codes}
+use Rattle.std.specs.Prelude.{◌≡◌, ℕ, List, [], ◌∷◌, ◌++◌, drop, map, zip, codes}
 use Rattle.std.specs.List.{flat_map, join_with_byte}
 use Rattle.std.specs.Fmt.{decimal}
 use Rattle.mako_model.specs.declared.call.Call.{Call}
-use Rattle.mako_model.specs.declared.call.Call.TheVariants.{New, Num, CopyRoot, DropRoot, Get, Put, Show, Collect}
+use Rattle.mako_text.specs.declared.command.Argument.{Argument}
+use Rattle.mako_text.specs.declared.command.Argument.TheVariants.{Defined, Read, Number}
+use Rattle.mako_text.specs.Commands.{arguments_of, command_of, word_of}
+use Rattle.mako_shape.specs.Limits.{fields}
+use Rattle.mako_text.specs.Keys.{key_words}
 use Rattle.mako_text.specs.Names.{name_of}
 use Rattle.mako_text.specs.Programs.{ProgramView}
 use Rattle.mako_text.specs.Scripts.{ScriptView, IsProper}
@@ -12,50 +16,30 @@ use Rattle.mako_text.specs.Scripts.{ScriptView, IsProper}
 abbrev pub line_text : List (List ℕ) → List ℕ
 line_text words = join_with_byte 32 words ++ 10 ∷ []
 
+-- the numbers of the settings: the version, those of the geometry but the mutators, and the fields of the board
+abbrev pub setting_values : ScriptView → List ℕ
+setting_values s = 1 ∷ drop 1 (fields s.numbers) ++ s.board ∷ []
+
 -- the keys of the first eleven lines, each with its number
 abbrev pub settings : ScriptView → List (List ℕ × ℕ)
-settings s =
-    (codes "mako", 1)
-    ∷ (codes "servers", s.numbers.servers)
-    ∷ (codes "tablets", s.numbers.tablets)
-    ∷ (codes "entries", s.numbers.entries)
-    ∷ (codes "words", s.numbers.words)
-    ∷ (codes "spare", s.numbers.spare)
-    ∷ (codes "ring", s.numbers.ring)
-    ∷ (codes "roots", s.numbers.roots)
-    ∷ (codes "cycles", s.numbers.cycles)
-    ∷ (codes "gens", s.numbers.generations)
-    ∷ (codes "board", s.board)
-    ∷ []
+settings s = zip key_words (setting_values s)
 
 -- the words of a setting's line
 abbrev pub setting_words : List ℕ × ℕ → List (List ℕ)
 setting_words setting = setting.0 ∷ decimal setting.1 ∷ []
 
--- the word of a call's command
-abbrev pub command_word : Call → List ℕ
-command_word (New root fields) = codes "new"
-command_word (Num root value) = codes "num"
-command_word (CopyRoot to from) = codes "copy"
-command_word (DropRoot root) = codes "drop"
-command_word (Get to from field) = codes "get"
-command_word (Put to field from) = codes "put"
-command_word (Show root) = codes "show"
-command_word Collect = codes "collect"
+-- the word of an argument, with these names for the roots
+abbrev pub argument_word : List (List ℕ) → Argument × ℕ → List ℕ
+argument_word names (Defined, root) = name_of names root
+argument_word names (Read, root) = name_of names root
+argument_word names (Number greatest, value) = decimal value
 
--- the words behind it, with these names for the roots
 abbrev pub argument_words : List (List ℕ) → Call → List (List ℕ)
-argument_words names (New root fields) = name_of names root ∷ decimal fields ∷ []
-argument_words names (Num root value) = name_of names root ∷ decimal value ∷ []
-argument_words names (CopyRoot to from) = name_of names to ∷ name_of names from ∷ []
-argument_words names (DropRoot root) = name_of names root ∷ []
-argument_words names (Get to from field) = name_of names to ∷ name_of names from ∷ decimal field ∷ []
-argument_words names (Put to field from) = name_of names to ∷ decimal field ∷ name_of names from ∷ []
-argument_words names (Show root) = name_of names root ∷ []
-argument_words names Collect = []
+argument_words names call = map (argument_word names) (arguments_of call)
 
+-- the words of a call
 abbrev pub command_words : List (List ℕ) → Call → List (List ℕ)
-command_words names call = command_word call ∷ argument_words names call
+command_words names call = word_of (command_of call) ∷ argument_words names call
 
 abbrev pub mutator_word : List ℕ
 mutator_word = codes "mutator"

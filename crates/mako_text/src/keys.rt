@@ -1,5 +1,7 @@
 //! The keys of the first eleven lines of a script, each with the range of its number.
 
+use mako_shape::RANGES;
+
 /// How many lines there are.
 pub const SETTINGS: usize = 11;
 
@@ -20,48 +22,48 @@ pub const KEYS: [Key; SETTINGS] = [
     },
     Key {
         word: b"servers",
-        low: 1,
-        high: 8,
+        low: RANGES[1].0,
+        high: RANGES[1].1,
     },
     Key {
         word: b"tablets",
-        low: 1,
-        high: 256,
+        low: RANGES[2].0,
+        high: RANGES[2].1,
     },
     Key {
         word: b"entries",
-        low: 1,
-        high: 1024,
+        low: RANGES[3].0,
+        high: RANGES[3].1,
     },
     Key {
         word: b"words",
-        low: 16,
-        high: 65_536,
+        low: RANGES[4].0,
+        high: RANGES[4].1,
     },
     Key {
         word: b"spare",
-        low: 1,
-        high: 8,
+        low: RANGES[5].0,
+        high: RANGES[5].1,
     },
     Key {
         word: b"ring",
-        low: 1,
-        high: 64,
+        low: RANGES[6].0,
+        high: RANGES[6].1,
     },
     Key {
         word: b"roots",
-        low: 1,
-        high: 32,
+        low: RANGES[7].0,
+        high: RANGES[7].1,
     },
     Key {
         word: b"cycles",
-        low: 0,
-        high: 1_048_575,
+        low: RANGES[8].0,
+        high: RANGES[8].1,
     },
     Key {
         word: b"gens",
-        low: 1,
-        high: 1_048_575,
+        low: RANGES[9].0,
+        high: RANGES[9].1,
     },
     Key {
         word: b"board",

@@ -1,6 +1,7 @@
 //! Scripts as values: their geometry and programs, their one text, and the printed output of a run.
 #![tactic(auto)]
 
+pub mod command;
 pub mod keys;
 pub mod line;
 mod output;

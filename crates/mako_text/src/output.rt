@@ -11,11 +11,11 @@ ghost use Rattle.mako_words.specs.Names.{name_text};
 ghost use Rattle.mako_words.specs.Values.{value_text};
 ghost use Rattle.mako_model.specs.Fronts.{FollowsPrograms};
 ghost use Rattle.mako_model.specs.Outcomes.{IsWhole, AreCyclesOfFront, reply_lists};
-ghost use Rattle.mako_text.specs.Texts.{command_word};
 ghost use Rattle.mako_text.specs.Outputs.{point_text, reply_text, mutator_line, freed_text, cycle_text, last_line};
 ghost use Rattle.mako_text.specs.Outputs.{output_text, WentOut};
 ghost use Rattle.mako_text.specs.Written.{Writes, lines_text, sections_text, FitPrograms};
 
+use crate::command::Command;
 use crate::line::{Line, add, add_number};
 use crate::program::Program;
 use crate::script::Script;
@@ -44,22 +44,6 @@ fn add_value(line: &mut Line, value: Value)
         Value::Null => add(line, b"null"),
         Value::Num(number) => add_number(line, u64::from(number)),
         Value::Ref(name) => add_name(line, name),
-    }
-}
-
-pub fn command_bytes(call: &Call) -> &'static [u8]
-    ensures word { result.now ≡ command_word call.now }
-    ensures short { length result.now ≤ 7 }
-{
-    match call {
-        Call::New { .. } => b"new",
-        Call::Num { .. } => b"num",
-        Call::CopyRoot { .. } => b"copy",
-        Call::DropRoot { .. } => b"drop",
-        Call::Get { .. } => b"get",
-        Call::Put { .. } => b"put",
-        Call::Show { .. } => b"show",
-        Call::Collect => b"collect",
     }
 }
 
@@ -95,7 +79,7 @@ fn point_line(call: &Call, reply: &Reply) -> Line
     ensures { result.items ≡ point_text (call.now, reply.now) }
 {
     let mut line = Line::new();
-    add(&mut line, command_bytes(call));
+    add(&mut line, Command::of(call).word());
     add_reply(&mut line, reply);
     add(&mut line, b"\n");
     line

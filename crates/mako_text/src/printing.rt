@@ -1,17 +1,17 @@
 //! The printer of scripts.
 
-ghost use Rattle.std.specs.Prelude.{◌≡◌, ◌≤◌, ◌∷◌, ◌++◌, length, map, OnOk, IfOk};
+ghost use Rattle.std.specs.Prelude.{◌≡◌, ◌≤◌, ◌∷◌, ◌++◌, length, map, zip, OnOk, IfOk};
 ghost use Rattle.std.specs.Fmt.{decimal};
 ghost use Rattle.std.specs.List.{flat_map};
 ghost use Rattle.mako_text.specs.Names.{name_of, texts};
 ghost use Rattle.mako_text.specs.Programs.{ProgramView};
-ghost use Rattle.mako_text.specs.Texts.{IsScript, argument_words, command_word, command_words, line_text};
-ghost use Rattle.mako_text.specs.Texts.{section_lines, setting_words};
+ghost use Rattle.mako_text.specs.Texts.{IsScript, argument_word, command_words, line_text};
+ghost use Rattle.mako_text.specs.Texts.{section_lines, setting_values, setting_words};
 ghost use Rattle.mako_text.specs.Keys.{keys, key_view};
-ghost use Rattle.mako_text.specs.Printed.{values_of, words_text, setting_lines};
+ghost use Rattle.mako_text.specs.Printed.{setting_lines};
 
+use crate::command::{Argument, Command, values_of};
 use crate::keys::{KEYS, Key, SETTINGS};
-use crate::output::command_bytes;
 use crate::program::Program;
 use crate::script::Script;
 use indexmap::IndexSet;
@@ -20,61 +20,55 @@ use mako_model::Call;
 use mako_words::Memory;
 use std::alloc::{AllocError, Global};
 
-/// Adds a space and the name of a root.
-fn add_name(text: &mut Vec<u8>, names: &IndexSet<String>, root: u8) -> Result<(), AllocError>
-    ensures { OnOk result (text.new.items ≡ text.old.items ++ 32 ∷ name_of (texts names.now) root) }
+/// Adds the name of a root.
+fn add_name(text: &mut Vec<u8>, names: &IndexSet<String>, root: u32) -> Result<(), AllocError>
+    ensures { OnOk result (text.new.items ≡ text.old.items ++ name_of (texts names.now) root) }
 {
-    text.push(b' ')?;
-    match names.get_index(usize::from(root)) {
+    match names.get_index(root as usize) {
         Some(name) => text.extend_from_slice(name.as_bytes()),
         None => Ok(()),
     }
 }
 
-/// Adds a space and a number.
+/// Adds a number.
 fn add_number(text: &mut Vec<u8>, number: u32) -> Result<(), AllocError>
-    ensures { OnOk result (text.new.items ≡ text.old.items ++ 32 ∷ decimal number) }
+    ensures { OnOk result (text.new.items ≡ text.old.items ++ decimal number) }
 {
-    text.push(b' ')?;
     let mut digits = Buffer::new();
     text.extend_from_slice(digits.format(number).as_bytes())
 }
 
-/// Adds the arguments of a call, each behind a space.
+/// Adds an argument behind a space.
+fn add_argument(
+    text: &mut Vec<u8>,
+    names: &IndexSet<String>,
+    kind: Argument,
+    value: u32,
+) -> Result<(), AllocError>
+    ensures { OnOk result (text.new.items ≡ text.old.items ++ 32 ∷ argument_word (texts names.now) (kind, value)) }
+{
+    text.push(b' ')?;
+    match kind {
+        Argument::Defined | Argument::Read => add_name(text, names, value),
+        Argument::Number(_) => add_number(text, value),
+    }
+}
+
+/// Adds arguments of these kinds with these values, each behind a space.
 fn add_arguments(
     text: &mut Vec<u8>,
     names: &IndexSet<String>,
-    call: &Call,
+    kinds: &[Argument],
+    values: &[u32],
 ) -> Result<(), AllocError>
-    ensures { OnOk result (text.new.items ≡ text.old.items ++ words_text (argument_words (texts names.now) call.now)) }
+    requires { length kinds.now ≡ length values.now }
+    ensures { OnOk result (text.new.items ≡ text.old.items
+        ++ flat_map (λ a. 32 ∷ argument_word (texts names.now) a) (zip kinds.now values.now)) }
 {
-    match call {
-        Call::New { root, fields } => {
-            add_name(text, names, *root)?;
-            add_number(text, u32::from(*fields))
-        }
-        Call::Num { root, value } => {
-            add_name(text, names, *root)?;
-            add_number(text, *value)
-        }
-        Call::CopyRoot { to, from } => {
-            add_name(text, names, *to)?;
-            add_name(text, names, *from)
-        }
-        Call::DropRoot { root } => add_name(text, names, *root),
-        Call::Get { to, from, field } => {
-            add_name(text, names, *to)?;
-            add_name(text, names, *from)?;
-            add_number(text, u32::from(*field))
-        }
-        Call::Put { to, field, from } => {
-            add_name(text, names, *to)?;
-            add_number(text, u32::from(*field))?;
-            add_name(text, names, *from)
-        }
-        Call::Show { root } => add_name(text, names, *root),
-        Call::Collect => Ok(()),
+    for i in 0..kinds.len() {
+        add_argument(text, names, kinds[i], values[i])?;
     }
+    Ok(())
 }
 
 /// Adds the line of a call.
@@ -82,8 +76,9 @@ fn add_arguments(
 fn add_call(text: &mut Vec<u8>, names: &IndexSet<String>, call: &Call) -> Result<(), AllocError>
     ensures { OnOk result (text.new.items ≡ text.old.items ++ line_text (command_words (texts names.now) call.now)) }
 {
-    text.extend_from_slice(command_bytes(call))?;
-    add_arguments(text, names, call)?;
+    let command = Command::of(call);
+    text.extend_from_slice(command.word())?;
+    add_arguments(text, names, command.arguments(), &values_of(call))?;
     text.push(b'\n')?;
     Ok(())
 }
@@ -122,7 +117,7 @@ fn add_sections(text: &mut Vec<u8>, programs: &[Program]) -> Result<(), AllocErr
 
 /// The numbers of the settings, in the order of their lines.
 fn values_in(script: &Script) -> [u32; SETTINGS]
-    ensures { result ≡ values_of script.now }
+    ensures { result ≡ setting_values script.now }
 {
     let numbers = script.shape.numbers();
     [
@@ -145,6 +140,7 @@ fn add_setting(text: &mut Vec<u8>, key: &[u8], value: u32) -> Result<(), AllocEr
     ensures { OnOk result (text.new.items ≡ text.old.items ++ line_text (setting_words (key.now, value))) }
 {
     text.extend_from_slice(key)?;
+    text.push(b' ')?;
     add_number(text, value)?;
     text.push(b'\n')?;
     Ok(())

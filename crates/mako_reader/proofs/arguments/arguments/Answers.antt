@@ -1,7 +1,7 @@
 use Rattle.std.proofs.Common.{◌≤◌, [], ℕ, List, length, take, subst, sym, ap, arith}
 use Rattle.std.proofs.lemmas.List.{get_or_default, take_all}
 use Rattle.mako_text.specs.Names.{texts}
-use Rattle.mako_reader.specs.declared.command.Argument.{Argument}
+use Rattle.mako_text.specs.declared.command.Argument.{Argument}
 use Rattle.mako_reader.specs.Commands.{AreValuesOf, ReadsWord}
 use Rattle.mako_reader.specs.Finds.{ReadsEach}
 use Rattle.mako_reader.specs.Words.{words_behind}

@@ -1,36 +1,25 @@
-use Rattle.std.proofs.Common.{Bool, arith, ◌≡◌, ◌∷◌, [], ℕ, List, get_or, sym, ap, subst, ◌∙◌}
+use Rattle.std.proofs.Common.{Bool, arith, ◌≡◌, ◌∷◌, ℕ, List, sym, ap, subst, ◌∙◌}
 use Rattle.mako_text.specs.Names.{texts}
-use Rattle.mako_reader.specs.declared.command.Argument.{Argument}
-use Rattle.mako_reader.specs.declared.command.Command.{Command}
-use Rattle.mako_reader.specs.Commands.{AreValuesOf, DefinesFirst, FitCall, IsCommandLine, call_of, kinds_of, word_of}
+use Rattle.mako_text.specs.declared.command.Argument.{Argument}
+use Rattle.mako_text.specs.declared.command.Command.{Command}
+use Rattle.mako_text.specs.Commands.{FitCall, call_of, kinds_of}
+use Rattle.mako_reader.specs.Commands.{AreValuesOf, DefinesFirst, IsCommandLine}
 use Rattle.mako_reader.specs.Words.{words_behind, words_of}
 use Rattle.mako_reader.proofs.Values.{arguments_fit, line_parts, stops}
 use Rattle.mako_reader.proofs.arguments.command.Goals as goal
-
-pub returns-in_err-command : goal.returns-in_err-command
-returns-in_err-command c =
-    let words = words_of c.args.line.now in
-    (stops _ c.from_residual.result _ c.from_residual.ensures.1
-    (λ (command : Command). c.split_word.result.0.now ≡ word_of command)
-    (IsCommandLine c.args.roots (texts c.args.names.now) words)
-    (λ read line. (
-      line.command,
-      ap (λ (ws : List (List ℕ)). get_or ws 0 []) (sym c.split_word.ensures
-          ∙ line.words_are),
-    )) c.in_err-command.ensures.read)
 
 pub returns-in_err-values : goal.returns-in_err-values
 returns-in_err-values c =
     let words = words_of c.args.line.now in
     let names = texts c.args.names.now in
     let behind = words_behind c.split_word.result.1.now in
-    (stops _ c.from_residual-in_err-values.result _ c.from_residual-in_err-values.ensures.1
+    (stops _ c.from_residual.result _ c.from_residual.ensures.1
     (AreValuesOf names c.arguments.result.now behind) (IsCommandLine c.args.roots names words)
     (λ read line. (
       line.values,
       subst (λ (kinds : List Argument). AreValuesOf names kinds behind line.values) (sym c.arguments.ensures)
-          (line_parts c.args.roots names words c.split_word.result.0.now behind c.in_ok-command.command read
-          c.split_word.ensures c.in_ok-command.ensures.read line).0,
+          (line_parts c.args.roots names words c.split_word.result.0.now behind c.in-Some.command read
+          c.split_word.ensures c.in-Some.ensures.some line).0,
     )) c.in_err-values.ensures)
 
 pub returns-in_err-define_first : goal.returns-in_err-define_first
@@ -43,8 +32,8 @@ returns-in_err-define_first c =
     (λ read line. (
       read.1,
       subst (λ (b : Bool). DefinesFirst b c.args.roots names behind read.1) (sym c.defines.ensures)
-          (line_parts c.args.roots names words c.split_word.result.0.now behind c.in_ok-command.command read
-          c.split_word.ensures c.in_ok-command.ensures.read line).1,
+          (line_parts c.args.roots names words c.split_word.result.0.now behind c.in-Some.command read
+          c.split_word.ensures c.in-Some.ensures.some line).1,
     )) c.in_err-define_first.ensures)
 
 -- the values are those of the command's arguments
@@ -58,10 +47,10 @@ pub call-requires : goal.call-requires
 call-requires c =
     let names = texts c.args.names.now in
     let behind = words_behind c.split_word.result.1.now in
-    let each = are names behind c.arguments.result.now c.in_ok-command.command c.in_ok-values.values.items
+    let each = are names behind c.arguments.result.now c.in-Some.command c.in_ok-values.values.items
     c.arguments.ensures c.in_ok-values.ensures in
-    subst (FitCall c.in_ok-command.command) (sym c.deref.ensures.0)
-    (arguments_fit c.in_ok-command.command names behind c.in_ok-values.values.items each
+    subst (FitCall c.in-Some.command) (sym c.deref.ensures.0)
+    (arguments_fit c.in-Some.command names behind c.in_ok-values.values.items each
     (omega (arith, c.requires)))
 
 pub returns : goal.returns
@@ -70,13 +59,13 @@ returns c =
     let behind = words_behind c.split_word.result.1.now in
     let word = c.split_word.result.0.now in
     record {
-      command = c.in_ok-command.command;
+      command = c.in-Some.command;
       behind = behind;
       values = c.in_ok-values.values.items;
-      words_are = c.split_word.ensures ∙ ap (λ (w : List ℕ). w ∷ behind) c.in_ok-command.ensures.read;
-      are = are names behind c.arguments.result.now c.in_ok-command.command c.in_ok-values.values.items
+      words_are = c.split_word.ensures ∙ ap (λ (w : List ℕ). w ∷ behind) c.in-Some.ensures.some;
+      are = are names behind c.arguments.result.now c.in-Some.command c.in_ok-values.values.items
           c.arguments.ensures c.in_ok-values.ensures;
-      call_is = c.call.ensures ∙ ap (call_of c.in_ok-command.command) c.deref.ensures.0;
+      call_is = c.call.ensures ∙ ap (call_of c.in-Some.command) c.deref.ensures.0;
       next = subst (λ (b : Bool). DefinesFirst b c.args.roots names behind
           (texts c.define_first.new.names)) c.defines.ensures c.in_ok-define_first.ensures;
     }
