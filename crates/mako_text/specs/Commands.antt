@@ -27,15 +27,13 @@ kinds_of Put = Read ∷ Number 13 ∷ Read ∷ []
 kinds_of Show = Read ∷ []
 kinds_of Collect = []
 
+abbrev pub begin_defined : List Argument → Bool
+begin_defined (Defined ∷ kinds) = true
+begin_defined _ = false
+
+-- whether the first argument is a name that the command defines
 abbrev pub defines : Command → Bool
-defines New = true
-defines Num = true
-defines Copy = true
-defines Drop = false
-defines Get = true
-defines Put = false
-defines Show = false
-defines Collect = false
+defines command = begin_defined (kinds_of command)
 
 -- the call of a command with these values of its arguments
 abbrev pub call_of : Command → List ℕ → Call

@@ -113,10 +113,7 @@ impl Command {
     pub fn defines(self) -> bool
         ensures { result ≡ defines self }
     {
-        matches!(
-            self,
-            Command::New | Command::Num | Command::Copy | Command::Get
-        )
+        matches!(self.arguments(), [Argument::Defined, ..])
     }
 
     /// The call with these values of its arguments.
