@@ -1,12 +1,12 @@
 -- What is spelled so is read again.
 use Rattle.std.proofs.Common.{◌≡◌, ℕ, zero, suc, ◌+◌, ◌^◌, ◌<◌, ◌≤◌, max, Bool, true, false, leb, eqb, ◌&&◌, get_or}
 use Rattle.std.proofs.Common.{List, [], ◌∷◌, ◌++◌, length, map, take, Option, Some, None, refl, sym, ap, ◌∙◌}
-use Rattle.std.proofs.Common.{append_assoc, arith, ⊎_elim}
+use Rattle.std.proofs.Common.{append_assoc, arith, ⊎_elim, subst, cond}
 use Rattle.std.proofs.Common.{drop, inl, inr, ltb}
-use Rattle.std.specs.Prelude.{codes, unwrap_or}
+use Rattle.std.specs.Prelude.{unwrap_or}
 use Rattle.std.specs.Fmt.{decimal}
 use Rattle.std.specs.Str.{bytes_eq, all_ascii_digits}
-use Rattle.std.specs.List.{join_with_byte, flat_map, AllByRecursion, list_all, slice_split}
+use Rattle.std.specs.List.{join_with_byte, flat_map, AllByRecursion, list_all, slice_split, zip}
 use Rattle.std.proofs.lemmas.Bool.{cases_lt}
 use Rattle.std.proofs.lemmas.Bool.Decides.{nat_tests}
 use Rattle.std.proofs.lemmas.List.Folds.{list_all-append}
@@ -17,16 +17,19 @@ use Rattle.std.proofs.lemmas.Fmt.{digits_decimal}
 use Rattle.mako_model.specs.declared.call.Call.{Call}
 use Rattle.mako_model.specs.declared.call.Call.TheVariants as calls
 use Rattle.mako_text.specs.declared.command.Command.{Command}
-use Rattle.mako_text.specs.declared.command.Command.TheVariants.{New, Num, Copy, Drop, Get, Put, Show, Collect}
-use Rattle.mako_text.specs.declared.command.Argument.TheVariants.{Defined, Read}
+use Rattle.mako_text.specs.declared.command.Command.TheVariants.{New}
+use Rattle.mako_text.specs.declared.command.Argument.{Argument}
+use Rattle.mako_text.specs.declared.command.Argument.TheVariants.{Defined, Read, Number}
 use Rattle.mako_text.specs.Names.{is_name, is_letter_or_digit, name_of, AreNames, board_name}
-use Rattle.mako_text.specs.Programs.{ProgramView, IsCall, defined_after, AreCalls, IsProgram}
+use Rattle.mako_text.specs.Programs.{ProgramView, IsAllowed, IsCall, defined_after, AreCalls, IsProgram}
 use Rattle.mako_text.specs.Texts.{command_words, end_word, mutator_word, section_lines, line_text, script_lines}
-use Rattle.mako_text.specs.Texts.{script_text, setting_values}
+use Rattle.mako_text.specs.Texts.{argument_word, argument_words, script_text, setting_values}
 use Rattle.mako_text.specs.Printed.{setting_lines}
 use Rattle.mako_text.specs.Scripts.{ScriptView, IsProper}
 use Rattle.mako_text.specs.Keys.{keys}
-use Rattle.mako_text.specs.Commands.{call_of, defines, kinds_of, word_of}
+use Rattle.mako_text.specs.Commands.{arguments_of, begin_defined, call_of, command_of, defines, kinds_of, values_of}
+use Rattle.mako_text.specs.Commands.{word_of}
+use Rattle.mako_text.proofs.Calls.{as_many, made_again}
 use Rattle.mako_reader.specs.Commands.{AreValuesOf, DefinesFirst, IsCommandLine, IsValueOf, place_at}
 use Rattle.mako_reader.specs.Parts.{lines_from}
 use Rattle.mako_reader.specs.Words.{IsWithin, lines_of, words_of}
@@ -210,77 +213,80 @@ command_by roots names words after c vs are next = record {
 number_arg : (high n : ℕ) → n ≤ high → high < 2 ^ 32 → IsWithin 0 high (decimal n) n
 number_arg high n small most = ((refl, omega arith), omega arith, small)
 
-module _ (final : List (List ℕ)) (are : AreNames final) (roots : ℕ) (few : length final ≤ roots) where
-  pub command_again : (k : ℕ) (call : Call) → k ≤ length final → IsCall k call → defined_after k call ≤ length final
+-- with so many names an argument is the root of one, or it is a number of at most 32 bits
+abbrev IsNamed : ℕ → Argument × ℕ → Type 0
+IsNamed names (Defined, root) = root < names
+IsNamed names (Read, root) = root < names
+IsNamed names (Number greatest, value) = greatest < 2 ^ 32
+
+-- the arguments of a call are, with the names behind it
+all_named : (k n : ℕ) (call : Call) → k ≤ n → IsCall k call → defined_after k call ≤ n
+    → AllByRecursion (IsNamed n) (arguments_of call)
+all_named k n calls.Collect within fits after = tt
+all_named k n _ within fits after = omega (arith, fits)
+
+module _ (final : List (List ℕ)) (are : AreNames final) (roots : ℕ) (few : length final ≤ roots) (k : ℕ)
+    (within : k ≤ length final) where
+  values_again : (kinds : List Argument) (vs : List ℕ) → length kinds ≡ length vs
+      → AllByRecursion (IsAllowed k) (zip kinds vs) → AllByRecursion (IsNamed (length final)) (zip kinds vs)
+      → AreValuesOf (take k final) kinds (map (argument_word final) (zip kinds vs)) vs
+  values_again [] [] same fits named = tt
+  values_again [] (v ∷ vs) same fits named = absurd (omega arith)
+  values_again (kind ∷ kinds) [] same fits named = absurd (omega arith)
+  values_again (Defined ∷ kinds) (v ∷ vs) same fits named =
+      (defined_again final are k within v fits.0 named.0, values_again kinds vs (omega arith) fits.1 named.1)
+  values_again (Read ∷ kinds) (v ∷ vs) same fits named =
+      (reads_again final are k within v fits.0, values_again kinds vs (omega arith) fits.1 named.1)
+  values_again (Number greatest ∷ kinds) (v ∷ vs) same fits named =
+      (number_arg greatest v fits.0 named.0, values_again kinds vs (omega arith) fits.1 named.1)
+
+  first_again : (kinds : List Argument) (vs : List ℕ) → length kinds ≡ length vs
+      → AllByRecursion (IsAllowed k) (zip kinds vs) → AllByRecursion (IsNamed (length final)) (zip kinds vs)
+      → DefinesFirst (begin_defined kinds) roots (take k final) (map (argument_word final) (zip kinds vs))
+      (take (cond (begin_defined kinds) (max k (get_or vs 0 0 + 1)) k) final)
+  first_again [] vs same fits named = refl
+  first_again (Read ∷ kinds) vs same fits named = refl
+  first_again (Number greatest ∷ kinds) vs same fits named = refl
+  first_again (Defined ∷ kinds) [] same fits named = absurd (omega arith)
+  first_again (Defined ∷ kinds) (v ∷ vs) same fits named =
+      define_again final are k within roots v (map (argument_word final) (zip kinds vs)) few fits.0 named.0
+
+  pub command_again : (call : Call) → IsCall k call → defined_after k call ≤ length final
       → IsCommandLine roots (take k final) (command_words final call) (call, take (defined_after k call) final)
-  command_again k (calls.New r n) within fits after =
-      command_by roots (take k final) _ _ New (r ∷ n ∷
-      []) (defined_again final are k within r fits.0 (omega arith), (number_arg 14 n fits.1.0 (omega arith), tt))
-      (define_again final are k within roots r (decimal n ∷ []) few fits.0 (omega arith))
-  command_again k (calls.Num r n) within fits after =
-      command_by roots (take k final) _ _ Num (r ∷ n ∷
-      []) (
-        defined_again final are k within r fits.0 (omega arith),
-        (number_arg 4294967295 n fits.1.0 (omega arith), tt),
-      )
-      (define_again final are k within roots r (decimal n ∷ []) few fits.0 (omega arith))
-  command_again k (calls.CopyRoot r n) within fits after =
-      command_by roots (take k final) _ _ Copy (r ∷ n ∷
-      []) (defined_again final are k within r fits.0 (omega arith), (reads_again final are k within n fits.1.0, tt))
-      (define_again final are k within roots r (name_of final n ∷ []) few fits.0 (omega arith))
-  command_again k (calls.DropRoot r) within fits after =
-      command_by roots (take k final) _ _ Drop (r ∷ []) (reads_again final are k within r fits.0, tt) refl
-  command_again k (calls.Get r n i) within fits after =
-      command_by roots (take k final) _ _ Get (r ∷ n ∷ i ∷
-      []) (
-        defined_again final are k within r fits.0 (omega arith),
-        (reads_again final are k within n fits.1.0, (number_arg 13 i fits.1.1.0 (omega arith), tt)),
-      )
-      (define_again final are k within roots r (name_of final n ∷ decimal i ∷ []) few fits.0 (omega arith))
-  command_again k (calls.Put r i n) within fits after =
-      command_by roots (take k final) _ _ Put (r ∷ i ∷ n ∷
-      []) (
-        reads_again final are k within r fits.0,
-        (number_arg 13 i fits.1.0 (omega arith), (reads_again final are k within n fits.1.1.0, tt)),
-      ) refl
-  command_again k (calls.Show r) within fits after =
-      command_by roots (take k final) _ _ Show (r ∷ []) (reads_again final are k within r fits.0, tt) refl
-  command_again k calls.Collect within fits after = command_by roots (take k final) [] _ Collect [] tt refl
+  command_again call fits after =
+      let kinds = kinds_of (command_of call) in
+      let named = all_named k (length final) call within fits after in
+      subst (λ (c : Call). IsCommandLine roots (take k final) (command_words final call)
+      (c, take (defined_after k call) final)) (made_again call)
+      (command_by roots (take k final) (argument_words final call)
+      (take (defined_after k call) final) (command_of call) (values_of call)
+      (values_again kinds (values_of call) (as_many call) fits named)
+      (first_again kinds (values_of call) (as_many call) fits named))
 
 -- ---- sections
 
--- the words of a command are words
-module _ (final : List (List ℕ)) (are : AreNames final) where
-  root_word : (r : ℕ) → r < length final → IsWord (name_of final r)
-  root_word r below = name_word (name_of final r) (are.spelled r below)
+letters : (command : Command) → list_all is_letter_or_digit (word_of command) ≡ true
+letters New = refl
+letters _ = refl
 
-  pub command_is_words : (k : ℕ) (call : Call) → k ≤ length final → IsCall k call → defined_after k call ≤ length final
+-- the words of a command are words
+module _ (final : List (List ℕ)) (are : AreNames final) (k : ℕ) (within : k ≤ length final) where
+  arguments_are_words : (arguments : List (Argument × ℕ)) → AllByRecursion (IsAllowed k) arguments
+      → AllByRecursion (IsNamed (length final)) arguments → AllByRecursion IsWord (map (argument_word final) arguments)
+  arguments_are_words [] fits named = tt
+  arguments_are_words ((Defined, v) ∷ rest) fits named =
+      (name_word (name_of final v) (are.spelled v named.0), arguments_are_words rest fits.1 named.1)
+  arguments_are_words ((Read, v) ∷ rest) fits named =
+      (name_word (name_of final v) (are.spelled v named.0), arguments_are_words rest fits.1 named.1)
+  arguments_are_words ((Number greatest, v) ∷ rest) fits named =
+      (decimal_word v (omega (arith, fits.0, named.0)), arguments_are_words rest fits.1 named.1)
+
+  pub command_is_words : (call : Call) → IsCall k call → defined_after k call ≤ length final
       → AllByRecursion IsWord (command_words final call)
-  command_is_words k (calls.New r n) within fits after =
-      (letters_word (codes "new") refl, (root_word r (omega arith), (decimal_word n (omega (arith, fits.1.0)), tt)))
-  command_is_words k (calls.Num r n) within fits after =
-      (letters_word (codes "num") refl, (root_word r (omega arith), (decimal_word n (omega (arith, fits.1.0)), tt)))
-  command_is_words k (calls.CopyRoot r n) within fits after =
-      (letters_word (codes "copy") refl, (root_word r (omega arith), (root_word n (omega (arith, fits.1.0)), tt)))
-  command_is_words k (calls.DropRoot r) within fits after =
-      (letters_word (codes "drop") refl, (root_word r (omega (arith, fits.0)), tt))
-  command_is_words k (calls.Get r n i) within fits after = (
-    letters_word (codes "get") refl,
-    (
-      root_word r (omega arith),
-      (root_word n (omega (arith, fits.1.0)), (decimal_word i (omega (arith, fits.1.1.0)), tt)),
-    ),
+  command_is_words call fits after = (
+    letters_word (word_of (command_of call)) (letters (command_of call)),
+    arguments_are_words (arguments_of call) fits (all_named k (length final) call within fits after),
   )
-  command_is_words k (calls.Put r i n) within fits after = (
-    letters_word (codes "put") refl,
-    (
-      root_word r (omega (arith, fits.0)),
-      (decimal_word i (omega (arith, fits.1.0)), (root_word n (omega (arith, fits.1.1.0)), tt)),
-    ),
-  )
-  command_is_words k (calls.Show r) within fits after =
-      (letters_word (codes "show") refl, (root_word r (omega (arith, fits.0)), tt))
-  command_is_words k calls.Collect within fits after = (letters_word (codes "collect") refl, tt)
 
 -- no command's line is the end of a section
 pub not_end : (names : List (List ℕ)) (call : Call)
@@ -350,7 +356,7 @@ calls_words : (final : List (List ℕ)) → AreNames final → (k : ℕ) (cs : L
 calls_words final are k [] within h = ((letters_word end_word refl, tt), tt)
 calls_words final are k (c ∷ cs) within h =
     let after : defined_after k c ≤ length final = at_most (defined_after k c) cs (length final) h.1 in
-    (command_is_words final are k c within h.0 after, calls_words final are (defined_after k c) cs after h.1)
+    (command_is_words final are k within c h.0 after, calls_words final are (defined_after k c) cs after h.1)
 
 pub all-append : {A : Type 0} (P : A → Type 0) (xs ys : List A) → AllByRecursion P xs → AllByRecursion P ys
     → AllByRecursion P (xs ++ ys)

@@ -165,16 +165,16 @@ module _ (roots : ℕ) (xs ys : List (List ℕ)) (are : AreNames xs) (too : AreN
       × (take (defined_after k c) xs ≡ take (defined_after k d) ys)
   same_call k c d inx iny same fits_c fits_d after_c after_d line =
       let words_c = words_again (word_of (command_of c)) (argument_words xs c)
-      (command_is_words xs are k c inx fits_c after_c) in
+      (command_is_words xs are k inx c fits_c after_c) in
       let words_d = words_again (word_of (command_of d)) (argument_words ys d)
-      (command_is_words ys too k d iny fits_d after_d) in
+      (command_is_words ys too k iny d fits_d after_d) in
       let words : command_words ys d ≡ command_words xs c = sym words_d ∙ ap words_of (sym line) ∙ words_c in
-      let one = command_again xs are roots few k c inx fits_c after_c in
+      let one = command_again xs are roots few k inx c fits_c after_c in
       let other : IsCommandLine roots (take k xs) (command_words xs c) (d, take (defined_after k d) ys) =
       subst (λ (ns : List (List ℕ)). IsCommandLine roots ns (command_words xs c) (d, take (defined_after k d) ys))
       (sym same)
       (subst (λ (ws : List (List ℕ)). IsCommandLine roots (take k ys) ws (d, take (defined_after k d) ys)) words
-      (command_again ys too roots short k d iny fits_d after_d)) in
+      (command_again ys too roots short k iny d fits_d after_d)) in
       let both = same_line roots (take k xs) (command_words xs c) (c, take (defined_after k c) xs)
       (d, take (defined_after k d) ys) one other in
       (ap (λ (x : Call × List (List ℕ)). x.0) both, ap (λ (x : Call × List (List ℕ)). x.1) both)
@@ -271,10 +271,10 @@ its_step roots count start names calls lines so_far p body = by t.rest t.spelled
         let final = p.0.names in
         let after = at_most (defined_after (length names) c) rest (length final) fits.1 in
         let words = words_again (word_of (command_of c)) (argument_words final c)
-        (command_is_words final body.program.names (length names) c t.within fits.0 after) in
+        (command_is_words final body.program.names (length names) t.within c fits.0 after) in
         let next = take (defined_after (length names) c) final in
         let read = command_again final body.program.names roots body.program.few
-        (length names) c t.within fits.0 after in
+        (length names) t.within c fits.0 after in
         let here = subst (λ (ns : List (List ℕ)). IsCommandLine roots ns
         (words_of (join_with_byte 32 (command_words final c))) (c, next)) t.names_are
         (subst (λ (ws : List (List ℕ)). IsCommandLine roots (take (length names) final) ws (c, next))

@@ -72,11 +72,11 @@ module _ (text : List ℕ) (roots : ℕ) (some : 1 ≤ roots) (printable : (at :
     calls_walk sections count k (c ∷ calls) line within fits room st =
         let after = at_most (defined_after k c) calls (length final) fits.1 in
         let words = words_again (word_of (command_of c)) (argument_words final c)
-        (command_is_words final are k c within fits.0 after) in
+        (command_is_words final are k within c fits.0 after) in
         let l = join_with_byte 32 (command_words final c) in
         let read = subst (λ (ws : List (List ℕ)). IsCommandLine roots (take k final) ws
         (c, take (defined_after k c) final)) (sym words)
-        (command_again final are roots few k c within fits.0 after) in
+        (command_again final are roots few k within c fits.0 after) in
         let inside = go_inside text roots sections count line (take k final) (rest_of (c ∷ calls)) st l (rest_of calls)
         (is_line line l (rest_of calls) (some_rest calls) st.reached.left_is) (not_end final c)
         (take (defined_after k c) final) (c, read) (omega arith) in
