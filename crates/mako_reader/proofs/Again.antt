@@ -24,7 +24,6 @@ use Rattle.mako_text.specs.Names.{is_name, is_letter_or_digit, name_of, AreNames
 use Rattle.mako_text.specs.Programs.{ProgramView, IsAllowed, IsCall, defined_after, AreCalls, IsProgram}
 use Rattle.mako_text.specs.Texts.{command_words, end_word, mutator_word, section_lines, line_text, script_lines}
 use Rattle.mako_text.specs.Texts.{argument_word, argument_words, script_text, setting_values}
-use Rattle.mako_text.specs.Printed.{setting_lines}
 use Rattle.mako_text.specs.Scripts.{ScriptView, IsProper}
 use Rattle.mako_text.specs.Keys.{keys}
 use Rattle.mako_text.specs.Commands.{arguments_of, begin_defined, call_of, command_of, defines, kinds_of, values_of}
@@ -308,6 +307,12 @@ first_name [] are = absurd (omega (arith, are.some))
 first_name (x ∷ final) are = ap (λ (n : List ℕ). n ∷ []) are.board
 
 -- ---- settings
+
+-- the lines of settings with these keys and numbers
+abbrev pub setting_lines : List (List ℕ × (ℕ × ℕ)) → List ℕ → List (List (List ℕ))
+setting_lines [] vs = []
+setting_lines (key ∷ table) [] = []
+setting_lines (key ∷ table) (v ∷ vs) = (key.0 ∷ decimal v ∷ []) ∷ setting_lines table vs
 
 -- each number is in the range of its key
 abbrev pub InRanges : List (List ℕ × (ℕ × ℕ)) → List ℕ → Type 0

@@ -7,13 +7,12 @@ use Rattle.std.proofs.lemmas.List.{get_or-map, drop_all, drop_more, length-appen
 use Rattle.std.proofs.lemmas.Fmt.{decimal_injective}
 use Rattle.mako_text.specs.Keys.{key_view, keys}
 use Rattle.mako_text.specs.declared.keys.Key.{Key}
-use Rattle.mako_text.specs.Printed.{setting_lines}
 use Rattle.mako_text.specs.Programs.{ProgramView}
 use Rattle.mako_text.specs.Texts.{settings, setting_words}
 use Rattle.mako_reader.specs.Finds.{ReadsEach}
 use Rattle.mako_reader.specs.Parts.{AreValues, IsSetting, lines_from, script_of}
 use Rattle.mako_reader.specs.Words.{IsFirstLine, words_of}
-use Rattle.mako_reader.proofs.Again.{is_key, key_is, InRanges, words_again, decimal_word}
+use Rattle.mako_reader.proofs.Again.{is_key, key_is, InRanges, words_again, decimal_word, setting_lines}
 use Rattle.mako_reader.proofs.Spelled.{line_is}
 
 pub same_setting : (key : List ℕ × (ℕ × ℕ)) (lines : List (List ℕ)) (x y : ℕ × List (List ℕ)) → IsSetting key lines x

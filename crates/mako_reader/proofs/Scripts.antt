@@ -5,7 +5,6 @@ use Rattle.std.specs.List.{join_with_byte, flat_map}
 use Rattle.std.proofs.lemmas.List.{append-nil, length-append}
 use Rattle.std.proofs.lemmas.List.Splits.{join_with_byte-slice_split}
 use Rattle.mako_text.specs.Keys.{keys}
-use Rattle.mako_text.specs.Printed.{setting_lines}
 use Rattle.mako_text.specs.Programs.{ProgramView}
 use Rattle.mako_text.specs.Scripts.{ScriptView, IsProper, command_count}
 use Rattle.mako_text.specs.Texts.{IsScript, line_text, script_lines, script_text, section_lines}
@@ -14,7 +13,7 @@ use Rattle.mako_reader.specs.Finds.{ReadsEach}
 use Rattle.mako_shape.specs.Limits.{IsShape}
 use Rattle.mako_reader.specs.Parts.{AreProper, AreSections, AreValues, IsSetting, lines_from, numbers_in, script_of}
 use Rattle.mako_reader.specs.Words.{lines_of}
-use Rattle.mako_reader.proofs.Again.{in_ranges, lines_again, script_words}
+use Rattle.mako_reader.proofs.Again.{in_ranges, lines_again, script_words, setting_lines}
 use Rattle.mako_reader.proofs.Lists.{same_each}
 use Rattle.mako_reader.proofs.Sections.{lines_more, no_first, sections_follow, Others, SectionsSoFar}
 use Rattle.mako_reader.proofs.Header.{are_values, header_from, header_spelled, same_setting, the_settings}

@@ -9,7 +9,6 @@ pub mod States
 pub use Rattle.mako_text.specs.Keys
 pub use Rattle.mako_text.specs.Names
 pub use Rattle.mako_text.specs.Outputs
-pub use Rattle.mako_text.specs.Printed
 pub use Rattle.mako_text.specs.Programs
 pub use Rattle.mako_text.specs.ScriptFacts
 pub use Rattle.mako_text.specs.Scripts

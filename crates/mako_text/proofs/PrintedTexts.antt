@@ -2,21 +2,22 @@
 use Rattle.std.proofs.Common.{◌≡◌, ℕ, ◌+◌, ◌<◌, ◌≤◌, List, [], ◌∷◌, ◌++◌, length, drop, get_or, map, sym, ap, refl, ◌∙◌}
 use Rattle.std.proofs.Common.{append_assoc, arith}
 use Rattle.std.specs.List.{flat_map, join_with_byte, zip}
-use Rattle.std.specs.Fmt.{decimal}
 use Rattle.std.proofs.lemmas.List.{append-nil, drop_more, drop_all}
 use Rattle.std.proofs.lemmas.List.Folds.{flat_map-map}
 use Rattle.std.proofs.lemmas.Grind.{flat_map-append}
 use Rattle.std.proofs.lemmas.Slice.Zip.{get_or-zip, length-zip}
 use Rattle.mako_model.specs.declared.call.Call.{Call}
 use Rattle.mako_text.specs.Programs.{ProgramView}
-use Rattle.mako_text.specs.declared.command.Argument.{Argument}
 use Rattle.mako_text.specs.Commands.{arguments_of, command_of, word_of}
 use Rattle.mako_text.specs.Texts.{argument_word, argument_words, command_words, end_word, mutator_word, section_lines}
 use Rattle.mako_text.specs.Texts.{line_text}
-use Rattle.mako_text.specs.Printed.{words_text, setting_lines}
+
+-- words behind others, each behind a space
+abbrev words_text : List (List ℕ) → List ℕ
+words_text words = flat_map (λ w. 32 ∷ w) words
 
 -- words with one space between them are the first and each other behind a space
-pub joined_words : (w : List ℕ) (ws : List (List ℕ)) → join_with_byte 32 (w ∷ ws) ≡ w ++ words_text ws
+joined_words : (w : List ℕ) (ws : List (List ℕ)) → join_with_byte 32 (w ∷ ws) ≡ w ++ words_text ws
 joined_words w [] = sym (append-nil w)
 joined_words w (v ∷ ws) = ap (λ (t : List ℕ). w ++ 32 ∷ t) (joined_words v ws)
 
@@ -36,45 +37,23 @@ line_of_words start first mid last names call a b c =
     ∙ append_assoc start (word ++ behind) (10 ∷ [])
     ∙ ap (λ (t : List ℕ). start ++ (t ++ 10 ∷ [])) (sym words)
 
--- one more of a list is added, and what is left to add is the others
-goes_on : {X : Type 0} (f : X → List ℕ) (xs : List X) (i : ℕ) (d : X) (before after whole : List ℕ) → i < length xs
-    → before ++ flat_map f (drop i xs) ≡ whole → after ≡ before ++ f (get_or xs i d)
-    → after ++ flat_map f (drop (i + 1) xs) ≡ whole
-goes_on f xs i d before after whole within h a =
-    rw a (append_assoc before (f (get_or xs i d)) (flat_map f (drop (i + 1) xs))
-    ∙ ap (λ (t : List ℕ). before ++ t) (ap (flat_map f) (sym (drop_more xs i d within))) ∙ h)
+-- one more pair of two lists is added, and what is left to add is the others
+pub pair_goes_on : {X Y : Type 0} (f : X × Y → List ℕ) (xs : List X) (ys : List Y) (i : ℕ) (x : X)
+    (y : Y) (before after whole : List ℕ) → length xs ≡ length ys → i < length xs
+    → before ++ flat_map f (drop i (zip xs ys)) ≡ whole → after ≡ before ++ f (get_or xs i x, get_or ys i y)
+    → after ++ flat_map f (drop (i + 1) (zip xs ys)) ≡ whole
+pair_goes_on {X} {Y} f xs ys i x y before after whole same within h a =
+    let both = zip xs ys in
+    let here : after ≡ before ++ f (get_or both i (x, y)) = a
+    ∙ ap (λ (p : X × Y). before ++ f p) (sym (get_or-zip xs ys i (x, y) within (omega arith))) in
+    rw here (append_assoc before (f (get_or both i (x, y))) (flat_map f (drop (i + 1) both))
+    ∙ ap (λ (t : List ℕ). before ++ t)
+    (ap (flat_map f) (sym (drop_more both i (x, y) (omega (arith, length-zip xs ys))))) ∙ h)
 
--- and of arguments
-pub argument_goes_on : (names : List (List ℕ)) (kinds : List Argument) (values : List ℕ) (i : ℕ) (kind : Argument)
-    (value : ℕ) (before after whole : List ℕ) → length kinds ≡ length values → i < length kinds
-    → before ++ flat_map (λ a. 32 ∷ argument_word names a) (drop i (zip kinds values)) ≡ whole
-    → after ≡ before ++ 32 ∷ argument_word names (get_or kinds i kind, get_or values i value)
-    → after ++ flat_map (λ a. 32 ∷ argument_word names a) (drop (i + 1) (zip kinds values)) ≡ whole
-argument_goes_on names kinds values i kind value before after whole same within h a =
-    goes_on (λ a. 32 ∷ argument_word names a) (zip kinds values) i
-    (kind, value) before after whole (omega (arith, length-zip kinds values)) h
-    (a ∙ ap (λ (x : Argument × ℕ). before ++ 32 ∷ argument_word names x)
-    (sym (get_or-zip kinds values i (kind, value) within (omega arith))))
-
-pub arguments_gone : (names : List (List ℕ)) (kinds : List Argument) (values : List ℕ) (i : ℕ) (text whole : List ℕ)
-    → length kinds ≤ i → text ++ flat_map (λ a. 32 ∷ argument_word names a) (drop i (zip kinds values)) ≡ whole
-    → text ≡ whole
-arguments_gone names kinds values i text whole past h = sym (append-nil text)
-    ∙ ap (λ t. text ++ flat_map (λ a. 32 ∷ argument_word names a) t)
-    (sym (drop_all i (zip kinds values) (omega (arith, length-zip kinds values)))) ∙ h
-
--- and of settings
-pub setting_goes_on : (table : List (List ℕ × (ℕ × ℕ))) (vs : List ℕ) (i : ℕ) (d : List ℕ
-    × (ℕ × ℕ)) (before after whole : List ℕ) → i < length table → i < length vs
-    → before ++ flat_map line_text (setting_lines (drop i table) (drop i vs)) ≡ whole
-    → after ≡ before ++ line_text ((get_or table i d).0 ∷ decimal (get_or vs i 0) ∷ [])
-    → after ++ flat_map line_text (setting_lines (drop (i + 1) table) (drop (i + 1) vs)) ≡ whole
-setting_goes_on table vs i d before after whole within short h a =
-    let line = line_text ((get_or table i d).0 ∷ decimal (get_or vs i 0) ∷ []) in
-    let rest = flat_map line_text (setting_lines (drop (i + 1) table) (drop (i + 1) vs)) in
-    let same : flat_map line_text (setting_lines (drop i table) (drop i vs)) ≡ line ++ rest =
-    rw (drop_more table i d within, drop_more vs i 0 short) refl in
-    rw a (append_assoc before line rest ∙ ap (λ (t : List ℕ). before ++ t) (sym same) ∙ h)
+pub pairs_gone : {X Y : Type 0} (f : X × Y → List ℕ) (xs : List X) (ys : List Y) (i : ℕ) (text whole : List ℕ)
+    → length xs ≤ i → text ++ flat_map f (drop i (zip xs ys)) ≡ whole → text ≡ whole
+pairs_gone f xs ys i text whole past h = sym (append-nil text)
+    ∙ ap (λ t. text ++ flat_map f t) (sym (drop_all i (zip xs ys) (omega (arith, length-zip xs ys)))) ∙ h
 
 -- a section is its first line, its calls and its last line
 pub section_of_calls : (start first mid last : List ℕ) (p : ProgramView) → first ≡ start ++ (mutator_word ++ 10 ∷ [])

@@ -2,7 +2,6 @@ pub mod Commands
 pub mod Keys
 pub mod Names
 pub mod Outputs
-pub mod Printed
 pub mod Programs
 pub mod ScriptFacts
 pub mod Scripts

@@ -7,8 +7,6 @@ ghost use Rattle.mako_text.specs.Names.{name_of, texts};
 ghost use Rattle.mako_text.specs.Programs.{ProgramView};
 ghost use Rattle.mako_text.specs.Texts.{IsScript, argument_word, command_words, line_text};
 ghost use Rattle.mako_text.specs.Texts.{section_lines, setting_values, setting_words};
-ghost use Rattle.mako_text.specs.Keys.{keys, key_view};
-ghost use Rattle.mako_text.specs.Printed.{setting_lines};
 
 use crate::command::{Argument, Command, values_of};
 use crate::keys::{KEYS, Key, SETTINGS};
@@ -150,7 +148,8 @@ fn add_setting(text: &mut Vec<u8>, key: &[u8], value: u32) -> Result<(), AllocEr
 fn add_settings(text: &mut Vec<u8>, table: &[Key], values: &[u32]) -> Result<(), AllocError>
     requires { length table.now ≡ length values.now }
     ensures { OnOk result
-        (text.new.items ≡ text.old.items ++ flat_map line_text (setting_lines (map key_view table.now) values.now)) }
+        (text.new.items ≡ text.old.items
+        ++ flat_map (λ s. line_text (setting_words s)) (zip (map (λ key. key.word.now) table.now) values.now)) }
 {
     for i in 0..table.len() {
         add_setting(text, table[i].word, values[i])?;

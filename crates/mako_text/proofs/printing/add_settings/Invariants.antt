@@ -1,12 +1,10 @@
 use Rattle.std.proofs.Common.{◌≡◌, ◌++◌, drop, map}
-use Rattle.std.specs.List.{flat_map}
-use Rattle.mako_text.specs.Keys.{key_view}
-use Rattle.mako_text.specs.Texts.{line_text}
-use Rattle.mako_text.specs.Printed.{setting_lines}
+use Rattle.std.specs.List.{flat_map, zip}
+use Rattle.mako_text.specs.Texts.{line_text, setting_words}
 use Rattle.mako_text.proofs.printing.add_settings.Given as goal
 
 abbrev pub invariant-loop-i : goal.invariant-loop-i
 invariant-loop-i l =
-    l.text.items ++ flat_map line_text
-    (setting_lines (drop l.i (map key_view l.table)) (drop l.i l.values)) ≡ l.initial.text.items ++ flat_map
-    line_text (setting_lines (map key_view l.table) l.values)
+    l.text.items ++ flat_map (λ s. line_text (setting_words s))
+    (drop l.i (zip (map (λ key. key.word.now) l.table) l.values)) ≡ l.initial.text.items ++ flat_map
+    (λ s. line_text (setting_words s)) (zip (map (λ key. key.word.now) l.table) l.values)
