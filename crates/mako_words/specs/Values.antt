@@ -1,12 +1,8 @@
 -- The words and the text of values.
-use Rattle.std.specs.Prelude.{ℕ, ◌+◌, ◌-◌, ◌<◌, ◌^◌, ◌==◌, nat_lt, if◌then◌else◌, List, codes, Option, Some, None, ◌⊎◌}
-use Rattle.std.specs.Prelude.{◌≡◌, refl}
-use Rattle.std.proofs.Common.{inl, inr}
-use Rattle.std.specs.Coded.{Coded, code_by, coded_option, coded⊎, coded_ℕ}
+use Rattle.std.specs.Prelude.{ℕ, ◌+◌, ◌-◌, ◌<◌, ◌^◌, ◌==◌, nat_lt, if◌then◌else◌, List, codes}
 use Rattle.std.specs.Fmt.{decimal}
-use Rattle.mako_words.specs.Names.{name_word, FitsName, name_at, name_text, coded_name}
+use Rattle.mako_words.specs.Names.{name_word, FitsName, name_at, name_text}
 use Rattle.mako_words.specs.Words.{IsPackedBy}
-use Rattle.mako_words.specs.declared.name.Name.{Name}
 use Rattle.mako_words.specs.declared.value.Value.{Value}
 use Rattle.mako_words.specs.declared.value.Value.TheVariants.{Null, Num, Ref}
 
@@ -35,25 +31,3 @@ abbrev pub value_text : Value → List ℕ
 value_text Null = codes "null"
 value_text (Num x) = decimal x
 value_text (Ref n) = name_text n
-
--- a value as nothing, a number or a name
-abbrev pub parts_of : Value → Option (ℕ ⊎ Name)
-parts_of Null = None
-parts_of (Num x) = Some (inl x)
-parts_of (Ref n) = Some (inr n)
-
--- the value of these parts
-abbrev pub of_parts : Option (ℕ ⊎ Name) → Value
-of_parts None = Null
-of_parts (Some (inl x)) = Num x
-of_parts (Some (inr n)) = Ref n
-
--- the parts of a value give it back
-pub of_parts-parts_of : (v : Value) → of_parts (parts_of v) ≡ v
-of_parts-parts_of Null = refl
-of_parts-parts_of (Num x) = refl
-of_parts-parts_of (Ref n) = refl
-
--- by its parts
-abbrev pub coded_value : Coded Value
-coded_value = code_by (Option (ℕ ⊎ Name)) (coded_option (coded⊎ coded_ℕ coded_name)) parts_of of_parts of_parts-parts_of
