@@ -13,6 +13,7 @@ use Rattle.mako_step.proofs.Cases.{when_lt}
 use Rattle.mako_gate.specs.Standings.{GateFacet, has_drained, shutter_at, writes}
 use Rattle.mako_gate.proofs.Numbers.{count_at}
 use Rattle.mako_model.specs.Legal.{Facts, state_of}
+use Rattle.mako_model.specs.Sizes.{ObjectsAreSmall}
 use Rattle.mako_names.specs.Uses.{IsNamePlace}
 use Rattle.mako_ring.specs.Facets.{IsPolled}
 use Rattle.mako_record.specs.declared.copier.CopyStage.{CopyStage}
@@ -43,7 +44,7 @@ use Rattle.mako_state.proofs.Words.{sets_words}
 use Rattle.mako_joint.specs.Joints.{JointScene, layout_in, phases_in, Joint}
 use Rattle.mako_joint.proofs.Pauses.{gates_drain}
 use Rattle.mako_clearing.specs.ClearingFacets.{server_seat}
-use Rattle.mako_clearing.specs.Clearing.{ObjectsAreSmall, ClearingStands, ClearingGoesOn}
+use Rattle.mako_clearing.specs.Clearing.{ClearingStands, ClearingGoesOn}
 use Rattle.mako_clearing.proofs.Seated.{Laid, laid_state, laid, seated, work_moved, owner}
 use Rattle.mako_clearing.proofs.Stages.{at_stage, Goes, loads, sends_none, order_stays, finish, index_in}
 use Rattle.mako_clearing.proofs.Tablets.{tablet_is, OwedHere, to_stage, seat_here, still, stored_here}

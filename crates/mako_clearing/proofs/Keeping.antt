@@ -4,6 +4,7 @@ use Rattle.mako_words.specs.declared.name.Name.{Name}
 use Rattle.mako_shape.specs.declared.numbers.Numbers.{Numbers}
 use Rattle.mako_step.specs.Machines.{IsAct}
 use Rattle.mako_model.specs.Legal.{Facts, state_of}
+use Rattle.mako_model.specs.Sizes.{ObjectsAreSmall}
 use Rattle.mako_evac.specs.declared.stage.EvacStage.{EvacStage}
 use Rattle.mako_evac.specs.declared.stage.EvacStage.TheVariants.{Evacuating, Freeing, AwaitingEnd, TellingEnd, Ended}
 use Rattle.mako_evac.specs.declared.freeing.FreeStage.TheVariants.{Loading, Storing, Awaiting, Telling}
@@ -16,7 +17,7 @@ use Rattle.mako_record.specs.Copying.{Copying as Copy}
 use Rattle.mako_words.specs.declared.entry_word.EntryWord.{EntryWord}
 use Rattle.mako_evac.specs.Evacuating.{next_of}
 use Rattle.mako_joint.specs.Joints.{JointScene, Joint}
-use Rattle.mako_clearing.specs.Clearing.{ClearingStands, ReadersMatch, ObjectsAreSmall, ClearingGoesOn, IsFreeing}
+use Rattle.mako_clearing.specs.Clearing.{ClearingStands, ReadersMatch, ClearingGoesOn, IsFreeing}
 use Rattle.mako_clearing.specs.Clearing.{FreeingKeeps, IsAtTablet, TabletsKeep}
 use Rattle.mako_clearing.proofs.Freeing.{loading_kept, storing_kept}
 use Rattle.mako_clearing.proofs.Telling.{awaiting_kept, awaiting_end_kept, telling_kept, telling_end_kept}

@@ -1,16 +1,11 @@
 -- Objects are small, since programs ask for small ones.
-use Rattle.std.proofs.Common.{◌≡◌, ℕ, zero, suc, ◌+◌, ◌<◌, ◌≤◌, ⊎_elim, List, [], ◌∷◌, ◌++◌, length, get_or, set}
-use Rattle.std.proofs.Common.{replicate, slice_get, Contains, Some, sym, ap, subst, refl, arith, eq-eqb, ne_eqb}
-use Rattle.std.proofs.Common.{length-set}
-use Rattle.std.specs.FinMap as map
+use Rattle.std.proofs.Common.{◌≡◌, ℕ, zero, suc, ◌+◌, ◌<◌, ◌≤◌, ⊎_elim, List, [], ◌∷◌, ◌++◌, length, get_or}
+use Rattle.std.proofs.Common.{slice_get, Contains, Some, sym, subst, refl, arith, eq-eqb, ne_eqb}
 use Rattle.std.specs.List.{fold}
 use Rattle.std.proofs.lemmas.Bool.{cases_eq, cases_lt}
-use Rattle.std.proofs.lemmas.List.{length-replicate}
 use Rattle.std.proofs.lemmas.List.Elements.{Contains-append_left}
 use Rattle.std.proofs.lemmas.Option.{none-some, slice_get_cases}
-use Rattle.mako_words.specs.declared.name.Name.{Name}
 use Rattle.mako_words.specs.declared.value.Value.{Value}
-use Rattle.mako_words.specs.declared.value.Value.TheVariants as value
 use Rattle.mako_model.specs.declared.call.Call.{Call}
 use Rattle.mako_model.specs.declared.call.Call.TheVariants as call
 use Rattle.mako_model.specs.declared.reply.Reply.{Reply}
@@ -18,71 +13,26 @@ use Rattle.mako_model.specs.declared.reply.Reply.TheVariants as reply
 use Rattle.mako_model.specs.declared.point.Point.{Point}
 use Rattle.mako_model.specs.declared.point.Point.TheVariants.{Did, Snap}
 use Rattle.mako_model.specs.Fronts.{calls_by, FollowsPrograms}
-use Rattle.mako_model.specs.Heaps.{Heap, board_name, with_fields}
-use Rattle.mako_model.specs.Lawful.{HasRoot, IsLawfulReply, heap_after, heap_replied}
+use Rattle.mako_model.specs.Heaps.{Heap}
+use Rattle.mako_model.specs.Lawful.{HasRoot, IsLawfulReply, heap_after}
 use Rattle.mako_model.specs.Legal.{Facts, opening_of, state_of, AreLawful, IsLegal}
-use Rattle.mako_model.proofs.Changes.{put_writes}
-use Rattle.mako_model.proofs.Closed.{empty_has}
 use Rattle.mako_model.proofs.Following.{no_snap_did}
 use Rattle.mako_model.proofs.Histories.{legal_at, legal_prefix}
-use Rattle.mako_model.proofs.Lookups.{fields_cases}
 use Rattle.mako_model.proofs.RootRows.{has_roots}
+use Rattle.mako_model.proofs.Sizes.{points_keep_small}
+use Rattle.mako_model.specs.Sizes.{ObjectsAreSmall, IsSmallPoint}
 use Rattle.mako_phases.proofs.Members.{no_member, head_or, first_in, later_in}
-use Rattle.mako_clearing.specs.Clearing.{ObjectsAreSmall}
 use Rattle.mako_clearing.specs.Smallness.{AsksForSmall, ObjectsStaySmall}
-
--- ---- one point
-
-small_with : (h : Heap) (x : Name) (more : List Value) → length more ≤ 14 → ObjectsAreSmall h
-    → ObjectsAreSmall (with_fields h x more)
-small_with h x more few all name fields are =
-    ⊎_elim (λ t. let e = ap length t.1 in omega arith) (λ t. all name fields t.1)
-    (fields_cases h x more name fields are)
-
--- the call asks for a small object, if for any
-abbrev AsksSmall : Call → Type 0
-AsksSmall (call.New root fields) = fields ≤ 14
-AsksSmall c = Unit {0}
-
-small_replied : (h : Heap) (m : ℕ) (c : Call) (r : Reply) → IsLawfulReply h m c r → AsksSmall c → ObjectsAreSmall h
-    → ObjectsAreSmall (heap_replied h m c r)
-small_replied h m (call.New root fields) (reply.Made name) l few all =
-    small_with h name (replicate fields value.Null)
-    (let e = length-replicate fields value.Null in omega arith) all
-small_replied h m (call.Num root x) (reply.Value v) l few all = all
-small_replied h m (call.CopyRoot to from) (reply.Value v) l few all = all
-small_replied h m (call.DropRoot root) reply.Done l few all = all
-small_replied h m (call.Get to from field) (reply.Value v) l few all = all
-small_replied h m (call.Put to field from) reply.Done l few all =
-    let writes = put_writes h m to field from l.1.0 l.1.1 l.0.0 l.1.2 l.0.1 in
-    subst ObjectsAreSmall (sym writes)
-    (small_with h l.1.0 (set l.1.1 field l.0.0)
-    (let e = length-set l.1.1 field l.0.0 in let f = all l.1.0 l.1.1 l.1.2.fields_are in omega arith) all)
-small_replied h m c r l few all = all
 
 -- ---- all points
 
-abbrev PointSmall : Point → Type 0
-PointSmall (Did m c r) = AsksSmall c
-PointSmall (Snap cycle) = Unit {0}
-
 small_along : (h : Heap) (points : List Point) → AreLawful h points
-    → ((p : Point) → Contains points p → PointSmall p) → ObjectsAreSmall h → ObjectsAreSmall (fold heap_after h points)
+    → ((p : Point) → Contains points p → IsSmallPoint p) → ObjectsAreSmall h
+    → ObjectsAreSmall (fold heap_after h points)
 small_along h [] legal each all = all
-small_along h (Did m c r ∷ points) legal each all =
-    small_along (heap_replied h m c r) points legal.1 (λ p here. each p (later_in (Did m c r) points p here))
-    (small_replied h m c r legal.0 (each (Did m c r) (first_in (Did m c r) points)) all)
-small_along h (Snap cycle ∷ points) legal each all =
-    small_along (record h { snaps = h.snaps + 1 }) points legal.1
-    (λ p here. each p (later_in (Snap cycle) points p here)) all
-
-opening_small : (w : Facts) → w.board ≤ 14 → ObjectsAreSmall (opening_of w)
-opening_small w low name fields are =
-    let bare : Heap = record (opening_of w) { objects = map.empty } in
-    ⊎_elim
-    (λ t. let e = ap length t.1 in let f = length-replicate w.board value.Null in omega arith)
-    (λ t. absurd (empty_has bare name refl (fields, t.1)))
-    (fields_cases bare board_name (replicate w.board value.Null) name fields are)
+small_along h (p ∷ points) legal each all =
+    small_along (heap_after h p) points legal.1 (λ q here. each q (later_in p points q here))
+    (points_keep_small.point h p legal.0 (each p (first_in p points)) all)
 
 -- ---- the calls of a history are those of its programs
 
@@ -164,7 +114,7 @@ new_is_small w history m root fields r legal follows asks here =
     has_of before reply lawful = absurd lawful
 
 point_is_small : (w : Facts) (history : List Point) → IsLegal w history → FollowsPrograms w.programs history
-    → AsksForSmall w → (p : Point) → Contains history p → PointSmall p
+    → AsksForSmall w → (p : Point) → Contains history p → IsSmallPoint p
 point_is_small w history legal follows asks (Did m (call.New root fields) r) here =
     new_is_small w history m root fields r legal follows asks here
 point_is_small w history legal follows asks (Did m c r) here = tt
@@ -174,4 +124,5 @@ pub objects_stay_small : ObjectsStaySmall
 objects_stay_small n w s j asks =
     let answers = j.names.hold.answers in
     small_along (opening_of w) s.front.history answers.lawful.legal
-    (point_is_small w s.front.history answers.lawful.legal answers.programs asks) (opening_small w asks.board)
+    (point_is_small w s.front.history answers.lawful.legal answers.programs asks)
+    (points_keep_small.opening w asks.board)

@@ -1,5 +1,5 @@
 -- The steps of a server that evacuates.
-use Rattle.std.specs.Prelude.{ℕ, Bool, true, false, ◌≡◌, ◌≢◌, ◌+◌, ◌≤◌, List, ◌++◌, length, slice_get, slice_set, Some}
+use Rattle.std.specs.Prelude.{ℕ, Bool, true, false, ◌≡◌, ◌≢◌, ◌+◌, List, ◌++◌, length, slice_get, slice_set, Some}
 use Rattle.mako_words.specs.declared.name.Name.{Name}
 use Rattle.mako_words.specs.declared.value.Value.{Value}
 use Rattle.mako_shape.specs.declared.numbers.Numbers.{Numbers}
@@ -8,6 +8,7 @@ use Rattle.mako_step.specs.Acts.{words_stepped, finds}
 use Rattle.mako_step.specs.Machines.{IsAct, CanStep}
 use Rattle.mako_model.specs.Heaps.{Heap, fields_of}
 use Rattle.mako_model.specs.Legal.{Facts, state_of}
+use Rattle.mako_model.specs.Sizes.{ObjectsAreSmall}
 use Rattle.mako_names.specs.Tables.{entry_of}
 use Rattle.mako_gate.specs.Standings.{shutter_at}
 use Rattle.mako_record.specs.declared.copier.CopyStage.{CopyStage}
@@ -102,10 +103,6 @@ abbrev pub ReadersMatch : JointScene → Type 0
 ReadersMatch s = (seat cycle told : ℕ) (pending : List Name)
     → slice_get s.facets.phases seat ≡ Some (collecting (evacuating cycle told) pending)
     → s.facets.names.collector.server ≡ told
-
--- an object has at most 14 fields
-abbrev pub ObjectsAreSmall : Heap → Type 0
-ObjectsAreSmall h = (name : Name) (fields : List Value) → fields_of h name ≡ Some fields → length fields ≤ 14
 
 -- ---- its steps
 

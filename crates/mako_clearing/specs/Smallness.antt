@@ -8,8 +8,9 @@ use Rattle.mako_model.specs.declared.point.Point.{Point}
 use Rattle.mako_model.specs.Heaps.{Heap}
 use Rattle.mako_model.specs.Lawful.{IsLawful, heap_after}
 use Rattle.mako_model.specs.Legal.{Facts, state_of}
+use Rattle.mako_model.specs.Sizes.{ObjectsAreSmall}
 use Rattle.mako_joint.specs.Joints.{JointScene, Joint}
-use Rattle.mako_clearing.specs.Clearing.{ObjectsAreSmall, KeepsSizes}
+use Rattle.mako_clearing.specs.Clearing.{KeepsSizes}
 
 -- the board has at most 14 fields, and so has each object that a program asks for
 pub record AsksForSmall (w : Facts) : Type 0 where

@@ -19,5 +19,6 @@ pub mod Reused
 pub mod RootRows
 pub mod RootsIn
 pub mod Searching
+pub mod Sizes
 pub mod Splits
 pub mod Tied

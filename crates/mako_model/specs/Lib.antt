@@ -13,4 +13,5 @@ pub mod Legal
 pub mod Outcomes
 pub mod Reachable
 pub mod Searches
+pub mod Sizes
 pub mod Starved

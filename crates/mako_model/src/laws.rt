@@ -13,6 +13,7 @@ ghost use Rattle.mako_model.specs.Dead.{names_made, IsDead, AreFreed};
 ghost use Rattle.mako_model.specs.LawfulFronts.{IsLawfulFront};
 ghost use Rattle.mako_model.specs.Laws.{HasObject, IsClosed, DeadStandApart, HasRoots, ProgramsFit, NamesFit};
 ghost use Rattle.mako_model.specs.Laws.{ValuesFit, RootsFit};
+ghost use Rattle.mako_model.specs.Sizes.{PointsKeepSmall};
 
 /// What was made stays made.
 pub fn made_names_stay()
@@ -87,4 +88,9 @@ pub fn values_fit()
     ensures { (w : Facts) (front : Seen) → ProgramsFit w.programs → NamesFit w → IsLawfulFront w front
         → FollowsPrograms w.programs front.history → ValuesFit (state_of w front.history)
         × RootsFit (state_of w front.history) }
+{}
+
+/// No object has more than 14 fields: not at the opening, and not after a point that makes none with more.
+pub fn objects_stay_small()
+    ensures { PointsKeepSmall }
 {}

@@ -18,6 +18,7 @@ use Rattle.mako_record.specs.declared.copier.CopyStage.TheVariants.{StoringHeade
 use Rattle.mako_record.specs.declared.copier.CopyStage.TheVariants.{StoringField as CopyStore, StoringEntry, RaisingTop}
 use Rattle.mako_record.specs.declared.copier.CopyStage.TheVariants.{Ended as CopyEnded}
 use Rattle.mako_model.specs.Heaps.{fields_of}
+use Rattle.mako_model.specs.Sizes.{ObjectsAreSmall}
 use Rattle.mako_call.specs.declared.object.Errand.{Errand}
 use Rattle.mako_call.specs.declared.call_stage.CallStage.{CallStage}
 use Rattle.mako_call.specs.declared.call_stage.CallStage.TheVariants.{Arriving, Rooting, Entering, Moving, Getting}
@@ -46,7 +47,7 @@ use Rattle.mako_state.specs.Standings.{stage_standing}
 use Rattle.mako_joint.proofs.Epochs.{held_within}
 use Rattle.mako_joint.proofs.Heaps.{header_at}
 use Rattle.mako_mutating.specs.Laws.{IsOfACall}
-use Rattle.mako_mutating.specs.Mutators.{ObjectsAreSmall, found_by}
+use Rattle.mako_mutating.specs.Mutators.{found_by}
 use Rattle.mako_mutating.proofs.Asks.{Asks, at_address, at_place, arriving_asks, leaving_asks, rooting_asks}
 use Rattle.mako_mutating.proofs.Asks.{entering_asks, getting_asks, putting_asks}
 use Rattle.mako_mutating.proofs.Attempts.{Scene, At, driver, heap, st, seat}

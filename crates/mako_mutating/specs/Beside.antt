@@ -1,22 +1,21 @@
--- What a step of another seat leaves to a mutator, what the script says of the sizes of objects, and the opening.
+-- What a step of another seat leaves to a mutator, and the opening.
 use Rattle.std.specs.Prelude.{ℕ, ◌≡◌, ◌≢◌, ◌<◌, ◌≤◌, ◌⊎◌, List, [], ◌∷◌, ◌++◌, length, slice_get, Some}
 use Rattle.mako_shape.specs.declared.numbers.Numbers.{Numbers}
 use Rattle.mako_shape.specs.Places.{root, barrier, word_at}
 use Rattle.mako_model.specs.declared.call.Call.{Call}
-use Rattle.mako_model.specs.declared.call.Call.TheVariants as call
 use Rattle.mako_model.specs.declared.reply.Reply.{Reply}
 use Rattle.mako_model.specs.declared.point.Point.{Point}
 use Rattle.mako_model.specs.declared.point.Point.TheVariants.{Did, Snap}
 use Rattle.mako_model.specs.Fronts.{Seen}
 use Rattle.mako_model.specs.Lawful.{IsLawful}
-use Rattle.mako_model.specs.Legal.{Facts, opening_of, state_of}
+use Rattle.mako_model.specs.Legal.{Facts, state_of}
 use Rattle.mako_mutator.specs.Drivers as drivers
 use Rattle.mako_mutator.specs.Drivers.{Driving, AreFitting}
 use Rattle.mako_call.specs.declared.call_stage.CallStage.{CallStage}
 use Rattle.mako_joint.specs.Joints.{JointScene, Joint}
 use Rattle.mako_joint.specs.Openings.{IsJointOpening}
 use Rattle.mako_mutating.specs.Laws.{IsOfACall}
-use Rattle.mako_mutating.specs.Mutators.{MutatorKeeps, ObjectsAreSmall, IsAttempting, stepped}
+use Rattle.mako_mutating.specs.Mutators.{MutatorKeeps, IsAttempting, stepped}
 
 -- its root words are as they were, and so are its barrier slots, or they are emptied
 pub record LeavesToMutator (n : Numbers) (words after : List ℕ) (m : ℕ) : Type 0 where
@@ -48,23 +47,6 @@ abbrev pub StepsLeaveOthers : Type 0
 StepsLeaveOthers = (n : Numbers) (w : Facts) (s : JointScene) → Joint n w s
     → (m : ℕ) (d : Driving) (stage : CallStage) → IsOfACall stage → IsAttempting n w s m d stage
     → (other : ℕ) → other ≢ m → other < n.mutators → StepLeaves n w s m d other
-
--- ---- sizes
-
--- a call makes no object of more than 14 fields
-abbrev pub IsSmallCall : Call → Type 0
-IsSmallCall (call.New q fields) = fields ≤ 14
-IsSmallCall c = Unit {0}
-
-abbrev pub IsSmallPoint : Point → Type 0
-IsSmallPoint (Did m c r) = IsSmallCall c
-IsSmallPoint (Snap cycle) = Unit {0}
-
--- so objects stay small
-pub record ObjectsStaySmall : Type 0 where
-  pub opening : (w : Facts) → w.board ≤ 14 → ObjectsAreSmall (opening_of w)
-  pub point : (w : Facts) (history : List Point) (p : Point) → IsLawful (state_of w history) p → IsSmallPoint p
-      → ObjectsAreSmall (state_of w history) → ObjectsAreSmall (state_of w (history ++ p ∷ []))
 
 -- ---- the opening
 

@@ -1,6 +1,6 @@
 -- A mutator among all seats: that the facets of its seat are its own, what it keeps of itself and of words, and the
 -- scene after its step.
-use Rattle.std.specs.Prelude.{ℕ, ◌≡◌, ◌<◌, ◌≤◌, List, [], length, slice_get, slice_set, Some}
+use Rattle.std.specs.Prelude.{ℕ, ◌≡◌, ◌<◌, List, [], length, slice_get, slice_set, Some}
 use Rattle.mako_words.specs.declared.name.Name.{Name}
 use Rattle.mako_words.specs.declared.value.Value.{Value}
 use Rattle.mako_shape.specs.declared.numbers.Numbers.{Numbers}
@@ -15,6 +15,7 @@ use Rattle.mako_model.specs.declared.call.Call.{Call}
 use Rattle.mako_model.specs.Fronts.{Seen, replies_to}
 use Rattle.mako_model.specs.Heaps.{Heap, root_of, fields_of}
 use Rattle.mako_model.specs.Legal.{Facts, state_of}
+use Rattle.mako_model.specs.Sizes.{ObjectsAreSmall}
 use Rattle.mako_call.specs.declared.object.Errand.{Errand}
 use Rattle.mako_call.specs.declared.object.Put.{Put as PutArgs}
 use Rattle.mako_call.specs.declared.call_stage.CallStage.{CallStage}
@@ -111,10 +112,6 @@ pub record HasFields (h : Heap) (object : Name) (count : ℕ) : Type 0 where
   pub fields : List Value
   pub are : fields_of h object ≡ Some fields
   pub count_is : length fields ≡ count
-
--- no object has more than 14 fields
-abbrev pub ObjectsAreSmall : Heap → Type 0
-ObjectsAreSmall h = (object : Name) (fields : List Value) → fields_of h object ≡ Some fields → length fields ≤ 14
 
 -- the number of fields that a copy goes by is the object's
 abbrev pub CopyCounts : Heap → Name → CopyStage → Type 0

@@ -1,7 +1,7 @@
 //! That the steps of a mutator's calls keep all groups. The functions do nothing; what they ensure is for contracts and
 //! proofs.
 
-ghost use Rattle.mako_mutating.specs.Beside.{ObjectsStaySmall, OpeningsKeep, OthersLeave, StepsLeaveOthers};
+ghost use Rattle.mako_mutating.specs.Beside.{OpeningsKeep, OthersLeave, StepsLeaveOthers};
 ghost use Rattle.mako_mutating.specs.Laws.{ArrivalsKeep, AttemptsCanGo, AttemptsKeep, EntersKeep, FinishesKeep};
 ghost use Rattle.mako_mutating.specs.Laws.{GetsKeep, LeavesKeep, MovesKeep, PutsKeep, RootsKeep};
 
@@ -33,11 +33,6 @@ pub fn each_part_keeps_all()
 pub fn others_leave_mutators()
     ensures keep { OthersLeave }
     ensures steps { StepsLeaveOthers }
-{}
-
-/// Where no call makes an object of more than 14 fields, none has more.
-pub fn objects_stay_small()
-    ensures { ObjectsStaySmall }
 {}
 
 /// It keeps so much at the opening, before its program.

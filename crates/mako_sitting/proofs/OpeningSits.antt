@@ -50,7 +50,7 @@ use Rattle.mako_joint.specs.Openings.{IsJointOpening}
 use Rattle.mako_joint.proofs.Openings.{openings_hold}
 use Rattle.mako_mutating.proofs.Openings.{openings_keep as mutators_keep}
 use Rattle.mako_tracing.proofs.Belonging.{empty_slots_belong, openings_keep as servers_keep}
-use Rattle.mako_tracing.proofs.FewFields.{openings_have_few}
+use Rattle.mako_model.proofs.Sizes.{points_keep_small}
 use Rattle.mako_clearing.specs.Notices.{RingTells}
 use Rattle.mako_collecting.specs.Keeping.{BarrierRing}
 use Rattle.mako_sitting.specs.Openings.{OpeningsSit, scene_with, trace_facet, phase_facet, held_facet, trying_facet}
@@ -323,7 +323,7 @@ module _ (s : ScriptView) (proper : IsProper s) (ws : List ℕ) (size : length w
     count = count;
     each = λ i v here. sits i v (each i v here) here;
     slots = empty_slots_belong n ws (λ p is within. slot_empty p is within);
-    few = openings_have_few (facts_of s) proper.board_high;
+    few = points_keep_small.opening (facts_of s) proper.board_high;
     lives = subst (λ p. LivesFit p n (facts_of s) ws [] (map live_facet seats))
         (sym (phase_is s proper ws size stands seats count each)) past;
     ends = stands finished tt ∙ sym (ended_none s proper ws size stands seats count each);

@@ -11,6 +11,7 @@ use Rattle.mako_shape.specs.declared.numbers.Numbers.{Numbers}
 use Rattle.mako_shape.specs.Places.{finished, word_at}
 use Rattle.mako_model.specs.declared.point.Point.{Point}
 use Rattle.mako_model.specs.Legal.{Facts, state_of}
+use Rattle.mako_model.specs.Sizes.{ObjectsAreSmall}
 use Rattle.mako_names.specs.Freeing.{own_entries}
 use Rattle.mako_names.specs.Notices.{Gathering}
 use Rattle.mako_names.specs.Tables.{phase_of}
@@ -43,7 +44,7 @@ use Rattle.mako_state.specs.Facets.{ended_of}
 use Rattle.mako_mutating.specs.Mutators.{IsSeen, view_of, MutatorKeeps}
 use Rattle.mako_making.specs.Makings.{TaskSearches}
 use Rattle.mako_tracing.specs.ServerFacets.{IsServerSeat, server_live, tracer_laden}
-use Rattle.mako_tracing.specs.ServerKeeps.{ServerKeeps, SlotsBelong, FieldsAreFew}
+use Rattle.mako_tracing.specs.ServerKeeps.{ServerKeeps, SlotsBelong}
 use Rattle.mako_tracing.specs.ServerLives.{IsMeasured}
 use Rattle.mako_clearing.specs.Clearing.{ClearingStands}
 use Rattle.mako_clearing.specs.Notices.{SendingStands}
@@ -197,6 +198,6 @@ pub record AllSit (n : Numbers) (w : Facts) (s : JointScene) (seats : List Seat)
   pub count : length seats ≡ n.mutators + n.servers + 1
   pub each : (i : ℕ) (v : Seat) → slice_get seats i ≡ Some v → SeatSits n w s taker places i v
   pub slots : SlotsBelong n s.words
-  pub few : FieldsAreFew (state_of w s.front.history)
+  pub few : ObjectsAreSmall (state_of w s.front.history)
   pub lives : LivesFit (phase_of n s.words) n w s.words s.front.history (map live_facet seats)
   pub ends : word_at n s.words finished ≡ sum_by ended_of seats

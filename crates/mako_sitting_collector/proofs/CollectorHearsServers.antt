@@ -3,13 +3,14 @@ use Rattle.std.proofs.Common.{◌≡◌, ◌≢◌, ℕ, ◌+◌, ◌<◌, Bool,
 use Rattle.std.proofs.Common.{arith}
 use Rattle.mako_words.specs.declared.name.Name.{Name}
 use Rattle.mako_words.specs.declared.phase_word.PhaseWord.TheVariants.{Evac}
-use Rattle.mako_words.specs.Phases.{phase_at, cycle_of}
+use Rattle.mako_words.specs.Phases.{cycle_of}
 use Rattle.mako_shape.specs.declared.numbers.Numbers.{Numbers}
 use Rattle.mako_shape.specs.Places.{phase, notice}
 use Rattle.mako_step.specs.Machines.{IsAct}
 use Rattle.mako_model.specs.Legal.{Facts}
 use Rattle.mako_model.proofs.Lists.{get_set_other}
 use Rattle.mako_names.specs.Tables.{phase_of}
+use Rattle.mako_names.proofs.Words.{phase_same}
 use Rattle.mako_layout.specs.StepParts.{collector_seat}
 use Rattle.mako_phases.specs.Facets.{collecting}
 use Rattle.mako_joint.specs.Joints.{JointScene, Joint}
@@ -58,8 +59,7 @@ module _ (n : Numbers) (w : Facts) (s : JointScene) (k : Holdings) (stage : Noti
       ((hearing_writes k c.known stage is c.stage_known).rest s.words)
 
   pub phase_left : phase_of n (words_next k stage s.words) ≡ phase_of n s.words
-  unfolding phase_of
-  phase_left = ap phase_at (words_left phase tt (λ x. x))
+  phase_left = phase_same n s.words (words_next k stage s.words) (words_left phase tt (λ x. x))
 
   pub evac_is : phase_of n s.words ≡ Evac (k.cycle + 1)
   evac_is = evac_here n w s j (k.cycle + 1) (notice_server n stage) k.pending c.phase

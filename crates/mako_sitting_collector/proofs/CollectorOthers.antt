@@ -10,6 +10,7 @@ use Rattle.mako_gate.proofs.Lists.{sum_at}
 use Rattle.mako_model.specs.Fronts.{Seen}
 use Rattle.mako_model.specs.Legal.{Facts, state_of}
 use Rattle.mako_model.proofs.Lists.{get_set_cases}
+use Rattle.mako_model.specs.Sizes.{ObjectsAreSmall}
 use Rattle.mako_names.specs.Tables.{phase_of}
 use Rattle.mako_names.proofs.Words.{entry_same}
 use Rattle.mako_layout.specs.StepParts.{collector_seat}
@@ -27,7 +28,7 @@ use Rattle.mako_seat.specs.declared.seat.Seat.TheVariants.{Mutator, Server, Coll
 use Rattle.mako_state.specs.Facets.{ended_of}
 use Rattle.mako_state.proofs.Seating.{map_kept}
 use Rattle.mako_tracing.specs.ServerFacets.{tracer_laden}
-use Rattle.mako_tracing.specs.ServerKeeps.{SlotsBelong, FieldsAreFew}
+use Rattle.mako_tracing.specs.ServerKeeps.{SlotsBelong}
 use Rattle.mako_tracing.specs.ServerLives.{IsMeasured}
 use Rattle.mako_clearing.specs.ClearingFacets.{server_seat, stage_carries}
 use Rattle.mako_clearing.specs.Clearing.{KeepsSizes, tells_end, ClearingStands}
@@ -207,7 +208,7 @@ module _ (n : Numbers) (w : Facts) (s : JointScene) (seats : List Seat) (i : ℕ
   lives_same = map_kept live_facet seats i (Collector c) (Collector next) here refl
 
   -- live counts are those of the servers, which are as they were; the finished word is not the collector's to write
-  pub all_sit : SlotsBelong n after.words → FieldsAreFew (state_of w after.front.history)
+  pub all_sit : SlotsBelong n after.words → ObjectsAreSmall (state_of w after.front.history)
       → LivesFit (phase_of n after.words) n w after.words after.front.history (map live_facet seats)
       → AllSit n w after (slice_set seats i (Collector next))
   all_sit slots few lives = record {

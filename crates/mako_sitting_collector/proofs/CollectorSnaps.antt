@@ -15,6 +15,7 @@ use Rattle.mako_model.specs.Heaps.{Heap, fields_of}
 use Rattle.mako_model.specs.Legal.{Facts, state_of, IsLegal}
 use Rattle.mako_model.proofs.Histories.{legal_at}
 use Rattle.mako_model.proofs.Lists.{get_set_other, get_replicate_within}
+use Rattle.mako_model.specs.Sizes.{ObjectsAreSmall}
 use Rattle.mako_names.specs.Steps.{NoneIsFreed}
 use Rattle.mako_names.specs.Tables.{phase_of}
 use Rattle.mako_names.proofs.Words.{phase_stored}
@@ -42,7 +43,6 @@ use Rattle.mako_seat.specs.declared.seat.Seat.{Seat}
 use Rattle.mako_seat.specs.declared.seat.Seat.TheVariants.{Server, Collector}
 use Rattle.mako_mutating.specs.Beside.{Snapped}
 use Rattle.mako_tracing.specs.ServerFacets.{stage_order, server_phase}
-use Rattle.mako_tracing.specs.ServerKeeps.{FieldsAreFew}
 use Rattle.mako_tracing.proofs.Belonging.{stores_leave_slots}
 use Rattle.mako_tracing.proofs.Resting.{measured_stays}
 use Rattle.mako_clearing.specs.ClearingFacets.{stage_phase}
@@ -261,7 +261,7 @@ module _ (w : Facts) (k : Holdings) (s : JointScene) (seats : List Seat) (i : �
   }
 
   -- ---- all of them
-  few : FieldsAreFew (state_of w after.front.history)
+  few : ObjectsAreSmall (state_of w after.front.history)
   few name fields are =
       all.few name fields
       (sym (ap (λ (h : Heap). fields_of h name) (one_more w s.front.history (Snap (k.cycle + 1)))) ∙ are)

@@ -6,7 +6,7 @@ use Rattle.std.proofs.lemmas.List.{append-nil}
 use Rattle.std.proofs.Math.Nat.{mul-le-mul_right}
 use Rattle.mako_words.specs.declared.name.Name.{Name}
 use Rattle.mako_gate.proofs.Lists.{set_at, set_past}
-use Rattle.mako_words.specs.Phases.{cycle_of, phase_at}
+use Rattle.mako_words.specs.Phases.{cycle_of}
 use Rattle.mako_shape.specs.declared.numbers.Numbers.{Numbers}
 use Rattle.mako_shape.specs.Places.{phase, root, barrier, notice}
 use Rattle.mako_step.specs.Machines.{IsAct}
@@ -18,7 +18,9 @@ use Rattle.mako_model.specs.declared.point.Point.TheVariants.{Did}
 use Rattle.mako_model.specs.Lawful.{IsLawful}
 use Rattle.mako_model.specs.Legal.{Facts, state_of, IsLegal}
 use Rattle.mako_model.proofs.Histories.{legal_at}
+use Rattle.mako_model.specs.Sizes.{IsSmallCall, ObjectsAreSmall}
 use Rattle.mako_names.specs.Tables.{phase_of}
+use Rattle.mako_names.proofs.Words.{phase_same}
 use Rattle.mako_call.specs.Callers.{CallFits}
 use Rattle.mako_call.specs.Calls as calling
 use Rattle.mako_call.specs.Calls.{event_by, decided}
@@ -35,12 +37,13 @@ use Rattle.mako_server.specs.Serving.{Serving}
 use Rattle.mako_server.specs.declared.stage.ServerStage.{ServerStage}
 use Rattle.mako_server.specs.declared.stage.ServerStage.TheVariants.{Turning, Tracing, Evacuating, Ended}
 use Rattle.mako_state.specs.CoreStates.{front_after}
-use Rattle.mako_mutating.specs.Beside.{GoesOnBeside, Silent, Told, IsSmallCall}
+use Rattle.mako_mutating.specs.Beside.{GoesOnBeside, Silent, Told}
 use Rattle.mako_mutating.specs.Mutators.{IsSeen, view_of, found_by, stepped}
-use Rattle.mako_mutating.proofs.Beside.{others_leave, objects_stay_small}
+use Rattle.mako_mutating.proofs.Beside.{others_leave}
+use Rattle.mako_model.proofs.Histories.{state_push}
+use Rattle.mako_model.proofs.Sizes.{points_keep_small}
 use Rattle.mako_making.specs.Makings.{MakingKeeps}
 use Rattle.mako_making.proofs.Staying.{searches_stay}
-use Rattle.mako_tracing.specs.ServerKeeps.{FieldsAreFew}
 use Rattle.mako_tracing.specs.ServerFacets.{IsServerSeat, tracer_laden}
 use Rattle.mako_tracing.specs.ServerLives.{IsMeasured}
 use Rattle.mako_tracing.proofs.Lists.{if_same, if_other}
@@ -113,10 +116,11 @@ at_low : (n : Numbers) (e : Evacuation) → IsKnown e → e.owner.shape ≡ n �
 at_low n e known shape = subst (λ (k : Numbers). e.at < k.ring) shape known.at
 
 few_stay : (w : Facts) (m : ℕ) (history after : List Point) → GoesOn w m history after
-    → FieldsAreFew (state_of w history) → FieldsAreFew (state_of w after)
+    → ObjectsAreSmall (state_of w history) → ObjectsAreSmall (state_of w after)
 few_stay w m history _ Same few = few
 few_stay w m history _ (More c r lawful small) few =
-    objects_stay_small.point w history (Did m c r) lawful small few
+    subst ObjectsAreSmall (sym (state_push w history (Did m c r)))
+    (points_keep_small.point (state_of w history) (Did m c r) lawful small few)
 
 module _ (n : Numbers) (w : Facts) (s : JointScene) (seats : List Seat) (m : ℕ) (d : Driving)
     (all : AllSit n w s seats) (here : slice_get seats m ≡ Some (Mutator d)) (act : IsAct (drivers.next_of d)) where
@@ -160,9 +164,8 @@ module _ (n : Numbers) (w : Facts) (s : JointScene) (seats : List Seat) (m : ℕ
       (subst (λ i. LeavesOthers d.caller.shape (MutatorWrites i) s.words (stepped s m d).words) sits.keeps.number
       (mutators_write d s.words sits.keeps.known))
 
-  pub phase_same : phase_of n (stepped s m d).words ≡ phase_of n s.words
-  unfolding phase_of
-  phase_same = ap phase_at (leaves phase tt (λ x. x))
+  pub phase_left : phase_of n (stepped s m d).words ≡ phase_of n s.words
+  phase_left = phase_same n s.words (stepped s m d).words (leaves phase tt (λ x. x))
 
   -- ---- the history
 
@@ -194,7 +197,7 @@ module _ (n : Numbers) (w : Facts) (s : JointScene) (seats : List Seat) (m : ℕ
   pub goes_on : GoesOn w m s.front.history (stepped s m d).front.history
   goes_on = by_task d.progress.task refl legal
 
-  pub few_after : FieldsAreFew (state_of w (stepped s m d).front.history)
+  pub few_after : ObjectsAreSmall (state_of w (stepped s m d).front.history)
   few_after = few_stay w m s.front.history (stepped s m d).front.history goes_on all.few
 
   finished_by : (t : Task) → (front_after s.front [] (drivers.task_event t (found_by s d))).finished ≡ s.front.finished
@@ -237,7 +240,7 @@ module _ (n : Numbers) (w : Facts) (s : JointScene) (seats : List Seat) (m : ℕ
           })
           (beside w m i s.front.history (stepped s m d).front.history apart goes_on);
       searches = searches_stay n w s i e all.joint it.seen it.searches (stepped s m d).words
-          (inl (ap cycle_of phase_same));
+          (inl (ap cycle_of phase_left));
       puts = subst (λ p. PutsAt p e.progress.task) (sym place_same) it.puts;
     }
 
@@ -257,14 +260,14 @@ module _ (n : Numbers) (w : Facts) (s : JointScene) (seats : List Seat) (m : ℕ
       rests r = record {
         through = r.through;
         through_is = r.through_is;
-        gone_over = subst (λ p. GoneOver n p v.ended r.through) (sym phase_same) r.gone_over;
+        gone_over = subst (λ p. GoneOver n p v.ended r.through) (sym phase_left) r.gone_over;
         sent = r.sent;
         done = r.done;
         sent_is = r.sent_is;
         sending = sending_stays n s.words (stepped s m d).words v.tracer.server taker v.notice_at r.sent [] r.done
             (λ slot low. leaves (notice v.tracer.server slot) (it.in_range, low) (λ x. x)) r.sending;
-        ended = λ e. r.ended e ∙ ap cycle_of (sym phase_same);
-        heard = subst (λ p. HeardIn p r.sent r.done) (sym phase_same) r.heard;
+        ended = λ e. r.ended e ∙ ap cycle_of (sym phase_left);
+        heard = subst (λ p. HeardIn p r.sent r.done) (sym phase_left) r.heard;
       }
 
       due_stays : (e : Evacuation) → e.owner.shape ≡ n → IsKnown e → (x generation : ℕ) → IsOwnEntry e.owner x

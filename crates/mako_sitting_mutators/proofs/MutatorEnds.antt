@@ -27,7 +27,7 @@ use Rattle.mako_mutating.specs.Mutators.{stepped}
 use Rattle.mako_tracing.specs.ServerKeeps.{SlotsBelong, IsNameFor}
 use Rattle.mako_sitting.specs.Seats.{AllSit, LivesFit, live_facet}
 use Rattle.mako_sitting_mutators.specs.MutatorSteps.{mutator_next}
-use Rattle.mako_sitting_mutators.proofs.MutatorBeside.{leaves, phase_same, goes_on, longer, legal, kept}
+use Rattle.mako_sitting_mutators.proofs.MutatorBeside.{leaves, phase_left, goes_on, longer, legal, kept}
 use Rattle.mako_sitting_mutators.proofs.MutatorMarks.{OldMarksAreLeft}
 
 module _ (n : Numbers) (w : Facts) (s : JointScene) (seats : List Seat) (m : ℕ) (d : Driving)
@@ -99,6 +99,6 @@ module _ (n : Numbers) (w : Facts) (s : JointScene) (seats : List Seat) (m : ℕ
     lives_after =
         subst (λ p. LivesFit p n w (stepped s m d).words (stepped s m d).front.history
         (map live_facet (set seats m (Mutator (mutator_next s d)))))
-        (sym (phase_same n w s seats m d all here act))
+        (sym (phase_left n w s seats m d all here act))
         (subst (LivesFit (phase_of n s.words) n w (stepped s m d).words (stepped s m d).front.history)
         (sym facets_same) (fit (phase_of n s.words) refl (map live_facet seats) all.lives))

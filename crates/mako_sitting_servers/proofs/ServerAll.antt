@@ -9,6 +9,7 @@ use Rattle.mako_shape.specs.Places.{finished}
 use Rattle.mako_model.specs.Fronts.{Seen}
 use Rattle.mako_model.specs.Legal.{Facts, state_of}
 use Rattle.mako_model.proofs.Lists.{get_set_cases}
+use Rattle.mako_model.specs.Sizes.{ObjectsAreSmall}
 use Rattle.mako_names.specs.Tables.{phase_of}
 use Rattle.mako_joint.specs.Joints.{JointScene, Joint}
 use Rattle.mako_server.specs.Serving.{Serving}
@@ -16,7 +17,7 @@ use Rattle.mako_seat.specs.declared.seat.Seat.{Seat}
 use Rattle.mako_seat.specs.declared.seat.Seat.TheVariants.{Mutator, Server, Collector}
 use Rattle.mako_state.specs.Facets.{ended_of}
 use Rattle.mako_tracing.specs.ServerFacets.{server_live}
-use Rattle.mako_tracing.specs.ServerKeeps.{SlotsBelong, FieldsAreFew}
+use Rattle.mako_tracing.specs.ServerKeeps.{SlotsBelong}
 use Rattle.mako_sitting.specs.Seats.{SeatSits, ServerSits, LivesFit, live_facet, AllSit}
 use Rattle.mako_sitting_servers.specs.ServerSteps.{LeavesSeats, FindingsStand}
 use Rattle.mako_sitting_servers.proofs.ServerBeside.{mutator_sits, server_sits}
@@ -63,7 +64,7 @@ module _ (n : Numbers) (w : Facts) (s after : JointScene) (seats : List Seat) (i
         (subst (SeatSits n w after a.taker a.places i) t.1 sits))
         (λ t. others finding k x t.0 t.1) (get_set_cases seats i k (Server u) x is);
     slots = slots;
-    few = subst (λ (f : Seen). FieldsAreFew (state_of w f.history)) (sym l.front) a.few;
+    few = subst (λ (f : Seen). ObjectsAreSmall (state_of w f.history)) (sym l.front) a.few;
     lives = subst (LivesFit (phase_of n after.words) n w after.words after.front.history)
         (sym (map-set live_facet seats i (Server u))) lives;
     ends = l.words finished tt (λ x. x) ∙ a.ends ∙ sym no_end;

@@ -1,7 +1,7 @@
 -- Mutators and other servers sit as they did, past a step of a server.
 use Rattle.std.proofs.Common.{◌≡◌, ◌≢◌, ℕ, ◌+◌, ◌*◌, ◌<◌, inl, Bool, List, [], slice_get, sym, ap, subst, refl, ◌∙◌}
 use Rattle.mako_words.specs.declared.name.Name.{Name}
-use Rattle.mako_words.specs.Phases.{phase_at, cycle_of}
+use Rattle.mako_words.specs.Phases.{cycle_of}
 use Rattle.mako_shape.specs.declared.numbers.Numbers.{Numbers}
 use Rattle.mako_shape.specs.Places.{phase, root, barrier, notice, entry}
 use Rattle.mako_model.specs.Fronts.{Seen}
@@ -28,14 +28,14 @@ use Rattle.mako_clearing.proofs.Apart.{due_same}
 use Rattle.mako_clearing.proofs.Rings.{sending_stays}
 use Rattle.mako_clearing.proofs.Staying.{clearing_stays}
 use Rattle.mako_writes.proofs.Servers.{own_entry}
+use Rattle.mako_names.proofs.Words.{phase_same}
 use Rattle.mako_sitting.specs.Seats.{MutatorSits, GoneOver, HeardIn, RestSits, StageSits, ServerSits}
 use Rattle.mako_sitting_servers.specs.ServerSteps.{LeavesSeats}
 
 -- the phase is none of a server's to store
 pub phase_left : (n : Numbers) (s after : JointScene) (seat server : ℕ) → LeavesSeats n s after seat server
     → phase_of n after.words ≡ phase_of n s.words
-unfolding phase_of
-phase_left n s after seat server l = ap phase_at (l.words phase tt (λ x. x))
+phase_left n s after seat server l = phase_same n s.words after.words (l.words phase tt (λ x. x))
 
 -- ---- mutators
 

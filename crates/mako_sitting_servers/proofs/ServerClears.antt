@@ -8,6 +8,7 @@ use Rattle.mako_step.specs.Machines.{IsAct}
 use Rattle.mako_step.specs.declared.step.Step.{Step}
 use Rattle.mako_step.specs.declared.step.Step.TheVariants.{Do, Ended as NoStep}
 use Rattle.mako_model.specs.Legal.{Facts, state_of}
+use Rattle.mako_model.specs.Sizes.{ObjectsAreSmall}
 use Rattle.mako_gate.specs.Standings.{shutter_at}
 use Rattle.mako_names.specs.Freeing.{own_entries}
 use Rattle.mako_names.specs.Tables.{phase_of}
@@ -25,7 +26,7 @@ use Rattle.mako_clearing.specs.ClearingFacets.{clearing_phase, clearing_ended, c
 use Rattle.mako_clearing.specs.ClearingFacets.{stage_carries, stage_phase, stage_ended, stage_watch, stage_work}
 use Rattle.mako_clearing.specs.ClearingFacets.{stage_through}
 use Rattle.mako_clearing.specs.Notices.{SendingStands}
-use Rattle.mako_clearing.specs.Clearing.{SeatStands, ClearingStands, ClearingGoesOn, ReadersMatch, ObjectsAreSmall}
+use Rattle.mako_clearing.specs.Clearing.{SeatStands, ClearingStands, ClearingGoesOn, ReadersMatch}
 use Rattle.mako_clearing.specs.Clearing.{IsFreeing, IsAtTablet, tells_end}
 use Rattle.mako_clearing.proofs.Keeping.{tablets_keep, freeing_keeps}
 use Rattle.mako_clearing.proofs.Seated.{Works, cycle_in, phase_is_evac}

@@ -12,6 +12,7 @@ use Rattle.mako_step.specs.declared.step.Step.TheVariants.{Do, Ended as NoStep}
 use Rattle.mako_model.specs.declared.point.Point.{Point}
 use Rattle.mako_model.specs.declared.point.Point.TheVariants.{Snap}
 use Rattle.mako_model.specs.Legal.{Facts, IsLegal, state_of}
+use Rattle.mako_model.specs.Sizes.{ObjectsAreSmall}
 use Rattle.mako_names.specs.Tables.{phase_of}
 use Rattle.mako_ring.specs.Tracing as tracer
 use Rattle.mako_ring.specs.Tracing.{TracerView}
@@ -32,21 +33,17 @@ use Rattle.mako_server.specs.declared.stage.ServerStage.TheVariants.{Turning, Tr
 use Rattle.mako_server.specs.Serving.{Serving, stage_next, stage_fed, turned, traced}
 use Rattle.mako_tracing.specs.Laws.{words_next, server_next, ServerStands, LowWhileTraced}
 use Rattle.mako_tracing.specs.ServerFacets.{server_live, tracer_laden, stage_order}
-use Rattle.mako_tracing.specs.ServerKeeps.{FieldsAreFew}
 use Rattle.mako_tracing.specs.ServerLives.{IsMeasured, LivesStand, LivesGo, LivesRest, IsUntraced}
 use Rattle.mako_tracing.proofs.Leading.{IsPlain, plain_leads}
 use Rattle.mako_tracing.proofs.LowCounts.{counts_low}
 use Rattle.mako_tracing.proofs.Resting.{unladen_rest}
 use Rattle.mako_tracing.proofs.Tracers.{laden_traces}
 use Rattle.mako_tracing.proofs.Lists.{set_back}
+use Rattle.mako_tracing.proofs.PastCounts.{found_untraced}
+use Rattle.mako_names.proofs.Words.{phase_same}
 use Rattle.mako_sitting.specs.Seats.{LivesFit}
 
 -- ---- where no cycle is traced
-
-phase_by : (n : Numbers) (words after : List ℕ) → word_at n after phase ≡ word_at n words phase
-    → phase_of n after ≡ phase_of n words
-unfolding phase_of
-phase_by n words after same = ap phase_at same
 
 empty_plain : (x : TraceStage) → hand_of x ≡ empty → IsPlain x
 empty_plain (Sending s) e = tt
@@ -68,11 +65,6 @@ turned_stage v (Stop c) untraced = refl
 traced_tracer : (v : Serving) (t : TracerView) (step : Step) → (traced v t step).tracer ≡ t
 traced_tracer v t (Do act) = refl
 traced_tracer v t NoStep = refl
-
-found_untraced : (n : Numbers) (s : JointScene) → IsUntraced n s → (c : ℕ)
-    → phase_at (word_at n s.words phase) ≢ Trace c
-unfolding phase_of
-found_untraced n s untraced c is = untraced c is
 
 -- who traces has nothing in hand then
 pub untraced_unladen : (n : Numbers) (w : Facts) (s : JointScene) (seat : ℕ) (v : Serving) → ServerStands n w s seat v
@@ -163,13 +155,13 @@ module _ (n : Numbers) (w : Facts) (s : JointScene) (seat : ℕ) (v : Serving) (
         → IsMeasured (state_of w s.front.history) u.tracer.stage → CountsGo
     goes_past p c is same rest past fits m = record {
       right = subst (λ q. LivesFit q n w (words_next v s.words) s.front.history (set lives seat (server_live u)))
-          (sym (phase_by n s.words (words_next v s.words) same ∙ is))
+          (sym (phase_same n s.words (words_next v s.words) same ∙ is))
           (subst (LivesFit p n w (words_next v s.words) s.front.history) (sym (same_facets rest))
           (fits (past_stays n s.words (words_next v s.words) lives c past rest.words)));
       sized = m;
     }
 
-    pub low_counts : FieldsAreFew (state_of w s.front.history) → v.stage ≡ Tracing
+    pub low_counts : ObjectsAreSmall (state_of w s.front.history) → v.stage ≡ Tracing
         → LivesFit (phase_of n s.words) n w s.words s.front.history lives → LowWhileTraced n s v
     low_counts few e fit c is =
         counts_low n w s lives (before_snap c s.front.history) c seat v stands e

@@ -19,6 +19,7 @@ use Rattle.mako_shape.proofs.BelongingLaws.{region_word-index, word_after}
 use Rattle.mako_shape.proofs.PlaceLaws.{index_below}
 use Rattle.mako_model.specs.Heaps.{Heap}
 use Rattle.mako_model.specs.Legal.{Facts, state_of}
+use Rattle.mako_model.specs.Sizes.{ObjectsAreSmall}
 use Rattle.mako_names.specs.Tables.{phase_of}
 use Rattle.mako_names.specs.Uses.{IsGood}
 use Rattle.mako_ring.specs.TraceFacets as trace
@@ -63,7 +64,7 @@ use Rattle.mako_server.specs.declared.stage.ServerStage.TheVariants.{Tracing}
 use Rattle.mako_server.specs.Serving.{Serving, Fits}
 use Rattle.mako_tracing.specs.Laws.{found_by, ServerStands as Stands, LowWhileTraced}
 use Rattle.mako_tracing.specs.ServerFacets.{tracer_laden}
-use Rattle.mako_tracing.specs.ServerKeeps.{IsNameFor, SlotsBelong, FieldsAreFew, CountsAreLow}
+use Rattle.mako_tracing.specs.ServerKeeps.{IsNameFor, SlotsBelong, CountsAreLow}
 use Rattle.mako_tracing.proofs.Tracers.{laden_traces}
 
 module _ (n : Numbers) (w : Facts) (s : JointScene) (j : Joint n w s) where
@@ -106,7 +107,7 @@ module _ (n : Numbers) (w : Facts) (s : JointScene) (j : Joint n w s) where
     pub header_is : slice_index s.words address ≡ length rec.fields
     header_is = header_at n s.words r o rec.fields address rec.address rec.words
 
-    pub has_record : FieldsAreFew h → RecordFits n address (slice_index s.words address)
+    pub has_record : ObjectsAreSmall h → RecordFits n address (slice_index s.words address)
     has_record few =
         let last = inside (length rec.fields) (omega arith) in
         let below = index_below n (region_word r (o + length rec.fields)) last in
@@ -185,7 +186,7 @@ module _ (n : Numbers) (w : Facts) (s : JointScene) (j : Joint n w s) where
     pub popped_fits : (x : ℕ) → job.off ≡ popped x → IsAddress n (entry_at (word_at n s.words (entry x))).address
     popped_fits x e = let m = off_marked x e in has_address x m.in_range m.taken
 
-    pub located_fits : (x a : ℕ) → job.off ≡ located x a → FieldsAreFew h → RecordFits n a (slice_index s.words a)
+    pub located_fits : (x a : ℕ) → job.off ≡ located x a → ObjectsAreSmall h → RecordFits n a (slice_index s.words a)
     located_fits x a e few =
         let o = subst (OffStands n s.words cycle) e keeps.off in
         subst (λ k. RecordFits n k (slice_index s.words k)) (sym o.1) (has_record x o.0.in_range o.0.taken few)
@@ -200,7 +201,7 @@ module _ (n : Numbers) (w : Facts) (s : JointScene) (j : Joint n w s) where
         let is = heap.taken x grey in
         has_address x.entry is.within (taken_word n s.words x.entry x.generation is)
 
-    pub measured_fits : (x : Name) (e : EntryWord) → job.hand ≡ marking x e → FieldsAreFew h
+    pub measured_fits : (x : Name) (e : EntryWord) → job.hand ≡ marking x e → ObjectsAreSmall h
         → RecordFits n e.address (slice_index s.words e.address)
     measured_fits x e hand few =
         let known = subst (HandStands n s.words cycle) hand keeps.hand in
@@ -240,7 +241,7 @@ module _ (w : Facts) (s : JointScene) (seat : ℕ) (t : TracerView) (ended : ℕ
         ≡ Some (serving t.server (working t.cycle) ended (tracer_laden (at_stage t x)))
     pub serves : s.facets.servers t.server ≡ serving_of (at_stage t x)
     pub stands : TracerStands shape t.server (at_stage t x)
-    pub few : FieldsAreFew (state_of w s.front.history)
+    pub few : ObjectsAreSmall (state_of w s.front.history)
     pub low : (cycle : ℕ) → phase_of shape s.words ≡ Trace cycle → CountsAreLow t
 
   abbrev found_at : TraceStage → ℕ
@@ -311,7 +312,7 @@ module _ (w : Facts) (s : JointScene) (seat : ℕ) (t : TracerView) (ended : ℕ
   stage_fits Ended at = tt
 
 pub found_fits : (n : Numbers) (w : Facts) (s : JointScene) (seat : ℕ) (v : Serving) → Stands n w s seat v
-    → v.stage ≡ Tracing → FieldsAreFew (state_of w s.front.history) → LowWhileTraced n s v
+    → v.stage ≡ Tracing → ObjectsAreSmall (state_of w s.front.history) → LowWhileTraced n s v
     → Fits v (found_by v s.words)
 found_fits n w s seat v stands e few low = by v.stage e n stands.keeps.tracer.shape_is stands low
   where

@@ -2,7 +2,6 @@ pub mod Acts
 pub mod Belonging
 pub mod CountedTurns
 pub mod Counting
-pub mod FewFields
 pub mod Fitting
 pub mod Leading
 pub mod Lists

@@ -19,6 +19,7 @@ use Rattle.mako_model.specs.declared.point.Point.{Point}
 use Rattle.mako_model.specs.declared.point.Point.TheVariants.{Snap}
 use Rattle.mako_model.specs.Heaps.{Heap, fields_of}
 use Rattle.mako_model.specs.Legal.{Facts, state_of, IsLegal}
+use Rattle.mako_model.specs.Sizes.{ObjectsAreSmall}
 use Rattle.mako_names.specs.Tables.{entry_of}
 use Rattle.mako_shades.specs.Serving.{StandOnce}
 use Rattle.mako_shades.proofs.Stacks.{range_room}
@@ -33,7 +34,6 @@ use Rattle.mako_server.specs.declared.stage.ServerStage.TheVariants.{Tracing}
 use Rattle.mako_server.specs.Serving.{Serving, Fits}
 use Rattle.mako_tracing.specs.Laws.{found_by, ServerStands}
 use Rattle.mako_tracing.specs.ServerFacets.{tracer_laden, tracer_owed, stage_order}
-use Rattle.mako_tracing.specs.ServerKeeps.{FieldsAreFew}
 use Rattle.mako_tracing.specs.ServerLives.{LivesStand, LivesGo, TracingCounts, CountsStayLow}
 use Rattle.mako_tracing.proofs.CountedTurns.{in_cycle, tracing_goes}
 use Rattle.mako_tracing.proofs.Fitting.{found_fits}
@@ -91,7 +91,7 @@ in_tablet n e t low is =
     let same : e / n.entries * n.entries ≡ t * n.entries = ap (λ k. k * n.entries) is in
     (omega arith, omega arith)
 
-size_small : (h : Heap) → FieldsAreFew h → (x : Name) → record_size h x ≤ 15
+size_small : (h : Heap) → ObjectsAreSmall h → (x : Name) → record_size h x ≤ 15
 size_small h few x = by (fields_of h x) refl
   where
     by : (o : Option (List Value)) → fields_of h x ≡ o → sized o ≤ 15
@@ -102,7 +102,7 @@ size_small h few x = by (fields_of h x) refl
 
 module _ (n : Numbers) (w : Facts) (s : JointScene) (facets : List LiveFacet) (before : List Point) (cycle seat : ℕ)
     (v : Serving) (stands : ServerStands n w s seat v) (tracing : v.stage ≡ Tracing)
-    (c : LivesStand n w s facets before cycle seat v) (few : FieldsAreFew (state_of w s.front.history)) where
+    (c : LivesStand n w s facets before cycle seat v) (few : ObjectsAreSmall (state_of w s.front.history)) where
   abbrev server : ℕ
   server = v.tracer.server
 

@@ -70,7 +70,7 @@ turned_facet v (Trace c) untraced = absurd (untraced c refl)
 turned_facet v (Evac c) untraced = refl
 turned_facet v (Stop c) untraced = refl
 
-found_untraced : (n : Numbers) (s : JointScene) → IsUntraced n s → (c : ℕ)
+pub found_untraced : (n : Numbers) (s : JointScene) → IsUntraced n s → (c : ℕ)
     → phase_at (word_at n s.words phase) ≢ Trace c
 unfolding phase_of
 found_untraced n s untraced c is = untraced c is

@@ -1,18 +1,13 @@
 -- What a server's turn and its tracing keep: the laws, each as a statement.
-use Rattle.std.specs.Prelude.{ℕ, ◌≡◌, ◌<◌, ◌≤◌, ◌⊎◌, List, length, slice_set}
+use Rattle.std.specs.Prelude.{ℕ, ◌≡◌, ◌<◌, ◌⊎◌, List, length, slice_set}
 use Rattle.mako_words.specs.declared.phase_word.PhaseWord.TheVariants.{Trace}
 use Rattle.mako_shape.specs.declared.numbers.Numbers.{Numbers}
 use Rattle.mako_shape.specs.Limits.{IsShape}
 use Rattle.mako_shape.specs.Places.{Place, work, ghost, index, Within, total, word_at}
 use Rattle.mako_step.specs.Machines.{CanStep}
 use Rattle.mako_step.specs.Acts.{words_stepped, finds}
-use Rattle.mako_model.specs.declared.call.Call.{Call}
-use Rattle.mako_model.specs.declared.call.Call.TheVariants.{New}
-use Rattle.mako_model.specs.declared.point.Point.{Point}
-use Rattle.mako_model.specs.declared.point.Point.TheVariants.{Did, Snap}
-use Rattle.mako_model.specs.Heaps.{Heap}
-use Rattle.mako_model.specs.Lawful.{IsLawful, heap_after}
-use Rattle.mako_model.specs.Legal.{Facts, opening_of, state_of}
+use Rattle.mako_model.specs.Legal.{Facts, state_of}
+use Rattle.mako_model.specs.Sizes.{ObjectsAreSmall}
 use Rattle.mako_names.specs.Tables.{phase_of}
 use Rattle.mako_shades.specs.Steps.{IsIncoming}
 use Rattle.mako_joint.specs.Joints.{JointScene, Joint}
@@ -20,7 +15,7 @@ use Rattle.mako_joint.specs.Openings.{IsJointOpening}
 use Rattle.mako_server.specs.declared.stage.ServerStage.TheVariants.{Turning, Tracing}
 use Rattle.mako_server.specs.Serving.{Serving, opening, next_of, fed, Fits}
 use Rattle.mako_tracing.specs.ServerFacets.{IsServerSeat, with_server}
-use Rattle.mako_tracing.specs.ServerKeeps.{IsNameFor, SlotsBelong, FieldsAreFew, CountsAreLow, ServerKeeps}
+use Rattle.mako_tracing.specs.ServerKeeps.{IsNameFor, SlotsBelong, CountsAreLow, ServerKeeps}
 
 -- the words after the server's next act, and the server after it
 abbrev pub words_next : Serving → List ℕ → List ℕ
@@ -54,7 +49,7 @@ LowWhileTraced n s v = (cycle : ℕ) → phase_of n s.words ≡ Trace cycle → 
 -- then, where no object has many fields, its act is of a word that there is, and finds what it can go on with
 abbrev pub TracingCanGo : Type 0
 TracingCanGo = (n : Numbers) (w : Facts) (s : JointScene) (seat : ℕ) (v : Serving) → ServerStands n w s seat v
-    → v.stage ≡ Tracing → FieldsAreFew (state_of w s.front.history) → LowWhileTraced n s v
+    → v.stage ≡ Tracing → ObjectsAreSmall (state_of w s.front.history) → LowWhileTraced n s v
     → CanStep (next_of v) s.words (Fits v)
 
 -- and so it is with the look at the phase
@@ -65,7 +60,7 @@ TurnsCanGo = (n : Numbers) (w : Facts) (s : JointScene) (seat : ℕ) (v : Servin
 -- each step of its tracing
 abbrev pub TracingStepsGo : Type 0
 TracingStepsGo = (n : Numbers) (w : Facts) (s : JointScene) (seat : ℕ) (v : Serving) → ServerStands n w s seat v
-    → v.stage ≡ Tracing → FieldsAreFew (state_of w s.front.history) → LowWhileTraced n s v → ServerGoes n w s seat v
+    → v.stage ≡ Tracing → ObjectsAreSmall (state_of w s.front.history) → LowWhileTraced n s v → ServerGoes n w s seat v
 
 -- its turn on the phase
 abbrev pub TurnsGo : Type 0
@@ -92,23 +87,6 @@ BelongsAt n p v = Unit {0}
 abbrev pub StoresLeaveSlots : Type 0
 StoresLeaveSlots = (n : Numbers) (words : List ℕ) (p : Place) (v : ℕ) → length words ≡ total n → Within n p
     → SlotsBelong n words → BelongsAt n p v → SlotsBelong n (slice_set words (index n p) v)
-
--- a call makes no object with many fields
-abbrev pub CallIsSmall : Call → Type 0
-CallIsSmall (New root fields) = fields ≤ 14
-CallIsSmall call = Unit {0}
-
-abbrev pub PointIsSmall : Point → Type 0
-PointIsSmall (Did m call reply) = CallIsSmall call
-PointIsSmall (Snap cycle) = Unit {0}
-
--- so no object has many fields, if the board has not
-abbrev pub OpeningsHaveFew : Type 0
-OpeningsHaveFew = (w : Facts) → w.board ≤ 14 → FieldsAreFew (opening_of w)
-
-abbrev pub FieldsStayFew : Type 0
-FieldsStayFew = (h : Heap) (p : Point) → IsLawful h p → PointIsSmall p → FieldsAreFew h
-    → FieldsAreFew (heap_after h p)
 
 -- ---- the opening
 

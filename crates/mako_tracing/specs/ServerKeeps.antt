@@ -1,13 +1,11 @@
 -- What a server keeps of itself and of the words, that no group of the invariant has.
-use Rattle.std.specs.Prelude.{ℕ, ◌≡◌, ◌<◌, ◌≤◌, ◌^◌, ◌⊎◌, List, length, slice_index, Some, None}
+use Rattle.std.specs.Prelude.{ℕ, ◌≡◌, ◌<◌, ◌^◌, ◌⊎◌, List, slice_index, None}
 use Rattle.mako_words.specs.declared.name.Name.{Name}
-use Rattle.mako_words.specs.declared.value.Value.{Value}
 use Rattle.mako_words.specs.Names.{name_word, FitsName}
 use Rattle.mako_shape.specs.declared.numbers.Numbers.{Numbers}
 use Rattle.mako_shape.specs.Limits.{all_entries}
 use Rattle.mako_shape.specs.Places.{work, ghost, Within, word_at}
 use Rattle.mako_shape.specs.Belongings.{server_of_entry}
-use Rattle.mako_model.specs.Heaps.{Heap, fields_of}
 use Rattle.mako_ring.specs.TracerFacts.{TracerStands}
 use Rattle.mako_ring.specs.Tracing.{TracerView}
 use Rattle.mako_ring.specs.declared.tracing.ScanStage.{ScanStage}
@@ -31,10 +29,6 @@ pub record SlotsBelong (n : Numbers) (words : List ℕ) : Type 0 where
       → (word_at n words (work r k) ≡ 0) ⊎ IsNameFor n r (word_at n words (work r k))
   pub ghosts : (a r k : ℕ) → Within n (ghost a r k)
       → (word_at n words (ghost a r k) ≡ 0) ⊎ IsNameFor n r (word_at n words (ghost a r k))
-
--- no object has more fields than a script may ask for
-abbrev pub FieldsAreFew : Heap → Type 0
-FieldsAreFew h = (name : Name) (fields : List Value) → fields_of h name ≡ Some fields → length fields ≤ 14
 
 -- the live counts are far from their bounds
 abbrev pub CountsAreLow : TracerView → Type 0

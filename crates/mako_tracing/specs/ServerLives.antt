@@ -6,6 +6,7 @@ use Rattle.mako_model.specs.declared.point.Point.{Point}
 use Rattle.mako_model.specs.declared.point.Point.TheVariants.{Snap}
 use Rattle.mako_model.specs.Heaps.{Heap}
 use Rattle.mako_model.specs.Legal.{Facts, state_of}
+use Rattle.mako_model.specs.Sizes.{ObjectsAreSmall}
 use Rattle.mako_names.specs.Tables.{phase_of}
 use Rattle.mako_ring.specs.declared.tracing.MarkStage.{MarkStage}
 use Rattle.mako_ring.specs.declared.tracing.MarkStage.TheVariants.{Considering, Measuring, Marking as EntryMark}
@@ -20,7 +21,7 @@ use Rattle.mako_server.specs.declared.stage.ServerStage.TheVariants.{Turning, Tr
 use Rattle.mako_server.specs.Serving.{Serving}
 use Rattle.mako_tracing.specs.Laws.{words_next, server_next, scene_next, ServerStands}
 use Rattle.mako_tracing.specs.ServerFacets.{server_live}
-use Rattle.mako_tracing.specs.ServerKeeps.{FieldsAreFew, CountsAreLow}
+use Rattle.mako_tracing.specs.ServerKeeps.{CountsAreLow}
 
 -- the record of the name that is marked next was measured
 abbrev pub MarkIsMeasured : Heap → MarkStage → Type 0
@@ -57,7 +58,7 @@ LivesGo n w s lives before cycle seat v =
 abbrev pub TracingCounts : Type 0
 TracingCounts = (n : Numbers) (w : Facts) (s : JointScene) (lives : List LiveFacet) (before : List Point)
     (cycle seat : ℕ) (v : Serving) → ServerStands n w s seat v → v.stage ≡ Tracing
-    → FieldsAreFew (state_of w s.front.history) → LivesStand n w s lives before cycle seat v
+    → ObjectsAreSmall (state_of w s.front.history) → LivesStand n w s lives before cycle seat v
     → LivesGo n w s lives before cycle seat v
 
 -- its turn on the phase
@@ -70,7 +71,7 @@ TurnsCount = (n : Numbers) (w : Facts) (s : JointScene) (lives : List LiveFacet)
 abbrev pub CountsStayLow : Type 0
 CountsStayLow = (n : Numbers) (w : Facts) (s : JointScene) (lives : List LiveFacet) (before : List Point)
     (cycle seat : ℕ) (v : Serving) → ServerStands n w s seat v → v.stage ≡ Tracing
-    → LivesStand n w s lives before cycle seat v → FieldsAreFew (state_of w s.front.history) → CountsAreLow v.tracer
+    → LivesStand n w s lives before cycle seat v → ObjectsAreSmall (state_of w s.front.history) → CountsAreLow v.tracer
 
 -- where no cycle is traced, its step stores no live word, and leaves what live counts read of it
 pub record LivesRest (n : Numbers) (s : JointScene) (v : Serving) : Type 0 where
@@ -82,7 +83,7 @@ IsUntraced n s = (cycle : ℕ) → phase_of n s.words ≢ Trace cycle
 
 abbrev pub TracingLeavesCounts : Type 0
 TracingLeavesCounts = (n : Numbers) (w : Facts) (s : JointScene) (seat : ℕ) (v : Serving) → ServerStands n w s seat v
-    → v.stage ≡ Tracing → FieldsAreFew (state_of w s.front.history) → IsUntraced n s → LivesRest n s v
+    → v.stage ≡ Tracing → ObjectsAreSmall (state_of w s.front.history) → IsUntraced n s → LivesRest n s v
 
 abbrev pub TurnsLeaveCounts : Type 0
 TurnsLeaveCounts = (n : Numbers) (w : Facts) (s : JointScene) (seat : ℕ) (v : Serving) → ServerStands n w s seat v

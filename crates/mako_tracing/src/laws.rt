@@ -1,6 +1,6 @@
 //! Laws of a server's turn and of its tracing. The functions do nothing; what they ensure is for contracts and proofs.
 
-ghost use Rattle.mako_tracing.specs.Laws.{EmptySlotsBelong, FieldsStayFew, OpeningServersStand, OpeningsHaveFew};
+ghost use Rattle.mako_tracing.specs.Laws.{EmptySlotsBelong, OpeningServersStand};
 ghost use Rattle.mako_tracing.specs.Laws.{OpeningsKeep, StoresLeaveSlots, TracingCanGo, TracingStepsGo, TurnsCanGo};
 ghost use Rattle.mako_tracing.specs.Laws.{TurnsGo};
 ghost use Rattle.mako_tracing.specs.Resting.{MeasuredStays, QuietServersAreUnladen, UnladenServersRest};
@@ -46,12 +46,6 @@ pub fn servers_begin_and_slots_stay()
     ensures empty { EmptySlotsBelong }
     ensures stores { StoresLeaveSlots }
     ensures all { OpeningServersStand }
-{}
-
-/// No object has many fields: not at the opening, and not after a point that makes none with more.
-pub fn fields_stay_few()
-    ensures opening { OpeningsHaveFew }
-    ensures points { FieldsStayFew }
 {}
 
 /// A server that is not laden, as the order of the phases reads it, has nothing to trace. In a quiet heap no server is
