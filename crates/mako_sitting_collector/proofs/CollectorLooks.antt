@@ -18,7 +18,7 @@ use Rattle.mako_joint.specs.Joints.{JointScene, Joint}
 use Rattle.mako_pause.specs.Collecting.{Collecting, Holdings, at, next_of, Fits, window_of, set_window, head_slot}
 use Rattle.mako_pause.specs.Collecting.{names_of, empty, empty_from, barriers_from, paused, idle_fed, pause_fed}
 use Rattle.mako_pause.specs.Collecting.{forward_fed, barrier_fed, empty_fed, choice_fed, server_chosen, servers_from}
-use Rattle.mako_pause.specs.Collecting.{gifts_from}
+use Rattle.mako_pause.specs.Collecting.{gifts_from, live_words}
 use Rattle.mako_pause.specs.declared.stage.Pause.{Pause}
 use Rattle.mako_pause.specs.declared.stage.Pause.TheVariants.{Snapshot, Choice as ForChoice}
 use Rattle.mako_pause.specs.declared.stage.PauseStage.TheVariants.{Shutting, Draining, LoadingRoot, StoringTrace}
@@ -27,6 +27,7 @@ use Rattle.mako_pause.specs.declared.stage.ForwardStage.TheVariants.{Looking, St
 use Rattle.mako_pause.specs.declared.stage.BarrierStage.TheVariants.{Loading, Clearing}
 use Rattle.mako_pause.specs.declared.stage.IdleStage.{IdleStage}
 use Rattle.mako_pause.specs.declared.stage.IdleStage.TheVariants.{LoadingDemand, LookingFinished, StoringStop}
+use Rattle.mako_pause.specs.declared.stage.ChoiceStage.{ChoiceStage}
 use Rattle.mako_pause.specs.declared.stage.ChoiceStage.TheVariants.{LoadingLive, LoadingTop, LoadingHome}
 use Rattle.mako_pause.specs.declared.stage.ChoiceStage.TheVariants.{StoringLeaving, StoringHome, StoringTop}
 use Rattle.mako_pause.specs.declared.stage.ChoiceStage.TheVariants.{StoringEvac, Opening as Reopening}
@@ -236,16 +237,23 @@ module _ (n : Numbers) (s : JointScene) (k : Holdings) where
   ChosenLeaves given spare c = StageFound n s.words c.kept c.stage
       → ChoiceOf n s.words s.facets.choice c.kept c.stage given spare → Leaves n s k c
 
-  live_left : (r place x : ℕ) (given : List Gift) (spare : List ℕ) → Fresh k
-      → ChosenLeaves given spare (choice_fed k (LoadingLive r place) x)
-  live_left r place x given spare g f o = record {
-    shape = refl;
-    notices = refl;
-    cycles = refl;
+  -- where it goes on with the choice
+  chosen_left : (given : List Gift) (spare : List ℕ) (h : Holdings) (stage : ChoiceStage) → h.shape ≡ k.shape
+      → h.notice_at ≡ k.notice_at → h.cycles ≡ k.cycles → Fresh h
+      → ChosenLeaves given spare (at h (Choosing stage))
+  chosen_left given spare h stage shape notices cycles g f o = record {
+    shape = shape;
+    notices = notices;
+    cycles = cycles;
     found = f;
     choice = (given, spare, o);
     gathers = g;
   }
+
+  live_left : (r place x : ℕ) (given : List Gift) (spare : List ℕ) → Fresh k
+      → ChosenLeaves given spare (choice_fed k (LoadingLive r place) x)
+  live_left r place x given spare g =
+      chosen_left given spare k (LoadingTop r place (live_words k x)) refl refl refl g
 
   top_left : (r place number x : ℕ) (given : List Gift) (spare : List ℕ) → Fresh k
       → ChosenLeaves given spare (choice_fed k (LoadingTop r place number) x)
@@ -257,39 +265,10 @@ module _ (n : Numbers) (s : JointScene) (k : Holdings) where
       (λ e. either_way (ChosenLeaves given spare) (r + 1 == k.shape.servers) (gifts_from u 0)
       (at u (Choosing (LoadingLive (r + 1) 0)))
       (λ e. either_way (ChosenLeaves given spare) (nat_lt 0 (length u.chosen)) (at u (Choosing (LoadingHome 0)))
-      (at u (Choosing StoringEvac))
-      (λ e f o. record {
-        shape = refl;
-        notices = refl;
-        cycles = refl;
-        found = f;
-        choice = (given, spare, o);
-        gathers = g;
-      })
-      (λ e f o. record {
-        shape = refl;
-        notices = refl;
-        cycles = refl;
-        found = f;
-        choice = (given, spare, o);
-        gathers = g;
-      }))
-      (λ e f o. record {
-        shape = refl;
-        notices = refl;
-        cycles = refl;
-        found = f;
-        choice = (given, spare, o);
-        gathers = g;
-      }))
-      (λ e f o. record {
-        shape = refl;
-        notices = refl;
-        cycles = refl;
-        found = f;
-        choice = (given, spare, o);
-        gathers = g;
-      })
+      (at u (Choosing StoringEvac)) (λ e. chosen_left given spare u (LoadingHome 0) refl refl refl g)
+      (λ e. chosen_left given spare u StoringEvac refl refl refl g))
+      (λ e. chosen_left given spare u (LoadingLive (r + 1) 0) refl refl refl g))
+      (λ e. chosen_left given spare h (LoadingLive r (place + 1)) refl refl refl g)
 
 -- ---- its looks
 
