@@ -6,7 +6,6 @@ pub mod ServerCounts
 pub mod ServerEvacuates
 pub mod ServerFindings
 pub mod ServerFrames
-pub mod ServerPlaces
 pub mod ServerReaders
 pub mod ServerRests
 pub mod ServerSteps

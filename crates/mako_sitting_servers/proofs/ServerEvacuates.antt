@@ -27,6 +27,7 @@ use Rattle.mako_phases.specs.Lives.{counting}
 use Rattle.mako_phases.proofs.LiveLaws.{past_stays}
 use Rattle.mako_phases.proofs.Says.{part_phase}
 use Rattle.mako_joint.specs.Joints.{JointScene}
+use Rattle.mako_evac.specs.declared.stage.EvacStage.{EvacStage}
 use Rattle.mako_evac.specs.Evacuating as evacuations
 use Rattle.mako_evac.specs.Evacuating.{Evacuation}
 use Rattle.mako_server.specs.declared.stage.ServerStage.{ServerStage}
@@ -52,7 +53,8 @@ use Rattle.mako_sitting_servers.proofs.ServerClears.{clearing_goes, phase_there,
 use Rattle.mako_sitting_servers.proofs.ServerCounts.{low_counts}
 use Rattle.mako_sitting_servers.proofs.ServerFindings.{LeavesUsed}
 use Rattle.mako_sitting_servers.proofs.ServerFrames.{evacuation_leaves, words_left}
-use Rattle.mako_sitting_servers.proofs.ServerPlaces.{ClearingWrites, evacuates}
+use Rattle.mako_writes.proofs.Servers.{ClearingWrites, evacuates}
+use Rattle.mako_writes.proofs.Touching.{weaker}
 use Rattle.mako_sitting_servers.proofs.ServerReaders.{readers_match}
 use Rattle.mako_clearing.specs.ClearingFacets.{stage_sends}
 use Rattle.mako_phases.specs.Lives.{LiveFacet, ArePast}
@@ -62,14 +64,15 @@ use Rattle.mako_sitting_servers.proofs.ServerSteps.{findings, turning, tracing}
 
 -- the words that are none of its to write
 clearing_words : (n : Numbers) (e : Evacuation) (words : List ℕ) → evacuations.IsKnown e → e.owner.shape ≡ n
-    → LeavesOthers n ClearingWrites words (words_stepped (evacuations.next_of e) words)
+    → LeavesOthers n (ClearingWrites e.at e.stage) words (words_stepped (evacuations.next_of e) words)
 clearing_words n e words known shape =
-    subst (λ k. LeavesOthers k ClearingWrites words (words_stepped (evacuations.next_of e) words)) shape
-    ((evacuates e.owner known.owner e.at e.stage known.at known.stage).rest words)
+    subst (λ k. LeavesOthers k (ClearingWrites e.at e.stage) words (words_stepped (evacuations.next_of e) words)) shape
+    ((weaker (ClearingWrites e.at e.stage) (evacuates e.owner known.owner e.at known.at e.stage known.stage)
+    (λ p both. both.1)).rest words)
 
-slots_left : (n : Numbers) (words after : List ℕ) → LeavesOthers n ClearingWrites words after → SlotsBelong n words
-    → SlotsBelong n after
-slots_left n words after l slots = record {
+slots_left : (n : Numbers) (at : ℕ) (stage : EvacStage) (words after : List ℕ)
+    → LeavesOthers n (ClearingWrites at stage) words after → SlotsBelong n words → SlotsBelong n after
+slots_left n at stage words after l slots = record {
   works = λ r k within. subst (λ x. (x ≡ 0) ⊎ IsNameFor n r x) (sym (l (work r k) within (λ x. x)))
       (slots.works r k within);
   ghosts = λ b r k within.
@@ -140,7 +143,7 @@ module _ (n : Numbers) (w : Facts) (s : JointScene) (seats : List Seat) (a : All
   seat_is : i ≡ server_seat n e.owner.server
   seat_is = mine.number ∙ ap (λ k. n.mutators + k) (sym server)
 
-  us : LeavesOthers n ClearingWrites s.words after.words
+  us : LeavesOthers n (ClearingWrites e.at e.stage) s.words after.words
   us = clearing_words n e s.words known.1.known clears.1.shape
 
   others : LeavesSeats n s after i v.tracer.server
@@ -227,7 +230,8 @@ module _ (n : Numbers) (w : Facts) (s : JointScene) (seats : List Seat) (a : All
   evacuating =
       subst (λ x. AllSit n w after (set seats i (Server x))) (sym next_is)
       (all_after n w s after seats i v turned a at others goes.joint
-      (slots_left n s.words after.words us a.slots) sits (findings n w s seats a after no_choice) lives_then)
+      (slots_left n e.at e.stage s.words after.words us a.slots) sits
+      (findings n w s seats a after no_choice) lives_then)
 
 -- ---- each step
 

@@ -1,5 +1,5 @@
 -- A server at its turn or in its tracing sits past its own step.
-use Rattle.std.proofs.Common.{◌≡◌, ◌≢◌, ℕ, ◌+◌, ◌==◌, ◌<◌, ◌≤◌, if◌then◌else◌, Bool, true, false, List, [], slice_get}
+use Rattle.std.proofs.Common.{◌≡◌, ◌≢◌, ℕ, ◌+◌, ◌==◌, ◌<◌, ◌≤◌, if◌then◌else◌, Bool, true, false, [], slice_get}
 use Rattle.std.proofs.Common.{Some, sym, ap, subst, refl, ◌∙◌, arith}
 use Rattle.std.proofs.lemmas.Bool.Decides.{nat_tests}
 use Rattle.std.proofs.lemmas.List.{set-get_or}
@@ -38,28 +38,28 @@ use Rattle.mako_clearing.specs.Turning.{at_first}
 use Rattle.mako_clearing.proofs.Rings.{sending_stays}
 use Rattle.mako_clearing.proofs.Turning.{evacuations_begin}
 use Rattle.mako_writes.specs.Writes.{LeavesOthers}
+use Rattle.mako_names.proofs.Words.{phase_same}
 use Rattle.mako_sitting.specs.Seats.{GoneOver, HeardIn, RestSits, StageSits}
-use Rattle.mako_sitting_servers.proofs.ServerPlaces.{TracerWrites, traces}
+use Rattle.mako_sitting_servers.proofs.ServerFrames.{hand_own}
+use Rattle.mako_writes.proofs.Servers.{TracerWrites, traces}
+use Rattle.mako_writes.proofs.Touching.{weaker}
 
 -- ---- what its tracing leaves
 
 pub words_traced : (n : Numbers) (w : Facts) (s : JointScene) (seat : ℕ) (v : Serving) → ServerStands n w s seat v
     → v.stage ≡ Tracing → LeavesOthers n (TracerWrites (hand_of v.tracer.stage)) s.words (words_next v s.words)
 words_traced n w s seat v stands e =
-    subst (λ k. LeavesOthers k (TracerWrites (hand_of v.tracer.stage)) s.words (words_next v s.words))
-    stands.keeps.tracer.shape_is
+    let shape = stands.keeps.tracer.shape_is in
+    let own = hand_own n w s seat v stands.joint stands.here shape in
+    subst (λ k. LeavesOthers k (TracerWrites (hand_of v.tracer.stage)) s.words (words_next v s.words)) shape
     (subst (λ stage. LeavesOthers v.tracer.shape (TracerWrites (hand_of v.tracer.stage)) s.words
     (words_stepped (stage_next v.tracer stage) s.words)) (sym e)
-    ((traces v.tracer stands.keeps.known.tracer).rest s.words))
+    ((weaker (TracerWrites (hand_of v.tracer.stage)) (traces v.tracer stands.keeps.known.tracer own)
+    (λ p both. both.1)).rest s.words))
 
 pub words_turned : (s : JointScene) (v : Serving) → v.stage ≡ Turning → words_next v s.words ≡ s.words
 words_turned s v e =
     ap (λ x. words_stepped (stage_next v.tracer x) s.words) e ∙ set-get_or s.words (index v.tracer.shape phase) 0
-
-phase_by : (n : Numbers) (words after : List ℕ) → word_at n after phase ≡ word_at n words phase
-    → phase_of n after ≡ phase_of n words
-unfolding phase_of
-phase_by n words after same = ap phase_at same
 
 -- ---- at rest
 
@@ -221,5 +221,5 @@ trace_sits n w s seat taker v stands low e r =
     (traced_rest n w after taker v t (tracer.next_of t)
     (λ u server at ended. rest_moves n s after taker v u r
     (server ∙ (fed_same v.tracer (finds (tracer.next_of v.tracer) s.words)).server) at ended refl
-    (phase_by n s.words after.words (us phase tt (λ x. x)))
+    (phase_same n s.words after.words (us phase tt (λ x. x)))
     (λ slot small. us (notice v.tracer.server slot) (low, small) (λ x. x))))

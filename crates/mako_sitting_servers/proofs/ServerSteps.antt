@@ -39,7 +39,7 @@ use Rattle.mako_sitting_servers.proofs.ServerAll.{all_after}
 use Rattle.mako_sitting_servers.proofs.ServerCounts.{CountsGo, counts_go, low_counts, turned_measured, traced_measured}
 use Rattle.mako_sitting_servers.proofs.ServerFindings.{LeavesUsed, LoadsUsed, stage_found}
 use Rattle.mako_sitting_servers.proofs.ServerFrames.{number_stays, scene_leaves}
-use Rattle.mako_sitting_servers.proofs.ServerPlaces.{HasSome}
+use Rattle.mako_writes.proofs.Servers.{HasSome}
 use Rattle.mako_sitting_servers.proofs.ServerRests.{words_traced, words_turned, turn_sits, trace_sits}
 
 -- ---- where the collector loads tops and live words

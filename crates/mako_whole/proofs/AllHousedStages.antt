@@ -1,27 +1,17 @@
 -- The collector finds each home as it stored it at every stage: but for the choice it loads and stores no home.
-use Rattle.std.proofs.Common.{◌≡◌, ℕ, ◌*◌, ◌<◌, List, slice_index, sym, ap, subst, refl, ◌∙◌, arith}
-use Rattle.std.proofs.lemmas.List.Elements.{All-get_or}
-use Rattle.std.proofs.lemmas.Nat.{mod_below}
-use Rattle.mako_words.specs.declared.name.Name.{Name}
+use Rattle.std.proofs.Common.{◌≡◌, ℕ, ◌*◌, ◌<◌, List, sym, ap, subst, refl, ◌∙◌}
 use Rattle.mako_shape.specs.declared.numbers.Numbers.{Numbers}
-use Rattle.mako_shape.specs.Places.{Place, phase, mutator_gate, barrier, flags, notice, home, word_at}
-use Rattle.mako_shape.specs.Belongings.{tablet_of_entry}
-use Rattle.mako_shape.proofs.BelongingLaws.{belongings_in_range}
+use Rattle.mako_shape.specs.Places.{home, word_at}
 use Rattle.mako_step.specs.Acts.{finds, words_stepped}
 use Rattle.mako_step.specs.Machines.{IsAct}
 use Rattle.mako_step.specs.declared.step.Step.{Step}
 use Rattle.mako_step.specs.declared.step.Step.TheVariants.{Do, Ended as NoStep}
 use Rattle.mako_model.specs.Legal.{Facts}
-use Rattle.mako_ring.specs.Tracing.{owner}
 use Rattle.mako_poll.specs.Polls as polls
-use Rattle.mako_poll.specs.declared.poller.PollStage.{PollStage}
-use Rattle.mako_poll.specs.declared.poller.PollStage.TheVariants.{Asking, Reading, Ended as Polled}
 use Rattle.mako_joint.specs.Joints.{JointScene}
 use Rattle.mako_cycles.specs.Housing.{FindsHome, homes_after}
 use Rattle.mako_pause.specs.Collecting as collecting
 use Rattle.mako_pause.specs.Collecting.{Holdings, Collecting, at, next_of, fed, stage_next, Fits}
-use Rattle.mako_pause.specs.Keeping as keeping
-use Rattle.mako_pause.specs.Keeping.{IsKeptKnown, IsKeptName}
 use Rattle.mako_pause.specs.declared.stage.IdleStage.{IdleStage}
 use Rattle.mako_pause.specs.declared.stage.IdleStage.TheVariants.{LoadingDemand, LookingFinished, StoringStop}
 use Rattle.mako_pause.specs.declared.stage.PauseStage.{PauseStage}
@@ -43,74 +33,9 @@ use Rattle.mako_pause.specs.declared.stage.CollectStage.TheVariants.{Idle, Pausi
 use Rattle.mako_pause.specs.declared.stage.CollectStage.TheVariants.{Polling, Choosing, Noticing, Ended}
 use Rattle.mako_collecting.specs.Laws.{Stands}
 use Rattle.mako_collecting.specs.Steps.{words_next, collector_next}
-use Rattle.mako_writes.proofs.Touching.{Leaves, looks, at_place}
+use Rattle.mako_writes.proofs.Collectors.{StoresHome, collects}
 use Rattle.mako_sitting_collector.specs.CollectorHoused.{IsHoused}
 use Rattle.mako_sitting_collector.proofs.CollectorHousedSteps.{goes_on, choices_stay_housed}
-
--- ---- homes stay
-
--- every place but a home
-abbrev IsNoHome : Place → Type 0
-IsNoHome (home t) = ⊥
-IsNoHome p = Unit {0}
-
-module _ (k : Holdings) (known : IsKeptKnown k) where
-  abbrev n : Numbers
-  n = k.shape
-
-  abbrev W : Place → Type 0
-  W = IsNoHome
-
-  idling : (s : IdleStage) → Leaves n W (collecting.idle_next k s)
-  idling LoadingDemand = looks n W _
-  idling LookingFinished = looks n W _
-  idling StoringStop = at_place n W phase _ tt tt
-
-  pausing : (s : PauseStage) → keeping.PauseIsKnown k s → Leaves n W (collecting.pause_next k s)
-  pausing (Shutting pause m) is = at_place n W (mutator_gate m) _ is tt
-  pausing (Draining pause m) is = looks n W _
-  pausing (LoadingRoot m q) is = looks n W _
-  pausing StoringTrace is = at_place n W phase _ tt tt
-  pausing (Opening m) is = at_place n W (mutator_gate m) _ is tt
-
-  owned : (x : Name) → IsKeptName n x → owner n x < n.servers
-  owned x is = belongings_in_range.tablet n (tablet_of_entry n x.entry) (belongings_in_range.entry n x.entry is.0)
-
-  forwarding : (s : ForwardStage) → keeping.ForwardIsKnown k s → Leaves n W (collecting.forward_next k s)
-  forwarding (Looking x) is = looks n W _
-  forwarding (Storing x) is =
-      at_place n W (collecting.head_slot k x) _ (
-        owned x is.0,
-        mod_below _ n.ring (let each = known.shape.in_range.each in omega (arith, each)),
-      ) tt
-
-  barring : (s : BarrierStage) → keeping.BarrierIsKnown k s → Leaves n W (collecting.barrier_next k s)
-  barring (Loading m) is = looks n W _
-  barring (Clearing m x) is =
-      at_place n W (barrier m (slice_index k.barrier_at m)) _ (
-        is.0,
-        All-get_or (λ at. at < n.ring) k.barrier_at m 0
-            (let count = known.barriers_count in let low = is.0 in omega arith) known.barriers,
-      ) tt
-
-  polling : Leaves n W (polls.next_of k.poll)
-  polling = subst (λ m. Leaves n W (polls.stage_next m k.poll.stage)) (sym known.poll_shape)
-      (by k.poll.stage known.poll)
-    where
-      by : (s : PollStage) → polls.IsKnown n s → Leaves n W (polls.stage_next n s)
-      by (Asking s) is = at_place n W (flags s) _ is tt
-      by (Reading s) is = looks n W _
-      by (Polled outcome) is = record { rest = λ words p within other. refl }
-
-  noticing : (s : NoticeStage) → keeping.NoticeIsKnown k s → Leaves n W (collecting.notice_next k s)
-  noticing (NoticeLook s) is = looks n W _
-  noticing (NoticeClear s told) is =
-      at_place n W (notice s (slice_index k.notice_at s)) _ (
-        is,
-        All-get_or (λ at. at < n.ring) k.notice_at s 0
-            (let count = known.notices_count in omega arith) known.notices,
-      ) tt
-  noticing StoringIdle is = at_place n W phase _ tt tt
 
 -- ---- a stage that loads and stores no home
 
@@ -126,7 +51,7 @@ acts_on n words us c NoStep x h is acts fits found stored = absurd acts
 record KeepsHomes (k : Holdings) (stage : CollectStage) : Type 0 where
   homes : (f : ℕ → ℕ) → homes_after k stage f ≡ f
   finds : (f : ℕ → ℕ) (x : ℕ) → FindsHome k stage f x
-  leaves : Leaves k.shape IsNoHome (stage_next k stage)
+  none : StoresHome stage → ⊥
   acts : IsAct (stage_next k stage)
 
 module _ (n : Numbers) (w : Facts) (s : JointScene) (places : ℕ → ℕ) (k : Holdings) where
@@ -135,12 +60,13 @@ module _ (n : Numbers) (w : Facts) (s : JointScene) (places : ℕ → ℕ) (k : 
       → IsHoused n s.words (at k stage)
       → IsHoused n (words_next (at k stage) s.words) (collector_next (at k stage) s.words)
 
-  homes_left : (next : Step) → k.shape ≡ n → Leaves k.shape IsNoHome next → (t : ℕ) → t < n.servers * n.tablets
-      → word_at n (words_stepped next s.words) (home t) ≡ word_at n s.words (home t)
-  homes_left next shape leaves =
+  homes_left : (stage : CollectStage) → Stands n w s places (at k stage) → (StoresHome stage → ⊥) → (t : ℕ)
+      → t < n.servers * n.tablets
+      → word_at n (words_stepped (stage_next k stage) s.words) (home t) ≡ word_at n s.words (home t)
+  homes_left stage x none =
       subst (λ (m : Numbers). (t : ℕ) → t < m.servers * m.tablets
-      → word_at m (words_stepped next s.words) (home t) ≡ word_at m s.words (home t)) shape
-      (λ t low. leaves.rest s.words (home t) low (λ x. x))
+      → word_at m (words_stepped (stage_next k stage) s.words) (home t) ≡ word_at m s.words (home t)) x.seat.shape
+      (λ t low. (collects k x.known stage x.keeps.stage).rest s.words (home t) low (λ may. none may.1))
 
   elsewhere : (stage : CollectStage) → KeepsHomes k stage → Going stage
   elsewhere stage keeps x fits h =
@@ -148,7 +74,7 @@ module _ (n : Numbers) (w : Facts) (s : JointScene) (places : ℕ → ℕ) (k : 
       (finds (next_of (at k stage)) s.words) h refl keeps.acts fits
       (keeps.finds h.homes (finds (next_of (at k stage)) s.words))
       (λ t low. ap (λ (f : ℕ → ℕ). f t) (keeps.homes h.homes) ∙ h.stored t low
-      ∙ sym (homes_left (stage_next k stage) x.seat.shape keeps.leaves t low))
+      ∙ sym (homes_left stage x keeps.none t low))
 
   choice : (stage : ChoiceStage) → Going (Choosing stage)
   choice (LoadingLive r place) = choices_stay_housed n w s places k (LoadingLive r place) tt
@@ -160,13 +86,13 @@ module _ (n : Numbers) (w : Facts) (s : JointScene) (places : ℕ → ℕ) (k : 
   choice StoringEvac = elsewhere (Choosing StoringEvac) (record {
     homes = λ f. refl;
     finds = λ f x. tt;
-    leaves = at_place k.shape IsNoHome phase _ tt tt;
+    none = λ stores. stores;
     acts = tt;
   })
   choice (Reopening m) = λ x. elsewhere (Choosing (Reopening m)) (record {
     homes = λ f. refl;
     finds = λ f x. tt;
-    leaves = at_place k.shape IsNoHome (mutator_gate m) _ x.keeps.stage.1 tt;
+    none = λ stores. stores;
     acts = tt;
   }) x
 
@@ -199,37 +125,37 @@ module _ (n : Numbers) (w : Facts) (s : JointScene) (places : ℕ → ℕ) (k : 
   stays_housed (Idle stage) x = elsewhere (Idle stage) (record {
     homes = λ f. refl;
     finds = λ f x. tt;
-    leaves = idling k x.known stage;
+    none = λ stores. stores;
     acts = idle_acts stage;
   }) x
   stays_housed (Pausing stage) x = elsewhere (Pausing stage) (record {
     homes = λ f. refl;
     finds = λ f x. tt;
-    leaves = pausing k x.known stage x.keeps.stage.1;
+    none = λ stores. stores;
     acts = pause_acts stage;
   }) x
   stays_housed (Forwarding stage) x = elsewhere (Forwarding stage) (record {
     homes = λ f. refl;
     finds = λ f x. tt;
-    leaves = forwarding k x.known stage x.keeps.stage.1;
+    none = λ stores. stores;
     acts = forward_acts stage;
   }) x
   stays_housed (Barriers stage) x = elsewhere (Barriers stage) (record {
     homes = λ f. refl;
     finds = λ f x. tt;
-    leaves = barring k x.known stage x.keeps.stage.1;
+    none = λ stores. stores;
     acts = barrier_acts stage;
   }) x
   stays_housed (Emptying r) x = elsewhere (Emptying r) (record {
     homes = λ f. refl;
     finds = λ f x. tt;
-    leaves = looks k.shape IsNoHome _;
+    none = λ stores. stores;
     acts = tt;
   }) x
   stays_housed Polling x = elsewhere Polling (record {
     homes = λ f. refl;
     finds = λ f x. tt;
-    leaves = polling k x.known;
+    none = λ stores. stores;
     acts = subst (λ m. IsAct (polls.stage_next m k.poll.stage)) (sym (x.known.poll_shape ∙ x.seat.shape))
         x.keeps.keeps.1;
   }) x
@@ -237,7 +163,7 @@ module _ (n : Numbers) (w : Facts) (s : JointScene) (places : ℕ → ℕ) (k : 
   stays_housed (Noticing stage) x = elsewhere (Noticing stage) (record {
     homes = λ f. refl;
     finds = λ f x. tt;
-    leaves = noticing k x.known stage x.keeps.stage.1;
+    none = λ stores. stores;
     acts = notice_acts stage;
   }) x
   stays_housed Ended x = λ fits h. h

@@ -30,7 +30,7 @@ use Rattle.mako_sitting.specs.Seats.{StageSits, ServerSits, live_facet, AllSit}
 use Rattle.mako_sitting_servers.specs.ServerSteps.{stage_after}
 use Rattle.mako_whole.specs.AllNotices.{NoticesStand, ServerTells, ServerNotices}
 use Rattle.mako_whole.proofs.AllNotices.{NoticesStay, still_knows}
-use Rattle.mako_whole.proofs.AllNoticesSlots.{fresh_words}
+use Rattle.mako_whole.proofs.AllNoticesSlots.{notices_left}
 use Rattle.mako_sitting_servers.proofs.ServerClears.{works_there}
 use Rattle.mako_sitting_servers.proofs.ServerCounts.{low_counts}
 use Rattle.mako_sitting_servers.proofs.ServerEvacuates.{can, clears, evacuating}
@@ -82,8 +82,7 @@ module _ (n : Numbers) (w : Facts) (s : JointScene) (seats : List Seat) (a : All
       (sym (get_set_other s.facets.names.sent e.owner.server r _ apart) ∙ there)) (cases_eq r e.owner.server)
 
   stay : NoticesStay n s.words after.words
-  stay r slot low small some =
-      fresh_words n w s e known.1.known stands.shape stands.knows (notice r slot) (low, small) some
+  stay = notices_left n w s e known.1.known stands.shape stands.knows
 
   tells : NoticesStand n after (set seats i (Server (server_next v s.words)))
   tells = record {

@@ -38,3 +38,10 @@ module _ (n : Numbers) (Writes : Place → Type 0) where
 
   pub ends : Leaves n Writes Ended
   ends = record { rest = λ words p within other. refl }
+
+-- what one right allows, a wider one does
+pub weaker : {n : Numbers} {Writes : Place → Type 0} {step : Step} (Wide : Place → Type 0) → Leaves n Writes step
+    → ((p : Place) → Writes p → Wide p) → Leaves n Wide step
+weaker Wide leaves widens = record {
+  rest = λ words p within other. leaves.rest words p within (λ may. other (widens p may));
+}
