@@ -1,5 +1,5 @@
 -- The stages of a collect.
-use Rattle.std.specs.Prelude.{ℕ, ◌+◌, ◌-◌, ◌≤◌, ◌==◌, nat_le, if◌then◌else◌}
+use Rattle.std.specs.Prelude.{ℕ, Bool, false, ◌+◌, ◌-◌, ◌≤◌, ◌==◌, nat_le, nat_lt, if◌then◌else◌}
 use Rattle.mako_words.specs.Phases.{IsPackedPhase, phase_at, cycle_of}
 use Rattle.mako_words.specs.declared.phase_word.PhaseWord.{PhaseWord}
 use Rattle.mako_words.specs.declared.phase_word.PhaseWord.TheVariants.{Idle, Trace, Evac, Stop}
@@ -36,6 +36,12 @@ ask_fed n (RaisingDemand cycle) w = Asking (Awaiting cycle)
 ask_fed n (Awaiting cycle) w =
     if nat_le cycle (finished_cycles (phase_at w)) then Ended (Answer (Cycle cycle)) else Ended
     (Paused (NotYet cycle w))
+
+-- it looks for the end of a cycle, and finds that it has not finished
+abbrev pub ask_waits : AskStage → ℕ → Bool
+ask_waits LoadingPhase w = false
+ask_waits (RaisingDemand cycle) w = false
+ask_waits (Awaiting cycle) w = nat_lt (finished_cycles (phase_at w)) cycle
 
 -- a phase of a cycle that runs has a number from 1 on
 abbrev pub CountsFrom : PhaseWord → Type 0

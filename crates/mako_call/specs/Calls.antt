@@ -1,5 +1,5 @@
 -- An attempt of a call, as a machine.
-use Rattle.std.specs.Prelude.{◌≤◌, ℕ, Bool, true, false, ◌+◌, ◌*◌, ◌<◌, Option, Some, None}
+use Rattle.std.specs.Prelude.{◌≡◌, ◌≤◌, ℕ, Bool, true, false, ◌+◌, ◌*◌, ◌<◌, Option, Some, None}
 use Rattle.mako_words.specs.Gates.{IsPackedGate, is_shut}
 use Rattle.mako_shape.specs.declared.numbers.Numbers.{Numbers}
 use Rattle.mako_shape.specs.Places.{index, mutator_gate}
@@ -16,6 +16,7 @@ use Rattle.mako_model.specs.declared.event.Event.{Event}
 use Rattle.mako_model.specs.declared.event.Event.TheVariants.{Nothing, Answered}
 use Rattle.mako_model.specs.declared.attempt.Attempt.{Attempt}
 use Rattle.mako_model.specs.declared.attempt.Attempt.TheVariants.{Answer, Full, Pause as Paused}
+use Rattle.mako_model.specs.declared.attempt.Pause.{Pause}
 use Rattle.mako_call.specs.declared.caller.Caller.{Caller}
 use Rattle.mako_call.specs.declared.call_machine.Keep.{Keep}
 use Rattle.mako_call.specs.declared.call_stage.CallStage.{CallStage}
@@ -40,7 +41,7 @@ use Rattle.mako_call.specs.Moving.{move_next, move_fed, MoveFits, move_rank, Mov
 use Rattle.mako_call.specs.Getting.{get_next, get_fed, GetFits, get_rank, GetIsKnown}
 use Rattle.mako_call.specs.Putting.{put_next, put_fed, slot_fed, PutFits, put_rank, PutIsKnown}
 use Rattle.mako_call.specs.Allocating.{new_next, new_fed, NewFits, new_rank, NewIsKnown}
-use Rattle.mako_call.specs.Asking.{ask_next, ask_fed, AskFits, ask_rank, AskIsKnown}
+use Rattle.mako_call.specs.Asking.{ask_next, ask_fed, ask_waits, AskFits, ask_rank, AskIsKnown}
 use Rattle.mako_call.specs.Leaving.{leave_next, leave_fed, leave_rank, LeaveIsKnown}
 use Rattle.mako_call.specs.Agreeing.{asked_of, StageOf}
 
@@ -221,6 +222,26 @@ StageFits n (Ended outcome) w = Unit {0}
 
 abbrev pub Fits : Calling → ℕ → Type 0
 Fits v w = StageFits v.caller.shape v.stage w
+
+-- whether it waits for a cycle that has not finished by this word
+abbrev pub stage_waits : CallStage → ℕ → Bool
+stage_waits Arriving w = false
+stage_waits (Rooting s) w = false
+stage_waits (Entering e s) w = false
+stage_waits (Moving e s) w = false
+stage_waits (Getting at get s) w = false
+stage_waits (Putting at put s) w = false
+stage_waits (Allocating s) w = false
+stage_waits (Asking s) w = ask_waits s w
+stage_waits (Leaving s) w = false
+stage_waits (Ended outcome) w = false
+
+-- this word leads to a pause, of which nothing is told, and the attempt after it is the same
+pub record ComesAgain (v : Calling) (w : ℕ) : Type 0 where
+  pub pause : Pause
+  pub outcome : outcome_in (fed v w).stage ≡ Some (Paused pause)
+  pub event : event_of v w ≡ Nothing
+  pub same : opening v.caller v.call v.last (asked_of v.call (Paused pause)) (fed v w).slot ≡ v
 
 -- the most steps that are left
 abbrev pub stage_rank : Numbers → CallStage → ℕ

@@ -5,7 +5,7 @@ ghost use Rattle.mako_shape.specs.Places.{total};
 ghost use Rattle.mako_step.specs.Acts.{IsWithin};
 ghost use Rattle.mako_words.specs.Phases as phases;
 ghost use Rattle.mako_call.specs.Asking as asking;
-ghost use Rattle.mako_call.specs.Asking.{ask_next, ask_fed};
+ghost use Rattle.mako_call.specs.Asking.{ask_next, ask_fed, ask_waits, AskFits};
 ghost use Rattle.mako_call.specs.Calls.{StageFits, tells};
 
 use crate::call_stage::CallStage;
@@ -33,6 +33,17 @@ impl AskStage {
         match self {
             AskStage::LoadingPhase | AskStage::Awaiting { .. } => Step::load(shape.phase()),
             AskStage::RaisingDemand { cycle } => Step::max(shape.demand(), u64::from(cycle)),
+        }
+    }
+
+    /// Whether it looks for the end of a cycle, and finds that it has not finished.
+    pub(crate) fn waits_on(self, _shape: &Shape, before: u64) -> bool
+        requires { AskFits _shape.now self before }
+        ensures { result ≡ ask_waits self before }
+    {
+        match self {
+            AskStage::Awaiting { cycle } => finished_cycles(phase_of(before)) < cycle,
+            AskStage::LoadingPhase | AskStage::RaisingDemand { .. } => false,
         }
     }
 }

@@ -126,6 +126,18 @@ impl CallMachine {
         (outcome, self.keep(outcome))
     }
 
+    /// Whether it waits for a cycle that has not finished by this word of the phase. The next attempt is then the same.
+    pub fn waits_on(&self, before: u64) -> bool
+        requires { calls.Fits self.now before }
+        ensures waits { result ≡ calls.stage_waits self.now.stage before }
+        ensures again { IsTrue result → calls.ComesAgain self.now before }
+    {
+        match self.stage {
+            CallStage::Asking(stage) => stage.waits_on(&self.caller.shape, before),
+            _ => false,
+        }
+    }
+
     /// Whether it has ended.
     pub fn has_ended(&self) -> bool
         ensures ended { result ≡ false → calls.outcome_in self.now.stage ≡ None }

@@ -6,13 +6,13 @@ ghost use Rattle.mako_core.specs.Histories.{history_after};
 use crate::opening_seats::{count_points, opening_seats};
 use crate::opening_words::opening_words;
 use crate::replies::{take_collector, with_replies};
-use crate::turn::Turn;
+use crate::turn::{Turn, told};
 use mako_model::{Cycles, Event, Front, Journal, Outcome, Point, Reply};
 use mako_mutator::Place;
 use mako_script::Script;
 use mako_seat::Seat;
 use mako_shape::Shape;
-use mako_step::{Stepped, Words, make_step};
+use mako_step::Words;
 use mako_words::Memory;
 use std::alloc::Global;
 use std::marker::Model;
@@ -152,15 +152,9 @@ impl<W: Words> Core<W> {
             self.new.state.front.history ≡ history_after self.old.state.front.history told }
         ensures holds { SeatsStand self.new.script.numbers (facts_of self.new.script) self.new.state }
     {
-        let machine = &mut self.seats[seat as usize];
-        match make_step(machine, &mut self.words) {
-            Stepped::Ended => Turn::Ended,
-            Stepped::Waiting(word) => Turn::Waiting(word),
-            Stepped::Moved(event) => {
-                keep_point(&mut self.journal, event);
-                Turn::Moved
-            }
-        }
+        let stepped = self.seats[seat as usize].step(&mut self.words);
+        keep_point(&mut self.journal, told(stepped));
+        Turn::of(stepped)
     }
 }
 

@@ -1,5 +1,11 @@
 //! What a step of a seat was.
 
+ghost use Rattle.std.specs.Prelude.{◌≡◌};
+ghost use Rattle.mako_core.specs.Turns as turns;
+
+use mako_model::Event;
+use mako_step::Stepped;
+
 /// What a step of a seat was.
 #[derive(Clone, Copy, Debug, PartialEq, Eq)]
 pub enum Turn {
@@ -8,4 +14,27 @@ pub enum Turn {
     Waiting(u64),
     /// The seat was at its end before, and nothing changed.
     Ended,
+}
+
+impl Turn {
+    /// What a step was that came to this.
+    pub(crate) fn of(stepped: Stepped<Event>) -> Turn
+        ensures { result ≡ turns.turn_by stepped }
+    {
+        match stepped {
+            Stepped::Moved(_) => Turn::Moved,
+            Stepped::Waiting(word) => Turn::Waiting(word),
+            Stepped::Ended => Turn::Ended,
+        }
+    }
+}
+
+/// What a step tells that came to this.
+pub(crate) fn told(stepped: Stepped<Event>) -> Event
+    ensures { result ≡ turns.told_by stepped }
+{
+    match stepped {
+        Stepped::Moved(event) => event,
+        Stepped::Waiting(_) | Stepped::Ended => Event::Nothing,
+    }
 }

@@ -115,6 +115,11 @@ impl Progress {
         ensures event { result ≡ drivers.task_event self.old.task before }
     {
         match &mut self.task {
+            // most looks of a wait find nothing new
+            Task::Attempting(attempt) if attempt.waits_on(before) => {
+                self.within = true;
+                Event::Nothing
+            }
             Task::Attempting(attempt) => {
                 let event = attempt.feed(before);
                 if attempt.has_ended() {

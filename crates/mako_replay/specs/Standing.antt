@@ -1,11 +1,14 @@
 -- What the program keeps of a schedule and of its run.
-use Rattle.std.specs.Prelude.{◌≡◌, ℕ, suc, ◌+◌, ◌≤◌, nat_le, if◌then◌else◌, List, [], ◌∷◌}
+use Rattle.std.specs.Prelude.{◌≡◌, ℕ, suc, ◌+◌, ◌<◌, ◌≤◌, ◌%◌, nat_le, if◌then◌else◌, List, [], ◌∷◌, length}
+use Rattle.rand_pcg.specs.Lcg.{Lcg}
+use Rattle.rand_pcg.specs.Pcg.{pcg32}
 use Rattle.mako_replay.specs.Schedules.{Left}
 use Rattle.mako_replay.specs.Schedules.Left.{rounds, draws}
 use Rattle.mako_replay.specs.Runs.{Going, live}
+use Rattle.mako_replay.specs.declared.draws.Draws.{Draws}
 use Rattle.mako_replay.specs.declared.running.Running.{Running}
 use Rattle.mako_replay.specs.declared.schedule.Schedule.{Schedule}
-use Rattle.mako_replay.specs.declared.schedule.Schedule.TheVariants.{Turns, Draws}
+use Rattle.mako_replay.specs.declared.schedule.Schedule.TheVariants as schedules
 
 -- each of these numbers is above those before it, and the first is not below b
 abbrev pub AscendsFrom : ℕ → List ℕ → Type 0
@@ -20,12 +23,24 @@ abbrev pub place_from : ℕ → List ℕ → ℕ
 place_from i [] = 0
 place_from i (x ∷ xs) = if nat_le i x then 0 else suc (place_from i xs)
 
--- a round is kept by the place of its seat among those that are not at their end, which are given
+-- the next word of this generator is drawn ahead, and its place among so many
+pub record IsAhead (d : Draws) (left : Lcg) (count : ℕ) : Type 0 where
+  pub generator : d.generator ≡ (pcg32 left).1
+  pub word : d.word ≡ (pcg32 left).0
+  pub place : 0 < count → d.place ≡ d.word % count
+
+-- a round is kept by the place of its seat among those that are not at their end, which are given; of a generator one
+-- word is drawn ahead
 abbrev pub StandsFor : Schedule → Left → List ℕ → Type 0
-StandsFor (Turns place) (rounds i) live = place ≡ place_from i live
-StandsFor (Turns place) (draws g) live = ⊥
-StandsFor (Draws g) (rounds i) live = ⊥
-StandsFor (Draws g) (draws h) live = g ≡ h
+StandsFor (schedules.Turns place) (rounds i) live = place ≡ place_from i live
+StandsFor (schedules.Turns place) (draws g) live = ⊥
+StandsFor (schedules.Draws d) (rounds i) live = ⊥
+StandsFor (schedules.Draws d) (draws g) live = IsAhead d g (length live)
+
+-- a place that is drawn ahead is one among so many
+abbrev pub IsDrawn : Schedule → ℕ → Type 0
+IsDrawn (schedules.Turns place) count = Unit {0}
+IsDrawn (schedules.Draws d) count = 0 < count → d.place < count
 
 -- the run has come so far
 pub record HasCome (r : Running) (g : Going) : Type 0 where

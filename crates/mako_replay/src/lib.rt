@@ -1,6 +1,7 @@
 //! Replays: the steps of a core in the order of a schedule.
 #![tactic(auto)]
 
+mod draws;
 mod order;
 mod replaying;
 mod running;

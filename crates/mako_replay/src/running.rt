@@ -1,9 +1,9 @@
 //! A core that makes the steps of a schedule.
 
-ghost use Rattle.std.specs.Prelude.{◌≡◌, ◌≢◌, ◌+◌, ◌<◌, ◌↔◌, [], IfOk, IsTrue};
+ghost use Rattle.std.specs.Prelude.{◌≡◌, ◌≢◌, ◌+◌, ◌<◌, ◌↔◌, [], length, IfOk, IsTrue};
 ghost use Rattle.mako_core.specs.Endings.{AllAtEnd};
 ghost use Rattle.mako_replay.specs.Runs.{Going, advanced, at_start, is_end, live};
-ghost use Rattle.mako_replay.specs.Standing.{HasCome};
+ghost use Rattle.mako_replay.specs.Standing.{HasCome, IsDrawn};
 
 use crate::order::Order;
 use crate::schedule::Schedule;
@@ -51,13 +51,15 @@ impl Running {
         ensures script { IfOk result (λ r. r.core.script ≡ script.now) }
         ensures live { IfOk result (λ r. r.live.items ≡ live r.core.state.seats) }
         ensures come { IfOk result (λ r. HasCome r (at_start script.now order)) }
+        ensures drawn { IfOk result (λ r. IsDrawn r.schedule (length r.live.items)) }
     {
         let core: Core<FlatWords> = Core::start(alloc, script)?;
         let live = live_seats(alloc, &core)?;
+        let schedule = Schedule::new(order, live.len());
         Ok(Running {
             core,
             live,
-            schedule: Schedule::new(order),
+            schedule,
             steps_made: 0,
         })
     }
@@ -67,10 +69,12 @@ impl Running {
         requires live { self.old.live.items ≡ live self.old.core.state.seats }
         requires one { self.old.live.items ≢ [] }
         requires few { self.old.steps_made < 1000000000 }
+        requires drawn { IsDrawn self.old.schedule (length self.old.live.items) }
         ensures script { self.new.core.script ≡ self.old.core.script }
         ensures live { self.new.live.items ≡ live self.new.core.state.seats }
         ensures made { self.new.steps_made ≡ self.old.steps_made + 1 }
         ensures come { (g : Going) → HasCome self.old g → HasCome self.new (advanced g) }
+        ensures drawn { IsDrawn self.new.schedule (length self.new.live.items) }
     {
         let place = self.schedule.choose(self.live.len());
         let seat = self.live[place];
@@ -78,7 +82,7 @@ impl Running {
         self.steps_made += 1;
         if is_end(self.core.place(seat)) {
             let _seat = self.live.remove(place);
-            self.schedule.leave(place);
+            self.schedule.leave(place, self.live.len());
         }
     }
 

@@ -2,37 +2,37 @@
 
 ghost use Rattle.std.specs.Prelude.{◌≡◌, ℕ, ◌<◌, ◌∷◌, List, length, slice_index, remove};
 ghost use Rattle.mako_replay.specs.Schedules.{Left, chosen, left_after, left_at_start};
-ghost use Rattle.mako_replay.specs.Standing.{IsAscending, StandsFor};
+ghost use Rattle.mako_replay.specs.Standing.{IsAscending, IsDrawn, StandsFor};
 
+use crate::draws::Draws;
 use crate::order::Order;
-use rand_core::SeedableRng;
-use rand_core::utils::NextWord;
-use rand_pcg::Lcg64Xsh32;
 
 /// What is left of a schedule.
 #[derive(Drop)]
 pub(crate) enum Schedule {
     /// Rounds, with the place of the next seat among those that are not at their end.
     Turns(usize),
-    /// The words of a generator.
-    Draws(Lcg64Xsh32),
+    Draws(Draws),
 }
 
 impl Schedule {
-    /// The schedule of an order.
-    pub(crate) fn new(order: Order) -> Schedule
-        ensures { (live : List ℕ) → StandsFor result (left_at_start order) live }
+    /// The schedule of an order, where so many seats are not at their end.
+    pub(crate) fn new(order: Order, count: usize) -> Schedule
+        ensures stands { (live : List ℕ) → count ≡ length live → StandsFor result (left_at_start order) live }
+        ensures drawn { IsDrawn result count }
     {
         match order {
             Order::Turns => Schedule::Turns(0),
-            Order::Seed(seed) => Schedule::Draws(Lcg64Xsh32::seed_from_u64(seed)),
+            Order::Seed(seed) => Schedule::Draws(Draws::new(seed, count)),
         }
     }
 
     /// The place of the next seat among those that are not at their end, of which there are so many.
     pub(crate) fn choose(&mut self, count: usize) -> usize
-        requires { 0 < count }
+        requires some { 0 < count }
+        requires drawn { IsDrawn self.old count }
         ensures place { result < count }
+        ensures drawn { IsDrawn self.new count }
         ensures chosen { (left : Left) (first : ℕ) (others : List ℕ) → count ≡ length (first ∷ others)
             → StandsFor self.old left (first ∷ others)
             → slice_index (first ∷ others) result ≡ chosen left first others }
@@ -46,18 +46,21 @@ impl Schedule {
                 *next = place + 1;
                 place
             }
-            Schedule::Draws(generator) => generator.next_word() as usize % count,
+            Schedule::Draws(draws) => draws.take(count),
         }
     }
 
-    /// The seat at this place stepped last, and came to its end: those behind it move up.
-    pub(crate) fn leave(&mut self, place: usize)
-        ensures { (left : Left) (live : List ℕ) → place < length live → IsAscending live
+    /// The seat at this place stepped last, and came to its end: those behind it move up, and so many are left.
+    pub(crate) fn leave(&mut self, place: usize, count: usize)
+        ensures stands { (left : Left) (live : List ℕ) → place < length live → count ≡ length (remove live place)
+            → IsAscending live
             → StandsFor self.old (left_after left (slice_index live place)) live
             → StandsFor self.new (left_after left (slice_index live place)) (remove live place) }
+        ensures drawn { IsDrawn self.new count }
     {
-        if let Schedule::Turns(next) = self {
-            *next = place;
+        match self {
+            Schedule::Turns(next) => *next = place,
+            Schedule::Draws(draws) => draws.recount(count),
         }
     }
 }

@@ -47,16 +47,6 @@ is_waiting (Mutator d) w = false
 is_waiting (Server v) w = serving.is_waiting v w
 is_waiting (Collector k) w = collecting_ranks.is_waiting k w
 
-abbrev pub is_renewed : Seat → ℕ → Bool
-is_renewed (Mutator d) w = drivers.is_renewed d w
-is_renewed (Server v) w = serving.is_renewed v w
-is_renewed (Collector k) w = collecting_ranks.is_renewed k w
-
-abbrev pub rank : Seat → ℕ
-rank (Mutator d) = drivers.rank d
-rank (Server v) = serving.rank v
-rank (Collector k) = collecting_ranks.rank k
-
 -- of a server and of the collector it is told alone whether they are at their end
 abbrev pub serving_place : Step → Place
 serving_place (Do act) = PlaceServing

@@ -1,15 +1,17 @@
 //! The machine of a seat.
 
-ghost use Rattle.std.specs.Prelude.{◌≡◌};
-ghost use Rattle.mako_shape.specs.Places.{total};
-ghost use Rattle.mako_step.specs.Acts.{IsWithin};
+ghost use Rattle.std.specs.Prelude.{◌≡◌, if◌then◌else◌};
+ghost use Rattle.mako_step.specs.Acts.{finds, words_stepped};
+ghost use Rattle.mako_step.specs.Machines.{CanStep, machine_stepped};
+ghost use Rattle.mako_step.specs.Stepping.{stepped};
+ghost use Rattle.mako_mutator.specs.declared.place.Place.TheVariants as places;
 ghost use Rattle.mako_seat.specs.Seats as seats;
 
 use mako_model::Event;
 use mako_mutator::{Driver, Place};
 use mako_pause::Collector;
 use mako_server::Server;
-use mako_step::{Machine, Step};
+use mako_step::{Machine, Step, Stepped, Words, make_step};
 
 /// The machine of a seat.
 #[derive(Drop)]
@@ -19,14 +21,11 @@ pub enum Seat {
     Collector(Collector),
 }
 
-/// The place of a server or of the collector, by what it does next.
-fn serving_place(next: Step) -> Place
-    ensures { result ≡ seats.serving_place next }
+/// The place of a server or of the collector, which is at its end or not.
+fn serving_place(ended: bool) -> Place
+    ensures { result ≡ (if ended then places.Ended else places.Serving) }
 {
-    match next {
-        Step::Do(_) => Place::Serving,
-        Step::Ended => Place::Ended,
-    }
+    if ended { Place::Ended } else { Place::Serving }
 }
 
 impl Seat {
@@ -36,53 +35,24 @@ impl Seat {
     {
         match self {
             Seat::Mutator(driver) => driver.place(),
-            Seat::Server(server) => serving_place(server.next()),
-            Seat::Collector(collector) => serving_place(collector.next()),
+            Seat::Server(server) => serving_place(server.is_ended()),
+            Seat::Collector(collector) => serving_place(matches!(collector.next(), Step::Ended)),
         }
     }
-}
 
-impl Machine for Seat {
-    type Event = Event;
-
-    ghost next_of = { seats.next_of };
-
-    ghost Fits = { seats.Fits };
-
-    ghost fed = { seats.fed };
-
-    ghost event_of = { seats.event_of };
-
-    ghost is_waiting = { seats.is_waiting };
-
-    ghost is_renewed = { seats.is_renewed };
-
-    ghost rank = { seats.rank };
-
-    fn next(&self) -> Step
-        ensures next { result ≡ seats.next_of self.now }
-        ensures within { IsWithin (total (seats.shape_of self.now)) result }
+    /// Makes its next step on the words.
+    pub fn step<W: Words>(&mut self, words: &mut W) -> Stepped<Event>
+        requires { CanStep (seats.next_of self.old) (W.words words.old) (seats.Fits self.old) }
+        ensures words { W.words words.new ≡ words_stepped (seats.next_of self.old) (W.words words.old) }
+        ensures machine { let found = finds (seats.next_of self.old) (W.words words.old) in
+            self.new ≡ machine_stepped (seats.next_of self.old) self.old (seats.fed self.old found) }
+        ensures result { let found = finds (seats.next_of self.old) (W.words words.old) in result ≡
+            stepped (seats.next_of self.old) (seats.is_waiting self.old found) found (seats.event_of self.old found) }
     {
         match self {
-            Seat::Mutator(driver) => driver.next(),
-            Seat::Server(server) => server.next(),
-            Seat::Collector(collector) => collector.next(),
-        }
-    }
-
-    fn waits(&self, before: u64) -> bool {
-        match self {
-            Seat::Mutator(driver) => driver.waits(before),
-            Seat::Server(server) => server.waits(before),
-            Seat::Collector(collector) => collector.waits(before),
-        }
-    }
-
-    fn feed(&mut self, before: u64) -> Event {
-        match self {
-            Seat::Mutator(driver) => driver.feed(before),
-            Seat::Server(server) => server.feed(before),
-            Seat::Collector(collector) => collector.feed(before),
+            Seat::Mutator(driver) => make_step(driver, words),
+            Seat::Server(server) => make_step(server, words),
+            Seat::Collector(collector) => make_step(collector, words),
         }
     }
 }

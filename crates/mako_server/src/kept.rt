@@ -9,7 +9,7 @@ ghost use Rattle.mako_words.specs.Phases.{IsPackedPhase, phase_at};
 
 use crate::stage::ServerStage;
 use mako_evac::Evacuator;
-use mako_step::{Machine, Step};
+use mako_step::Machine;
 use mako_trace::Tracer;
 use mako_words::PhaseWord;
 
@@ -79,9 +79,10 @@ impl Kept {
             serving.stage_fed (serving_in self.old stages.Tracing) stages.Tracing word }
     {
         self.tracer.feed(word);
-        match self.tracer.next() {
-            Step::Do(_) => ServerStage::Tracing,
-            Step::Ended => ServerStage::Turning,
+        if self.tracer.is_ended() {
+            ServerStage::Turning
+        } else {
+            ServerStage::Tracing
         }
     }
 

@@ -54,13 +54,19 @@ impl ServerStage {
     /// Goes on with the word that its act found.
     pub(crate) fn feed(&mut self, kept: &mut Kept, before: u64)
         requires kept { IsKept kept.old }
+        requires ended { kept.old.ended < 2 ^ 20 }
         requires known { StageIsKnown kept.old.tracer self.old }
         requires acts { IsAct (serving.stage_next kept.old.tracer self.old) }
         requires fits { StageFits kept.old.tracer self.old before }
         ensures { serving_in kept.new self.new ≡ serving.stage_fed (serving_in kept.old self.old) self.old before }
     {
         match self {
-            ServerStage::Turning => *self = kept.turn(before),
+            ServerStage::Turning => {
+                // most turns find nothing to do
+                if !kept.turns_again(before) {
+                    *self = kept.turn(before);
+                }
+            }
             ServerStage::Tracing => *self = kept.trace(before),
             ServerStage::Evacuating(evacuator) => {
                 evacuator.feed(before);

@@ -1,6 +1,6 @@
 //! A server's tracing, as a machine.
 
-ghost use Rattle.std.specs.Prelude.{◌≡◌, ◌<◌, ◌≤◌, false, IfOk};
+ghost use Rattle.std.specs.Prelude.{◌≡◌, ◌<◌, ◌≤◌, ◌↔◌, false, IfOk, IsTrue};
 ghost use Rattle.mako_shape.specs.Places.{total};
 ghost use Rattle.mako_step.specs.Acts.{IsWithin};
 
@@ -74,6 +74,13 @@ impl Tracer {
         ensures below { result < self.now.shape.servers }
     {
         self.holdings.server
+    }
+
+    /// Whether no turn is begun, or the last one has ended.
+    pub fn is_ended(&self) -> bool
+        ensures { IsTrue result ↔ (tracing.next_of self.now ≡ Ended) }
+    {
+        matches!(self.stage, TraceStage::Ended)
     }
 
     /// What a turn came to: nothing, each time that the server has nothing in hand.

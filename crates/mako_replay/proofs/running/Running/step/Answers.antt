@@ -39,13 +39,16 @@ returns-then-is_end-clause-come c g come =
     let low : c.choose-place.result < length r.live.items = omega arith in
     let read = seat_at r.live.items c.len.result c.choose-place.result _ count c.choose-place.ensures.place
     c.index-seat.ensures in
+    let left : c.len-then-is_end.result ≡ length c.remove-seat.new.self.items =
+    omega (arith, c.remove-seat.new.self.ok.0) in
     come_on r g come c.requires.live _ c.choose-place.result _ c.requires.one read
     (λ first others all. c.choose-place.ensures.chosen g.left first others (count
     ∙ all)) c.step-turn.ensures.state refl _
     (live_after r.core.state r.live.items c.choose-place.result _ c.requires.live low read _ true
     c.step-turn.ensures.state
     (λ v there. sym c.if-is_end.true ∙ c.is_end.ensures ∙ ap is_end (c.place.ensures v there)))
-    (c.leave.ensures g.left r.live.items low (ascend r g come c.requires.live)
+    (c.leave.ensures.stands g.left r.live.items low (left ∙ ap length c.remove-seat.ensures.items)
+    (ascend r g come c.requires.live)
     (c.choose-place.ensures.left g.left r.live.items count (ascend r g come c.requires.live)
     (stands r g come c.requires.live)))
 
