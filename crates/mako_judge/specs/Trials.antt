@@ -38,6 +38,6 @@ Blocks w history cycle entry name = (name.entry ≡ entry)
     × ((name.generation ≡ w.generations - 1) ⊎ (¬ IsDead w history cycle name))
 
 -- the calls of each mutator are its program
-abbrev pub IsWhole : Facts → List Point → Type 0
-IsWhole w history = (mutator : ℕ) (program : List Call) → slice_get w.programs mutator ≡ Some program
+abbrev pub IsToEnd : Facts → List Point → Type 0
+IsToEnd w history = (mutator : ℕ) (program : List Call) → slice_get w.programs mutator ≡ Some program
     → calls_by mutator history ≡ program

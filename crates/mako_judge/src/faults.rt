@@ -6,7 +6,7 @@ ghost use Rattle.mako_model.specs.Fronts.{calls_by};
 ghost use Rattle.mako_model.specs.Answering.{Answers};
 ghost use Rattle.mako_judge.specs.Clauses.{Holds, HoldsApart};
 ghost use Rattle.mako_judge.specs.Verdicts.{IsFault, IsFirstFault, IsTrueOf};
-ghost use Rattle.mako_judge.specs.Trials.{script, front, IsFair, IsWhole};
+ghost use Rattle.mako_judge.specs.Trials.{script, front, IsFair, IsToEnd};
 
 use crate::programs::calls_made;
 use crate::trial::Trial;
@@ -91,7 +91,7 @@ impl<'a> Trial<'a> {
 
     /// Whether each program is done.
     fn is_whole(&self) -> bool
-        ensures { IsTrue result ↔ IsWhole (script self.now) self.now.points.now }
+        ensures { IsTrue result ↔ IsToEnd (script self.now) self.now.points.now }
     {
         for mutator in 0..self.setup.programs.len() {
             if !self.is_done(mutator) {

@@ -20,7 +20,7 @@ use Rattle.mako_text.specs.declared.command.Command.{Command}
 use Rattle.mako_text.specs.declared.command.Command.TheVariants.{New}
 use Rattle.mako_text.specs.declared.command.Argument.{Argument}
 use Rattle.mako_text.specs.declared.command.Argument.TheVariants.{Defined, Read, Number}
-use Rattle.mako_text.specs.Names.{is_name, is_letter_or_digit, name_of, AreNames, board_name}
+use Rattle.mako_text.specs.Names.{is_name, is_letter_or_digit, name_of, AreNames, board_word}
 use Rattle.mako_text.specs.Programs.{ProgramView, IsAllowed, IsCall, defined_after, AreCalls, IsProgram}
 use Rattle.mako_text.specs.Texts.{command_words, end_word, mutator_word, section_lines, line_text, script_lines}
 use Rattle.mako_text.specs.Texts.{argument_word, argument_words, script_text, setting_values}
@@ -302,7 +302,7 @@ pub at_most : (k : ℕ) (cs : List Call) (n : ℕ) → AreCalls k cs n → k ≤
 at_most k [] n h = omega arith
 at_most k (c ∷ cs) n h = omega (arith, grows k c, at_most (defined_after k c) cs n h.1)
 
-pub first_name : (final : List (List ℕ)) → AreNames final → take 1 final ≡ board_name ∷ []
+pub first_name : (final : List (List ℕ)) → AreNames final → take 1 final ≡ board_word ∷ []
 first_name [] are = absurd (omega (arith, are.some))
 first_name (x ∷ final) are = ap (λ (n : List ℕ). n ∷ []) are.board
 

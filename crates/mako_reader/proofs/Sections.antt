@@ -8,7 +8,7 @@ use Rattle.std.specs.List.{join_with_byte, flat_map, AllByRecursion}
 use Rattle.std.specs.Str.{bytes_eq}
 use Rattle.std.proofs.lemmas.Slice.Eq.{bytes_eq-Decides}
 use Rattle.mako_model.specs.declared.call.Call.{Call}
-use Rattle.mako_text.specs.Names.{AreNames, board_name, is_name, name_of}
+use Rattle.mako_text.specs.Names.{AreNames, board_word, is_name, name_of}
 use Rattle.mako_text.specs.Programs.{ProgramView, IsCall, AreCalls, IsProgram, defined_after}
 use Rattle.mako_text.specs.Scripts.{command_count}
 use Rattle.mako_text.specs.Texts.{argument_words, command_words, end_word, mutator_word, section_lines}
@@ -57,7 +57,7 @@ pub record CallsSoFar (roots : ℕ) (start names : List (List ℕ)) (calls : Lis
   pub few : length names ≤ roots
   pub fits : AreCalls 1 calls (length names)
 
-board_names : AreNames (board_name ∷ [])
+board_names : AreNames (board_word ∷ [])
 unfolding is_name
 board_names = record {
   some = omega arith;
@@ -66,14 +66,14 @@ board_names = record {
   distinct = λ a b before below. absurd (omega arith);
 }
   where
-    at : (root : ℕ) → root < 1 → is_name (name_of (board_name ∷ []) root) ≡ true
+    at : (root : ℕ) → root < 1 → is_name (name_of (board_word ∷ []) root) ≡ true
     at zero below = refl
     at (suc root) below = absurd (omega arith)
 
-pub calls_begin : (roots : ℕ) (start : List (List ℕ)) → 1 ≤ roots → CallsSoFar roots start (board_name ∷ []) [] start
+pub calls_begin : (roots : ℕ) (start : List (List ℕ)) → 1 ≤ roots → CallsSoFar roots start (board_word ∷ []) [] start
 calls_begin roots start some = record { spelled = λ more. refl; are = board_names; few = some; fits = refl }
 
-pub calls_start : (roots : ℕ) (start names : List (List ℕ)) (calls : List Call) → 1 ≤ roots → names ≡ board_name ∷ []
+pub calls_start : (roots : ℕ) (start names : List (List ℕ)) (calls : List Call) → 1 ≤ roots → names ≡ board_word ∷ []
     → calls ≡ [] → CallsSoFar roots start names calls start
 calls_start roots start names calls some same none = rw (same, none) (calls_begin roots start some)
 

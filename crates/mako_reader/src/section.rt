@@ -1,7 +1,7 @@
 //! The sections of a script, one for each mutator.
 
 ghost use Rattle.std.specs.Prelude.{◌≡◌, ◌<◌, ◌≤◌, ◌+◌, ◌^◌, ◌∷◌, [], length, IfErr, IfOk};
-ghost use Rattle.mako_text.specs.Names.{board_name, texts};
+ghost use Rattle.mako_text.specs.Names.{board_word, texts};
 ghost use Rattle.mako_reader.specs.Commands.{IsStep};
 ghost use Rattle.mako_reader.specs.Finds.{Finds};
 ghost use Rattle.mako_reader.specs.Parts.{AreSections, IsBody, IsSection};
@@ -23,7 +23,7 @@ pub const MAX_SECTIONS: usize = 16;
 
 /// The names at the start of a section.
 fn first_names(alloc: Global) -> Result<IndexSet<String>, Refusal>
-    ensures names { IfOk result (λ names. texts names ≡ board_name ∷ []) }
+    ensures names { IfOk result (λ names. texts names ≡ board_word ∷ []) }
     ensures memory { IfErr result (λ e. e ≡ Refusal.Memory) }
 {
     let mut names = IndexSet::new(alloc);

@@ -7,7 +7,7 @@ use Rattle.std.specs.Str.{bytes_eq}
 use Rattle.std.proofs.lemmas.Slice.Eq.{bytes_eq-Decides}
 use Rattle.mako_shape.specs.Limits.{max_words}
 use Rattle.mako_shape.specs.Places.{total}
-use Rattle.mako_text.specs.Names.{board_name}
+use Rattle.mako_text.specs.Names.{board_word}
 use Rattle.mako_text.specs.Texts.{end_word, mutator_word}
 use Rattle.mako_reader.specs.Parts.{numbers_in}
 use Rattle.mako_reader.specs.Words.{lines_of}
@@ -22,15 +22,15 @@ use Rattle.mako_script.specs.States.{Between, Ends, Inside}
 use Rattle.mako_script.proofs.Checked.{IsNth, cut_is, front, nth_line}
 use Rattle.mako_script.proofs.Counts.{clean_more, counted_no, counted_yes, first_here, of_line}
 
-only : (name : List ℕ) → is_among (board_name ∷ []) name ≡ true → name ≡ board_name
-only name is = by (bytes_eq board_name name) refl is
+only : (name : List ℕ) → is_among (board_word ∷ []) name ≡ true → name ≡ board_word
+only name is = by (bytes_eq board_word name) refl is
   where
-    by : (b : Bool) → bytes_eq board_name name ≡ b → (b || false) ≡ true → name ≡ board_name
-    by true e h = sym ((bytes_eq-Decides board_name name).0 e)
+    by : (b : Bool) → bytes_eq board_word name ≡ b → (b || false) ≡ true → name ≡ board_word
+    by true e h = sym ((bytes_eq-Decides board_word name).0 e)
     by false e h = absurd cc
 
-board_among : (name : List ℕ) → name ≡ board_name → is_among (board_name ∷ []) name ≡ true
-board_among name same = ap (λ (b : Bool). b || false) ((bytes_eq-Decides board_name name).1 (sym same))
+board_among : (name : List ℕ) → name ≡ board_word → is_among (board_word ∷ []) name ≡ true
+board_among name same = ap (λ (b : Bool). b || false) ((bytes_eq-Decides board_word name).1 (sym same))
 
 module _ (text : List ℕ) (roots sections commands line : ℕ) (left : List (List ℕ))
     (st : Between text roots sections commands line left) where
@@ -171,7 +171,7 @@ module _ (text : List ℕ) (roots sections commands line : ℕ) (left : List (Li
 
       -- the section that is opened
       pub go_open : 1 ≤ roots → sections < 16
-          → Inside text roots (sections + 1) commands (board_name ∷ []) (line + 1) rest
+          → Inside text roots (sections + 1) commands (board_word ∷ []) (line + 1) rest
       go_open some room = record {
         reached = record {
           left_is = nth.left_is;
@@ -207,7 +207,7 @@ module _ (text : List ℕ) (roots sections commands line : ℕ) (left : List (Li
         early = omega (arith, st.early);
       }
         where
-          all : (name : List ℕ) → IsDefined lines line (line + 1) name → is_among (board_name ∷ []) name ≡ true
+          all : (name : List ℕ) → IsDefined lines line (line + 1) name → is_among (board_word ∷ []) name ≡ true
           all name (inl board) = board_among name board
           all name (inr (k, past, below, has)) = absurd (omega (arith, past, below))
 
@@ -220,9 +220,9 @@ module _ (text : List ℕ) (roots sections commands line next : ℕ) (left : Lis
 
   pub opens_one : (l : List ℕ) (rest : List (List ℕ)) → IsLine left l rest → bytes_eq l mutator_word ≡ true → 1 ≤ roots
       → sections < 16 → next ≡ min (line + 1) 4294967295
-      → Inside text roots (sections + 1) commands (board_name ∷ []) next rest
+      → Inside text roots (sections + 1) commands (board_word ∷ []) next rest
   opens_one l rest is opens some room e =
-      subst (λ (n : ℕ). Inside text roots (sections + 1) commands (board_name ∷ []) n rest) (sym (next_line e))
+      subst (λ (n : ℕ). Inside text roots (sections + 1) commands (board_word ∷ []) n rest) (sym (next_line e))
       (go_open text roots sections commands line left st l rest is opens some room)
 
   pub ends : left ≡ [] ∷ [] → next ≡ min (line + 1) 4294967295 → Ends text roots sections next

@@ -12,7 +12,7 @@ use Rattle.mako_shape.specs.Limits.{IsShape}
 use Rattle.mako_script.specs.Checks.{HasSetting, HaveSettings, IsLine}
 use Rattle.mako_script.specs.CommandLines.{IsRead}
 use Rattle.mako_script.specs.Lines.{key_at, line_in}
-use Rattle.mako_text.specs.Names.{board_name}
+use Rattle.mako_text.specs.Names.{board_word}
 use Rattle.mako_text.specs.Programs.{ProgramView}
 use Rattle.mako_text.specs.Scripts.{ScriptView}
 use Rattle.mako_text.specs.Texts.{IsScript, end_word, mutator_word}
@@ -39,7 +39,7 @@ pub record CallsRead (roots before commands : ℕ) (names start lines : List (Li
   pub count : commands ≡ before + length front
   pub room : commands ≤ 1048576
 
-pub calls_begin : (roots before : ℕ) (names start : List (List ℕ)) → names ≡ board_name ∷ [] → 1 ≤ roots
+pub calls_begin : (roots before : ℕ) (names start : List (List ℕ)) → names ≡ board_word ∷ [] → 1 ≤ roots
     → before ≤ 1048576 → CallsRead roots before before names start start
 calls_begin roots before names start same some room =
     record { front = []; so_far = calls_start roots start names [] some same refl; count = omega arith; room = room }

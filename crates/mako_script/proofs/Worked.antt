@@ -9,7 +9,7 @@ use Rattle.std.specs.Str.{bytes_eq}
 use Rattle.mako_model.specs.declared.call.Call.TheVariants as calls
 use Rattle.mako_shape.specs.Limits.{all_entries, max_entries}
 use Rattle.mako_shape.specs.Places.{total}
-use Rattle.mako_text.specs.Names.{board_name, is_name}
+use Rattle.mako_text.specs.Names.{board_word, is_name}
 use Rattle.mako_text.specs.Texts.{end_word, mutator_word}
 use Rattle.mako_text.specs.declared.command.Argument.{Argument}
 use Rattle.mako_text.specs.declared.command.Argument.TheVariants as arguments
@@ -168,7 +168,7 @@ start text l more same =
     more) refl refl (ap (drop 11) (sym same))
 
 opened : (text m : List ℕ) (more : List (List ℕ)) → lines_of text ≡ header_lines ++ mutator_word ∷ m ∷ more
-    → Inside text 4 1 0 (board_name ∷ []) 12 (m ∷ more)
+    → Inside text 4 1 0 (board_word ∷ []) 12 (m ∷ more)
 opened text m more same =
     go_open text 4 0 0 11 (mutator_word ∷ m ∷ more) (start text mutator_word (m ∷ more) same) mutator_word (m ∷
     more) (refl, omega arith, refl) refl (omega arith) (omega arith)
@@ -177,20 +177,20 @@ opened text m more same =
 line_fault : (text m n : List ℕ) (more : List (List ℕ)) (kind : Kind)
     → lines_of text ≡ header_lines ++ mutator_word ∷ m ∷ n ∷ more → list_all is_printable m ≡ true
     → bytes_eq m end_word ≡ false
-    → IsFirstOfCommand (board_name ∷ []) 4 (words_of m) kind → IsFirstFault text kind 13
+    → IsFirstOfCommand (board_word ∷ []) 4 (words_of m) kind → IsFirstFault text kind 13
 line_fault text m n more kind same printable other first =
-    command_first text 4 1 0 12 (board_name ∷ []) (m ∷ n ∷ more) (opened text m (n ∷ more) same) m (n ∷
+    command_first text 4 1 0 12 (board_word ∷ []) (m ∷ n ∷ more) (opened text m (n ∷ more) same) m (n ∷
     more) (refl, omega arith, printable) other kind 13 first refl
 
 cut_fault : (text m : List ℕ) (kind : Kind) → lines_of text ≡ header_lines ++ mutator_word ∷ m ∷ []
     → IsCut (m ∷ []) kind → IsFirstFault text kind 13
 cut_fault text m kind same cut =
-    cut_inside text 4 1 0 12 (board_name ∷ []) (m ∷ []) (opened text m [] same) kind 13 cut refl
+    cut_inside text 4 1 0 12 (board_word ∷ []) (m ∷ []) (opened text m [] same) kind 13 cut refl
 
 -- ---- the lines
 
 abbrev names : List (List ℕ)
-names = board_name ∷ []
+names = board_word ∷ []
 
 show_first : IsFirstOfCommand names 4 (words_of (codes "show x")) faults.Undefined
 unfolding words_of is_name
@@ -369,7 +369,7 @@ walk text same (suc n) left sum few_sections =
     let before = walk text same n (suc left) (omega (arith, sum)) (omega (arith, few_sections)) in
     let inside = go_open text 4 n 0 (11 + 2 * n) (sections_of (suc left)) before mutator_word (end_word ∷
     sections_of left) (refl, omega arith, refl) refl (omega arith) (omega (arith, few_sections)) in
-    let after = go_end text 4 (n + 1) 0 (11 + 2 * n + 1) (board_name ∷ []) (end_word ∷
+    let after = go_end text 4 (n + 1) 0 (11 + 2 * n + 1) (board_word ∷ []) (end_word ∷
     sections_of left) inside end_word (sections_of left) (refl, some_left left, refl) refl in
     let more : n + 1 ≡ suc n = omega arith in
     let next : 11 + 2 * n + 1 + 1 ≡ 11 + 2 * suc n = omega arith in
@@ -387,7 +387,7 @@ one_section_more =
 -- ---- too many names
 
 abbrev four_names : List (List ℕ)
-four_names = board_name ∷ codes "a" ∷ codes "b" ∷ codes "c" ∷ []
+four_names = board_word ∷ codes "a" ∷ codes "b" ∷ codes "c" ∷ []
 
 new_first : IsFirstOfCommand four_names 4 (words_of (codes "num d 1")) faults.Names
 unfolding words_of is_name digits
@@ -461,14 +461,14 @@ one_name_more =
     let b = codes "num b 1" ∷ c in
     let s0 = opened names_text (codes "num a 1") b refl in
     let s1 = go_inside names_text 4 1 0 12 names (codes "num a 1" ∷
-    b) s0 (codes "num a 1") b (refl, omega arith, refl) refl (board_name ∷ codes "a" ∷
+    b) s0 (codes "num a 1") b (refl, omega arith, refl) refl (board_word ∷ codes "a" ∷
     []) (num_line names (codes "a") refl refl (omega arith)) (omega arith) in
-    let s2 = go_inside names_text 4 1 1 13 (board_name ∷ codes "a" ∷
-    []) b s1 (codes "num b 1") c (refl, omega arith, refl) refl (board_name ∷ codes "a" ∷ codes "b" ∷
-    []) (num_line (board_name ∷ codes "a" ∷ []) (codes "b") refl refl (omega arith)) (omega arith) in
-    let s3 = go_inside names_text 4 1 2 14 (board_name ∷ codes "a" ∷ codes "b" ∷
+    let s2 = go_inside names_text 4 1 1 13 (board_word ∷ codes "a" ∷
+    []) b s1 (codes "num b 1") c (refl, omega arith, refl) refl (board_word ∷ codes "a" ∷ codes "b" ∷
+    []) (num_line (board_word ∷ codes "a" ∷ []) (codes "b") refl refl (omega arith)) (omega arith) in
+    let s3 = go_inside names_text 4 1 2 14 (board_word ∷ codes "a" ∷ codes "b" ∷
     []) c s2 (codes "num c 1") d (refl, omega arith, refl) refl four_names
-    (num_line (board_name ∷ codes "a" ∷ codes "b" ∷ []) (codes "c") refl refl (omega arith)) (omega arith) in
+    (num_line (board_word ∷ codes "a" ∷ codes "b" ∷ []) (codes "c") refl refl (omega arith)) (omega arith) in
     command_first names_text 4 1 3 15 four_names d s3 (codes "num d 1") ([] ∷
     []) (refl, omega arith, refl) refl faults.Names 16 new_first refl
 
@@ -683,7 +683,7 @@ too_many_words =
     []) refl refl refl in
     let inside = go_open many_words_text 11 0 0 11 (mutator_word ∷ end_word ∷ [] ∷ []) begin mutator_word (end_word ∷
     [] ∷ []) (refl, omega arith, refl) refl (omega arith) (omega arith) in
-    let end = go_end many_words_text 11 1 0 12 (board_name ∷ []) (end_word ∷ [] ∷ []) inside end_word ([] ∷
+    let end = go_end many_words_text 11 1 0 12 (board_word ∷ []) (end_word ∷ [] ∷ []) inside end_word ([] ∷
     []) (refl, omega arith, refl) refl in
     words_first many_words_text 11 1 0 13 ([] ∷
     []) end refl (omega arith) many_words (are_settings (lines_of many_words_text) many_words have_many_words refl)

@@ -6,7 +6,7 @@ use Rattle.std.specs.Str.{bytes_eq}
 use Rattle.mako_text.specs.declared.command.Command.{Command}
 use Rattle.mako_text.specs.declared.command.Argument.{Argument}
 use Rattle.mako_text.specs.declared.command.Argument.TheVariants.{Defined, Read, Number}
-use Rattle.mako_text.specs.Names.{is_name, name_of, board_name}
+use Rattle.mako_text.specs.Names.{is_name, name_of, board_word}
 use Rattle.mako_text.specs.Texts.{mutator_word, end_word}
 use Rattle.mako_text.specs.Keys.{keys}
 use Rattle.mako_text.specs.Commands.{kinds_of, word_of}
@@ -87,7 +87,7 @@ HasArgument words kind word =
 -- the name is the board's, or a line of the section defines it before this one
 abbrev pub IsDefined : List (List ℕ) → ℕ → ℕ → List ℕ → Type 0
 IsDefined lines from at name =
-    (name ≡ board_name) ⊎ ((k : ℕ) × (from < k) × (k < at) × HasArgument (words_at lines k) Defined name)
+    (name ≡ board_word) ⊎ ((k : ℕ) × (from < k) × (k < at) × HasArgument (words_at lines k) Defined name)
 
 -- so many names are defined
 pub record AreDefined (lines : List (List ℕ)) (from at count : ℕ) : Type 0 where

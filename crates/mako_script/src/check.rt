@@ -10,7 +10,7 @@ ghost use Rattle.mako_script.specs.CommandLines.{AreArguments, ArgumentFault, Co
 ghost use Rattle.mako_script.specs.CommandLines.{IsFirstOfCommand, IsLeastFault, IsRead, is_among, told_first};
 ghost use Rattle.mako_script.specs.CommandLines.{with_name};
 ghost use Rattle.mako_script.specs.Faults.{IsFirstFault, is_printable};
-ghost use Rattle.mako_text.specs.Names.{board_name};
+ghost use Rattle.mako_text.specs.Names.{board_word};
 ghost use Rattle.mako_text.specs.Programs.{ProgramView};
 ghost use Rattle.mako_text.specs.Keys.{key_view, keys};
 ghost use Rattle.mako_reader.specs.Parts.{AreSections, IsBody, numbers_in};
@@ -272,10 +272,10 @@ fn section(lines: &mut Lines, roots: usize, before: usize) -> Result<usize, Faul
         × IsBody roots before (lines_of lines.old.rest.now) (p, lines_of lines.new.rest.now)
         × (count ≡ before + length p.calls)) }
     ensures ended { (text : List ℕ) (sections : ℕ)
-        → Inside text roots sections before (board_name ∷ []) lines.old.line (lines_of lines.old.rest.now)
+        → Inside text roots sections before (board_word ∷ []) lines.old.line (lines_of lines.old.rest.now)
         → IfOk result (λ count. Between text roots sections count lines.new.line (lines_of lines.new.rest.now)) }
     ensures fault { (text : List ℕ) (sections : ℕ)
-        → Inside text roots sections before (board_name ∷ []) lines.old.line (lines_of lines.old.rest.now)
+        → Inside text roots sections before (board_word ∷ []) lines.old.line (lines_of lines.old.rest.now)
         → IfErr result (λ f. IsFirstFault text f.kind f.line) }
 {
     let mut names = Names::new();

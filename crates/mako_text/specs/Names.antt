@@ -17,13 +17,13 @@ abbrev pub name_of : List (List ℕ) → ℕ → List ℕ
 name_of names root = slice_index_or names root []
 
 -- the name of root 0
-abbrev pub board_name : List ℕ
-board_name = codes "board"
+abbrev pub board_word : List ℕ
+board_word = codes "board"
 
 -- the names of a program, by their roots: the board's first, each spelled as a name, no two alike
 pub record AreNames (names : List (List ℕ)) : Type 0 where
   pub some : 0 < length names
-  pub board : name_of names 0 ≡ board_name
+  pub board : name_of names 0 ≡ board_word
   pub spelled : (root : ℕ) → root < length names → is_name (name_of names root) ≡ true
   pub distinct : (a b : ℕ) → a < b → b < length names → name_of names a ≢ name_of names b
 

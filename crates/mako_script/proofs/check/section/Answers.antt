@@ -9,7 +9,7 @@ use Rattle.mako_script.specs.CommandLines.{IsFirstOfCommand, IsRead, with_name}
 use Rattle.mako_script.specs.Faults.{IsFirstFault}
 use Rattle.mako_script.specs.States.{Inside}
 use Rattle.mako_reader.specs.Words.{lines_of, words_of}
-use Rattle.mako_text.specs.Names.{board_name}
+use Rattle.mako_text.specs.Names.{board_word}
 use Rattle.mako_text.specs.Texts.{end_word}
 use Rattle.mako_script.proofs.Counted.{CallsRead, calls_begin, calls_finish, calls_next}
 use Rattle.mako_script.proofs.InSections.{command_first, cut_inside, ends, goes_on, many_first, next_line}
@@ -21,7 +21,7 @@ word_now w = w.now
 pub commands-init : goal.commands-init
 commands-init c =
     let items = c.push.ensures.items ∙ (λ i. c.new-names.ensures i ++ c.as_slice.result ∷ []) in
-    let names : map word_now c.push.new.self.items ≡ board_name ∷ [] = ap (map word_now) items
+    let names : map word_now c.push.new.self.items ≡ board_word ∷ [] = ap (map word_now) items
     ∙ ap (λ (w : List ℕ). w ∷ []) c.as_slice.ensures in
     record {
       few = omega (arith, ap length items);

@@ -1,5 +1,5 @@
 use Rattle.std.proofs.Common.{◌≤◌, ◌∷◌, [], List, ℕ, length, map}
-use Rattle.mako_text.specs.Names.{board_name}
+use Rattle.mako_text.specs.Names.{board_word}
 use Rattle.mako_reader.specs.Words.{lines_of}
 use Rattle.mako_script.specs.States.{Inside}
 use Rattle.mako_script.proofs.Counted.{CallsRead}
@@ -13,7 +13,7 @@ invariant-commands l = record {
       → CallsRead l.roots l.before l.commands (map (λ name. name.now) l.names.items) (lines_of l.initial.lines.rest.now)
       (lines_of l.lines.rest.now);
   inside : (text : List ℕ) (sections : ℕ)
-      → Inside text l.roots sections l.before (board_name ∷ []) l.initial.lines.line (lines_of l.initial.lines.rest.now)
+      → Inside text l.roots sections l.before (board_word ∷ []) l.initial.lines.line (lines_of l.initial.lines.rest.now)
       → Inside text l.roots sections l.commands (map (λ name. name.now) l.names.items) l.lines.line
       (lines_of l.lines.rest.now);
 }
