@@ -250,10 +250,6 @@ sum_other n s other (p ∷ places) all ne =
     let both = sum_by-cons (of_server n other) (s * n.tablets + p) (map (λ place. s * n.tablets + place) places) in
     omega (arith, first, rest, both)
 
-none_is_empty : (xs : List ℕ) → length xs ≤ 0 → xs ≡ []
-none_is_empty [] h = refl
-none_is_empty (x ∷ xs) h = absurd (omega (arith, h))
-
 -- the choice of one server more
 module _ (k : Holdings) (s : ℕ) (below : s < k.shape.servers) (full : length k.used ≡ k.shape.tablets)
     (chosen : AreChosen k.shape k.chosen)

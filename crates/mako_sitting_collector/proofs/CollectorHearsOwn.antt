@@ -1,5 +1,5 @@
 -- The collector sits past its steps at notices.
-use Rattle.std.proofs.Common.{◌≡◌, ℕ, ◌<◌, Bool, true, false, List, slice_get, slice_index, Some, sym, ap, subst, refl}
+use Rattle.std.proofs.Common.{◌≡◌, ℕ, ◌<◌, List, slice_get, slice_index, Some, sym, ap, subst, refl}
 use Rattle.std.proofs.Common.{◌∙◌, arith}
 use Rattle.mako_words.specs.declared.name.Name.{Name}
 use Rattle.mako_shape.specs.declared.numbers.Numbers.{Numbers}
@@ -40,9 +40,6 @@ pub stands_are : (n : Numbers) (w : Facts) (s : JointScene) (taker places : ℕ 
 stands_are n w s taker places i k stage sits =
     sits.here.phase ∙ ap (λ p. Some (collecting p k.pending)) (sym (parts_are n k stage))
 
-not_shut : (b : Bool) → b ≡ false → b ≡ true → ⊥
-not_shut b e f = cc
-
 module _ (n : Numbers) (w : Facts) (s : JointScene) (k : Holdings) (stage : NoticeStage) (j : Joint n w s)
     (c : HearingStands n s k stage) (is : IsReading stage) (after : Holdings) (to : NoticeStage) (left : List Name)
     (taker places : ℕ → ℕ) (i : ℕ) (sits : CollectorSits n w s taker places i (noticing k stage))
@@ -52,10 +49,6 @@ module _ (n : Numbers) (w : Facts) (s : JointScene) (k : Holdings) (stage : Noti
 
   abbrev us : List ℕ
   us = words_next k stage s.words
-
-  -- what is as it was
-  abbrev Kept : {A : Type 0} → (Holdings → A) → Type 0
-  Kept f = f after ≡ f k
 
   rings_are : ring_facet n (noticing after to) ≡ ring_facet n (noticing k stage)
   rings_are = ap (λ h. ring_facet n (noticing h to)) hears.same

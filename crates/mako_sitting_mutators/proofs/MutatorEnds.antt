@@ -7,7 +7,6 @@ use Rattle.mako_words.specs.declared.phase_word.PhaseWord.TheVariants.{Idle, Tra
 use Rattle.mako_shape.specs.declared.numbers.Numbers.{Numbers}
 use Rattle.mako_shape.specs.Places.{live, work, ghost}
 use Rattle.mako_step.specs.Machines.{IsAct}
-use Rattle.mako_model.specs.declared.point.Point.{Point}
 use Rattle.mako_model.specs.declared.point.Point.TheVariants.{Snap}
 use Rattle.mako_model.specs.Legal.{Facts, IsLegal}
 use Rattle.mako_names.specs.Tables.{phase_of}
@@ -32,15 +31,6 @@ use Rattle.mako_sitting_mutators.proofs.MutatorMarks.{OldMarksAreLeft}
 
 module _ (n : Numbers) (w : Facts) (s : JointScene) (seats : List Seat) (m : ℕ) (d : Driving)
     (all : AllSit n w s seats) (here : slice_get seats m ≡ Some (Mutator d)) (act : IsAct (drivers.next_of d)) where
-  us : List ℕ
-  us = (stepped s m d).words
-
-  h : List Point
-  h = s.front.history
-
-  later : List Point
-  later = (stepped s m d).front.history
-
   -- ---- slots
 
   pub slots_after : SlotsBelong n (stepped s m d).words
