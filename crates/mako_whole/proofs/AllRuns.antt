@@ -1,13 +1,7 @@
 -- All seats over runs: each step of a seat keeps that all seats sit, and so do runs.
-use Rattle.std.proofs.Common.{◌≡◌, ℕ, List, slice_get, slice_set, Some, sym, ap, subst, refl, ◌<◌, length}
-use Rattle.std.specs.List.{Contains}
-use Rattle.std.proofs.lemmas.Option.{slice_get_within}
+use Rattle.std.proofs.Common.{◌≡◌, ℕ, List, slice_get, slice_set, Some, sym, ap, subst, refl}
 use Rattle.mako_words.specs.declared.name.Name.{Name}
-use Rattle.mako_model.proofs.Following.{in_none}
-use Rattle.mako_names.proofs.Going.{map_get}
-use Rattle.mako_script.specs.Scripts.{ScriptView}
 use Rattle.mako_mutator.specs.Drivers as drivers
-use Rattle.mako_state.specs.Openings.{opening_seats}
 use Rattle.mako_tracing.specs.Laws.{server_next}
 use Rattle.mako_tracing.specs.ServerFacets.{server_trace}
 use Rattle.mako_sitting_collector.specs.CollectorSnaps.{SeatsAreAll}
@@ -19,7 +13,6 @@ use Rattle.mako_step.specs.declared.step.Step.TheVariants.{Do, Ended as NoStep}
 use Rattle.mako_step.specs.Machines.{IsAct}
 use Rattle.mako_model.specs.Fronts.{Seen}
 use Rattle.mako_model.specs.Legal.{Facts}
-use Rattle.mako_script.specs.ScriptFacts.{facts_of}
 use Rattle.mako_server.specs.Serving as serving
 use Rattle.mako_server.specs.Serving.{Serving, stage_next}
 use Rattle.mako_server.specs.declared.stage.ServerStage.{ServerStage}
@@ -30,10 +23,9 @@ use Rattle.mako_seat.specs.Seats.{next_of, fed, event_of}
 use Rattle.mako_state.specs.CoreStates.{CoreState, got_by, front_after, made, stepped_by, step_of}
 use Rattle.mako_joint.specs.Joints.{JointScene}
 use Rattle.mako_mutating.specs.Mutators as mutating
-use Rattle.mako_sitting.specs.Seats.{AllSit, SeatSits}
+use Rattle.mako_sitting.specs.Seats.{AllSit}
 use Rattle.mako_sitting_servers.specs.ServerSteps.{stage_after, server_stepped, ServerGoesOn}
 use Rattle.mako_whole.specs.AllRuns.{scene_in, SeatsSit, MutatorRuns, ServerRuns, CollectorRuns}
-use Rattle.mako_sitting.specs.Openings.{opening_scene, trace_facet, held_facet}
 use Rattle.mako_sitting_mutators.proofs.MutatorSteps.{mutators_keep_all}
 use Rattle.mako_sitting_servers.proofs.ServerEvacuates.{servers_keep_all}
 
@@ -130,25 +122,3 @@ collectors_run n w st i c sits here came = step_sits n w st i (Collector c) sits
     (went n w st i (Collector c) (next_of (Collector c))).words
     (went n w st i (Collector c) (next_of (Collector c))).front came.all came.only came.words
     came.front)
-
--- ---- runs
-
--- at the opening facets are of seats, and servers and the collector hold no names
-openings_have_no_more : (s : ScriptView) → AllSit s.numbers (facts_of s) (opening_scene s) (opening_seats s) →
-    SeatsAreAll s.numbers (opening_scene s)
-openings_have_no_more s all = record {
-  traces = λ i f at.
-      let t = map_get trace_facet (opening_seats s) i f at in
-      let low : i < length (opening_seats s) = slice_get_within (opening_seats s) i t.0 t.1 in
-      subst (λ z. i < z) all.count low;
-  held = λ i names name at has.
-      let t = map_get held_facet (opening_seats s) i names at in
-      low i t.0 name (all.each i t.0 t.1) (subst (λ xs. Contains xs name) (sym t.2) has);
-}
-  where
-    low : (i : ℕ) (v : Seat) (name : Name) →
-        SeatSits s.numbers (facts_of s) (opening_scene s) all.taker all.places i v → Contains (held_facet v) name →
-        i < s.numbers.mutators
-    low i (Mutator d) name sits has = sits.keeps.in_range
-    low i (Server v) name sits has = absurd (in_none name has)
-    low i (Collector c) name sits has = absurd (in_none name has)
