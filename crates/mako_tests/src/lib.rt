@@ -1,13 +1,10 @@
-//! Tests of crates below. They stand here so that these crates are proved once, and not once more with their tests.
+//! Tests of the commands and of counts. They stand here so that the crates below are proved once, and not once more with
+//! their tests.
 #![tactic(auto)]
 
 #[cfg(test)]
 mod commands;
 #[cfg(test)]
 mod counts;
-#[cfg(test)]
-mod journals;
-#[cfg(test)]
-mod judging;
 #[cfg(test)]
 mod small_counts;

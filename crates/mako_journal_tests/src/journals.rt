@@ -22,8 +22,15 @@ const USED_AGAIN: &[u8] =
 const CIRCLE: &[u8] =
     b"mako 1\nservers 2\ntablets 1\nentries 2\nwords 16\nspare 1\nring 2\nroots 4\ncycles 10\ngens 8\nboard 1\nmutator\nnew a 1\nnew b 1\nput a 0 b\nput b 0 a\ndrop a\ndrop b\ncollect\nend\n";
 
-/// Scripts with one tablet, a retired entry and a starved `new` among them.
-const OF_ONE_TABLET: [&[u8]; 5] = [
+/// Scripts with one tablet: a number that is read back and no calls at all, null and a field that is not there, two
+/// mutators at the board, a retired entry and a starved `new` among them.
+const OF_ONE_TABLET: [&[u8]; 11] = [
+    b"mako 1\nservers 1\ntablets 1\nentries 4\nwords 16\nspare 1\nring 2\nroots 4\ncycles 10\ngens 8\nboard 1\nmutator\nnew a 1\nnum n 7\nput a 0 n\nget b a 0\nend\n",
+    b"mako 1\nservers 1\ntablets 1\nentries 4\nwords 16\nspare 1\nring 2\nroots 4\ncycles 10\ngens 8\nboard 1\nmutator\nend\n",
+    b"mako 1\nservers 1\ntablets 1\nentries 4\nwords 16\nspare 1\nring 2\nroots 4\ncycles 10\ngens 8\nboard 1\nmutator\nnew a 1\nget b a 0\nget c b 0\nend\n",
+    b"mako 1\nservers 1\ntablets 1\nentries 4\nwords 16\nspare 1\nring 2\nroots 4\ncycles 10\ngens 8\nboard 1\nmutator\nnew a 1\nget b a 1\nget b a 0\nput a 1 a\nshow a\nend\n",
+    b"mako 1\nservers 1\ntablets 1\nentries 4\nwords 16\nspare 1\nring 2\nroots 4\ncycles 10\ngens 8\nboard 1\nmutator\nnum n 7\nput board 0 n\nend\nmutator\nget b board 0\nend\n",
+    b"mako 1\nservers 1\ntablets 1\nentries 4\nwords 16\nspare 1\nring 2\nroots 4\ncycles 10\ngens 8\nboard 1\nmutator\nnum n 7\nput board 0 n\nend\nmutator\nshow board\nshow board\nshow board\nget b board 0\nend\n",
     USED_AGAIN,
     b"mako 1\nservers 1\ntablets 1\nentries 2\nwords 16\nspare 1\nring 2\nroots 4\ncycles 10\ngens 8\nboard 1\nmutator\nnew a 1\nnew b 1\nend\n",
     b"mako 1\nservers 1\ntablets 1\nentries 2\nwords 16\nspare 1\nring 2\nroots 4\ncycles 10\ngens 1\nboard 1\nmutator\nnew a 0\ndrop a\nnew b 0\nend\n",
@@ -37,6 +44,10 @@ const OF_TWO_TABLETS: [&[u8]; 3] = [
     b"mako 1\nservers 2\ntablets 1\nentries 2\nwords 16\nspare 1\nring 2\nroots 4\ncycles 10\ngens 8\nboard 1\nmutator\nnew a 1\nnew b 1\nput a 0 b\ndrop b\ncollect\nget c a 0\nend\n",
     b"mako 1\nservers 2\ntablets 1\nentries 6\nwords 16\nspare 1\nring 1\nroots 11\ncycles 10\ngens 8\nboard 1\nmutator\nnew a 1\nnew b 1\nnew c 1\nnew d 1\nnew e 1\nnew f 1\nnew g 1\nnew h 1\nnew i 1\nnew j 1\nput a 0 f\nput f 0 b\nput b 0 g\nput g 0 c\nput c 0 h\nput h 0 d\nput d 0 i\nput i 0 e\nput e 0 j\ndrop b\ndrop c\ndrop d\ndrop e\ndrop f\ndrop g\ndrop h\ndrop i\ndrop j\ncollect\nend\n",
 ];
+
+/// Two mutators share a list while a third waits for a cycle, on two servers of two tablets each.
+const SHARED_LIST: &[u8] =
+    b"mako 1\nservers 2\ntablets 2\nentries 16\nwords 64\nspare 1\nring 4\nroots 8\ncycles 10\ngens 100\nboard 4\nmutator\nnew a 2\nnum x 10\nput a 0 x\nnew b 2\nnum x 20\nput b 0 x\nput a 1 b\nput board 0 a\ndrop a\ndrop b\nend\nmutator\nget h board 0\nget v h 0\nget t h 1\nget w t 0\nend\nmutator\nnew g 3\ndrop g\ncollect\nend\n";
 
 fn script_of(alloc: Global, text: &[u8]) -> Result<Script, Memory> {
     parse(alloc, text).map_err(|_| Memory)
@@ -87,6 +98,7 @@ fn histories_answer_to_the_end(rt: HostRuntime) -> Result<(), Fail> {
     for text in OF_TWO_TABLETS {
         assert_eq!(rt; judged(rt.alloc(), text, 2)?, Verdict::ToTheEnd);
     }
+    assert_eq!(rt; judged(rt.alloc(), SHARED_LIST, 4)?, Verdict::ToTheEnd);
     Ok(())
 }
 

@@ -1,5 +1,5 @@
 use Rattle.std.proofs.Common.{◌≡◌, length}
-use Rattle.mako_tests.proofs.judging.journal_of.Given as goal
+use Rattle.mako_judging_tests.proofs.judging.journal_of.Given as goal
 
 abbrev pub invariant-loop-point : goal.invariant-loop-point
 invariant-loop-point l = record {
