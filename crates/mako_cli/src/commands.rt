@@ -229,8 +229,8 @@ pub fn top<R: Threads + Wait + Sync, S: Source, K: Sink>(
     source: &mut S,
     sink: &mut K,
 ) -> Ended
-    // The words say no command exactly where the status is that of usage, or that of a write fault or of want of
-    // memory.
+    // Status 1 comes only where the words say no command; and where they say none it is 1, or that of a write fault or
+    // of want of memory.
     ensures usage { result.status ≡ 1 → SayNothing (map string_bytes words.now) }
     ensures other { SayNothing (map string_bytes words.now) → (result.status ≡ 1)
         ⊎ ((result.status ≡ 4) ⊎ (result.status ≡ 5)) }

@@ -1,22 +1,18 @@
 -- What the table makes of words, and what is made of its matches.
 use Rattle.std.proofs.Common.{◌≡◌, ◌∙◌, Bool, true, false, List, [], ◌∷◌, Option, Some, None, codes, arith, refl, sym}
-use Rattle.std.proofs.Common.{ap, subst, inl, inr, option_map, is_some, get_or, true≢false}
-use Rattle.std.specs.Prelude.{Box}
-use Rattle.std.specs.Box.{box_value}
+use Rattle.std.proofs.Common.{ap, subst, inl, inr, is_some, get_or, true≢false}
 use Rattle.std.specs.List.{list_all}
 use Rattle.std.specs.Str.{bytes_eq}
 use Rattle.std.proofs.lemmas.Slice.Eq.{bytes_eq-Decides}
 use Rattle.clap.specs.Words.{App, Row, Text, HasMatchesOf, HasKind, IsAmong, fault_of, first_of, first_value, is_simple}
-use Rattle.clap.specs.Words.{is_simple_and_free, kind_of, rows_of, subcommand_name_of, subcommand_of, subcommand_rows}
+use Rattle.clap.specs.Words.{is_simple_and_free, kind_of, rows_of, subcommand_of}
 use Rattle.clap.specs.Words.{subcommand_rows_of}
 use Rattle.clap.specs.Kinds.{Kinds}
 use Rattle.clap.specs.declared.error.Error.{Error}
 use Rattle.clap.specs.declared.error.kind.ErrorKind.{ErrorKind}
 use Rattle.clap.specs.declared.error.kind.ErrorKind.TheVariants as kind
 use Rattle.clap.specs.declared.parser.matches.ArgMatches.{ArgMatches}
-use Rattle.clap.specs.declared.parser.matches.ArgMatches.TheViews.{out-ArgMatches, out-SubCommand}
 use Rattle.clap.specs.declared.parser.matches.Found.{Found}
-use Rattle.clap.specs.declared.parser.matches.SubCommand.{SubCommand}
 use Rattle.clap.proofs.WalkLemmas.{first_value-rows}
 use Rattle.mako_command.specs.CommandLines.{Finds, IsReplay, IsGen, IsCount, IsLoad, Says, SayNothing}
 use Rattle.mako_command.specs.Tables.{IsPair, IsSingle, IsTaken, given, is_word, table}
@@ -60,23 +56,8 @@ abbrev text_in : Option Text → Text
 text_in None = []
 text_in (Some text) = text
 
-abbrev rows_in : Option (List Row) → List Row
-rows_in None = []
-rows_in (Some rows) = rows
-
 is_none : {A : Type 0} (x : A) → None ≡ Some x → ⊥
 is_none {A} x e = true≢false (sym (ap (λ (o : Option A). is_some o) e))
-
-pub joined : (m : ArgMatches) (name : Text) (rows : List Row) → Some name ≡ subcommand_name_of m
-    → Some rows ≡ option_map (λ p. p.1) (subcommand_rows_of m) →
-    subcommand_rows_of m ≡ Some (name, rows)
-joined m name rows name_is rows_are = go (out-ArgMatches m).subcommand name_is rows_are
-  where
-    go : {Z : Type 0} (sub : Option (Box SubCommand Z))
-        → Some name ≡ option_map (λ b. (out-SubCommand (box_value b)).name.now) sub →
-        Some rows ≡ option_map (λ p. p.1) (subcommand_rows sub) → subcommand_rows sub ≡ Some (name, rows)
-    go None n r = absurd (is_none _ (sym n))
-    go (Some b) n r = λ i. Some (sym (ap text_in n) i, sym (ap rows_in r) i)
 
 -- ---- the arguments of the subcommand
 
@@ -250,14 +231,3 @@ load_says words f first r has at_one found =
 -- an argument that was given is found
 pub not_missing : (f : Found) (id text : Text) → None ≡ first_value f id → first_value f id ≡ Some text → ⊥
 not_missing f id text missing is = is_none text (missing ∙ is)
-
--- ---- which matches are no commands
-
-pub not_taken : (words : List Text) → IsTaken words None → ⊥
-not_taken words t = elim t [
-  | inl p ↦ is_none _ p.taken_as
-  | inr rest ↦ elim rest [
-    | inl p ↦ is_none _ p.taken_as
-    | inr singles ↦ elim singles [ inl s ↦ is_none _ s.taken_as | inr s ↦ is_none _ s.taken_as ]
-  ]
-]
