@@ -21,78 +21,583 @@ const ONE_AGAIN: Name = Name {
     generation: 1,
 };
 
-/// A script with one program.
+/// The program of a front's only mutator.
 #[derive(Clone, Copy)]
-struct Case<'a> {
+enum Program {
+    /// The calls of the points.
+    OfPoints,
+    /// These and one more.
+    WithOneMore,
+    Only(&'static [Call]),
+}
+
+/// A front of one mutator in a heap of this size, and what the judge says of it.
+#[derive(Clone, Copy)]
+struct Row {
     tablets: u32,
     entries: u32,
     cycles: u32,
     generations: u32,
-    program: &'a [Call],
+    program: Program,
+    points: &'static [Point],
+    /// The names freed in each finished cycle, at most two cycles of at most two names.
+    freed: &'static [&'static [Name]],
+    verdict: Verdict,
 }
 
-fn did(call: Call, reply: Reply) -> Point {
-    Point::Did {
-        mutator: 0,
-        call,
-        reply,
-    }
-}
+const MADE: Point = Point::Did {
+    mutator: 0,
+    call: Call::New { root: 1, fields: 0 },
+    reply: Reply::Made(ONE),
+};
 
-fn made(root: u8, fields: u8, name: Name) -> Point {
-    did(Call::New { root, fields }, Reply::Made(name))
-}
+const MADE_AT_ROOT_TWO: Point = Point::Did {
+    mutator: 0,
+    call: Call::New { root: 2, fields: 0 },
+    reply: Reply::Made(ONE),
+};
 
-fn full(root: u8, fields: u8) -> Point {
-    did(Call::New { root, fields }, Reply::Full)
-}
+const MADE_AGAIN: Point = Point::Did {
+    mutator: 0,
+    call: Call::New { root: 1, fields: 0 },
+    reply: Reply::Made(ONE_AGAIN),
+};
 
-fn dropped(root: u8) -> Point {
-    did(Call::DropRoot { root }, Reply::Done)
-}
+const MADE_OF_ONE: Point = Point::Did {
+    mutator: 0,
+    call: Call::New { root: 1, fields: 1 },
+    reply: Reply::Made(ONE),
+};
 
-fn put(to: u8, from: u8) -> Point {
-    did(Call::Put { to, field: 0, from }, Reply::Done)
-}
+const SECOND_OF_ONE: Point = Point::Did {
+    mutator: 0,
+    call: Call::New { root: 2, fields: 1 },
+    reply: Reply::Made(TWO),
+};
 
-fn number() -> Point {
-    did(Call::Num { root: 1, value: 7 }, Reply::Value(Value::Num(7)))
-}
+const MADE_OF_SIX: Point = Point::Did {
+    mutator: 0,
+    call: Call::New { root: 1, fields: 6 },
+    reply: Reply::Made(ONE),
+};
 
-fn waited(cycle: u32) -> Point {
-    did(Call::Collect, Reply::Cycle(cycle))
-}
+const SECOND_OF_FIVE: Point = Point::Did {
+    mutator: 0,
+    call: Call::New { root: 2, fields: 5 },
+    reply: Reply::Made(TWO),
+};
 
-fn snap(cycle: u32) -> Point {
-    Point::Snap { cycle }
-}
+const AGAIN_OF_SIX: Point = Point::Did {
+    mutator: 0,
+    call: Call::New { root: 3, fields: 6 },
+    reply: Reply::Made(ONE_AGAIN),
+};
 
-fn no(clause: Clause, place: usize) -> Verdict {
-    Verdict::No(Fault {
-        clause,
-        place: Some(place),
-    })
-}
+const MADE_OF_TWELVE: Point = Point::Did {
+    mutator: 0,
+    call: Call::New {
+        root: 1,
+        fields: 12,
+    },
+    reply: Reply::Made(ONE),
+};
 
-fn no_point(clause: Clause) -> Verdict {
-    Verdict::No(Fault {
-        clause,
-        place: None,
-    })
-}
+const MADE_OF_THIRTEEN: Point = Point::Did {
+    mutator: 0,
+    call: Call::New {
+        root: 1,
+        fields: 13,
+    },
+    reply: Reply::Made(ONE),
+};
 
-/// Four entries, ten cycles and eight generations, and this program.
-fn usual(program: &[Call]) -> Case<'_> {
-    Case {
+const FULL: Point = Point::Did {
+    mutator: 0,
+    call: Call::New { root: 1, fields: 0 },
+    reply: Reply::Full,
+};
+
+const FULL_AT_ROOT_TWO: Point = Point::Did {
+    mutator: 0,
+    call: Call::New { root: 2, fields: 0 },
+    reply: Reply::Full,
+};
+
+const FULL_OF_ONE: Point = Point::Did {
+    mutator: 0,
+    call: Call::New { root: 2, fields: 1 },
+    reply: Reply::Full,
+};
+
+const DROPPED: Point = Point::Did {
+    mutator: 0,
+    call: Call::DropRoot { root: 1 },
+    reply: Reply::Done,
+};
+
+const SECOND_DROPPED: Point = Point::Did {
+    mutator: 0,
+    call: Call::DropRoot { root: 2 },
+    reply: Reply::Done,
+};
+
+const FIRST_NAMES_SECOND: Point = Point::Did {
+    mutator: 0,
+    call: Call::Put {
+        to: 1,
+        field: 0,
+        from: 2,
+    },
+    reply: Reply::Done,
+};
+
+const SECOND_NAMES_FIRST: Point = Point::Did {
+    mutator: 0,
+    call: Call::Put {
+        to: 2,
+        field: 0,
+        from: 1,
+    },
+    reply: Reply::Done,
+};
+
+const FIRST_NAMES_ITSELF: Point = Point::Did {
+    mutator: 0,
+    call: Call::Put {
+        to: 1,
+        field: 0,
+        from: 1,
+    },
+    reply: Reply::Done,
+};
+
+const NUMBER: Point = Point::Did {
+    mutator: 0,
+    call: Call::Num { root: 1, value: 7 },
+    reply: Reply::Value(Value::Num(7)),
+};
+
+const WAITED: Point = Point::Did {
+    mutator: 0,
+    call: Call::Collect,
+    reply: Reply::Cycle(1),
+};
+
+const WAITED_AGAIN: Point = Point::Did {
+    mutator: 0,
+    call: Call::Collect,
+    reply: Reply::Cycle(2),
+};
+
+const SHOWN: Point = Point::Did {
+    mutator: 0,
+    call: Call::Show { root: 2 },
+    reply: Reply::Value(Value::Ref(TWO)),
+};
+
+const SNAP: Point = Point::Snap { cycle: 1 };
+
+const SNAP_AGAIN: Point = Point::Snap { cycle: 2 };
+
+/// Fronts with a `new` that found no room.
+const NO_ROOM: [Row; 7] = [
+    Row {
+        tablets: 1,
+        entries: 2,
+        cycles: 1,
+        generations: 8,
+        program: Program::WithOneMore,
+        points: &[MADE, DROPPED, SNAP, FULL],
+        freed: &[&[ONE]],
+        verdict: Verdict::SoFar,
+    },
+    Row {
+        tablets: 1,
+        entries: 2,
+        cycles: 10,
+        generations: 8,
+        program: Program::WithOneMore,
+        points: &[MADE, DROPPED, SNAP, FULL],
+        freed: &[&[ONE]],
+        verdict: Verdict::No(Fault {
+            clause: Clause::Starved,
+            place: Some(3),
+        }),
+    },
+    Row {
         tablets: 1,
         entries: 4,
         cycles: 10,
         generations: 8,
-        program,
-    }
-}
+        program: Program::WithOneMore,
+        points: &[MADE_OF_THIRTEEN, SNAP, FULL_AT_ROOT_TWO],
+        freed: &[&[]],
+        verdict: Verdict::SoFar,
+    },
+    Row {
+        tablets: 1,
+        entries: 4,
+        cycles: 10,
+        generations: 8,
+        program: Program::WithOneMore,
+        points: &[MADE_OF_TWELVE, SNAP, FULL_AT_ROOT_TWO],
+        freed: &[&[]],
+        verdict: Verdict::No(Fault {
+            clause: Clause::Starved,
+            place: Some(2),
+        }),
+    },
+    Row {
+        tablets: 2,
+        entries: 1,
+        cycles: 10,
+        generations: 8,
+        program: Program::WithOneMore,
+        points: &[SNAP, FULL],
+        freed: &[&[]],
+        verdict: Verdict::No(Fault {
+            clause: Clause::Starved,
+            place: Some(1),
+        }),
+    },
+    Row {
+        tablets: 1,
+        entries: 3,
+        cycles: 10,
+        generations: 8,
+        program: Program::WithOneMore,
+        points: &[MADE, SNAP, FULL_AT_ROOT_TWO],
+        freed: &[&[]],
+        verdict: Verdict::No(Fault {
+            clause: Clause::Starved,
+            place: Some(2),
+        }),
+    },
+    Row {
+        tablets: 1,
+        entries: 2,
+        cycles: 10,
+        generations: 8,
+        program: Program::WithOneMore,
+        points: &[MADE, SNAP, WAITED, DROPPED, SNAP_AGAIN, FULL],
+        freed: &[&[], &[ONE]],
+        verdict: Verdict::No(Fault {
+            clause: Clause::Starved,
+            place: Some(5),
+        }),
+    },
+];
 
-/// The program that is the calls of the points, with one more.
+/// Fronts with calls that waited for a cycle, and with cycles.
+const WAITS_AND_CYCLES: [Row; 5] = [
+    Row {
+        tablets: 1,
+        entries: 4,
+        cycles: 10,
+        generations: 8,
+        program: Program::WithOneMore,
+        points: &[SNAP, NUMBER, WAITED],
+        freed: &[&[]],
+        verdict: Verdict::No(Fault {
+            clause: Clause::Waits,
+            place: Some(2),
+        }),
+    },
+    Row {
+        tablets: 1,
+        entries: 4,
+        cycles: 10,
+        generations: 8,
+        program: Program::WithOneMore,
+        points: &[SNAP, WAITED],
+        freed: &[],
+        verdict: Verdict::No(Fault {
+            clause: Clause::Waits,
+            place: Some(1),
+        }),
+    },
+    Row {
+        tablets: 1,
+        entries: 4,
+        cycles: 10,
+        generations: 8,
+        program: Program::WithOneMore,
+        points: &[SNAP, NUMBER],
+        freed: &[],
+        verdict: Verdict::SoFar,
+    },
+    Row {
+        tablets: 1,
+        entries: 4,
+        cycles: 10,
+        generations: 8,
+        program: Program::WithOneMore,
+        points: &[SNAP, SNAP_AGAIN],
+        freed: &[],
+        verdict: Verdict::No(Fault {
+            clause: Clause::Unfinished,
+            place: None,
+        }),
+    },
+    Row {
+        tablets: 1,
+        entries: 4,
+        cycles: 10,
+        generations: 8,
+        program: Program::WithOneMore,
+        points: &[],
+        freed: &[&[]],
+        verdict: Verdict::No(Fault {
+            clause: Clause::Finished,
+            place: None,
+        }),
+    },
+];
+
+/// Fronts with names out of range or made twice, and with other programs.
+const NAMES_AND_PROGRAMS: [Row; 6] = [
+    Row {
+        tablets: 1,
+        entries: 1,
+        cycles: 10,
+        generations: 8,
+        program: Program::WithOneMore,
+        points: &[MADE],
+        freed: &[],
+        verdict: Verdict::No(Fault {
+            clause: Clause::Names,
+            place: Some(0),
+        }),
+    },
+    Row {
+        tablets: 1,
+        entries: 0,
+        cycles: 10,
+        generations: 8,
+        program: Program::WithOneMore,
+        points: &[],
+        freed: &[],
+        verdict: Verdict::No(Fault {
+            clause: Clause::Names,
+            place: None,
+        }),
+    },
+    Row {
+        tablets: 1,
+        entries: 2,
+        cycles: 10,
+        generations: 1,
+        program: Program::WithOneMore,
+        points: &[MADE, DROPPED, SNAP, MADE_AGAIN],
+        freed: &[&[ONE]],
+        verdict: Verdict::No(Fault {
+            clause: Clause::Names,
+            place: Some(3),
+        }),
+    },
+    Row {
+        tablets: 1,
+        entries: 4,
+        cycles: 10,
+        generations: 8,
+        program: Program::WithOneMore,
+        points: &[MADE, MADE_AT_ROOT_TWO],
+        freed: &[],
+        verdict: Verdict::No(Fault {
+            clause: Clause::Legal,
+            place: Some(1),
+        }),
+    },
+    Row {
+        tablets: 1,
+        entries: 4,
+        cycles: 10,
+        generations: 8,
+        program: Program::Only(&[]),
+        points: &[NUMBER],
+        freed: &[],
+        verdict: Verdict::No(Fault {
+            clause: Clause::Programs,
+            place: Some(0),
+        }),
+    },
+    Row {
+        tablets: 1,
+        entries: 4,
+        cycles: 10,
+        generations: 8,
+        program: Program::Only(&[
+            Call::New { root: 1, fields: 0 },
+            Call::Collect,
+            Call::DropRoot { root: 1 },
+        ]),
+        points: &[MADE, SNAP, WAITED, DROPPED],
+        freed: &[&[]],
+        verdict: Verdict::ToTheEnd,
+    },
+];
+
+/// The worked examples of the model, each with its wrong variant.
+const WORKED_EXAMPLES: [Row; 10] = [
+    Row {
+        tablets: 2,
+        entries: 2,
+        cycles: 10,
+        generations: 8,
+        program: Program::OfPoints,
+        points: &[
+            MADE_OF_ONE,
+            SECOND_OF_ONE,
+            FIRST_NAMES_SECOND,
+            SECOND_NAMES_FIRST,
+            DROPPED,
+            SECOND_DROPPED,
+            SNAP,
+            WAITED,
+        ],
+        freed: &[&[ONE, TWO]],
+        verdict: Verdict::ToTheEnd,
+    },
+    Row {
+        tablets: 2,
+        entries: 2,
+        cycles: 10,
+        generations: 8,
+        program: Program::OfPoints,
+        points: &[
+            MADE_OF_ONE,
+            SECOND_OF_ONE,
+            FIRST_NAMES_SECOND,
+            SECOND_NAMES_FIRST,
+            DROPPED,
+            SECOND_DROPPED,
+            SNAP,
+            WAITED,
+        ],
+        freed: &[&[ONE]],
+        verdict: Verdict::No(Fault {
+            clause: Clause::Freed,
+            place: None,
+        }),
+    },
+    Row {
+        tablets: 1,
+        entries: 2,
+        cycles: 10,
+        generations: 1,
+        program: Program::OfPoints,
+        points: &[MADE, DROPPED, SNAP, FULL_AT_ROOT_TWO],
+        freed: &[&[ONE]],
+        verdict: Verdict::ToTheEnd,
+    },
+    Row {
+        tablets: 1,
+        entries: 2,
+        cycles: 10,
+        generations: 1,
+        program: Program::OfPoints,
+        points: &[MADE, DROPPED, SNAP, FULL_AT_ROOT_TWO],
+        freed: &[],
+        verdict: Verdict::No(Fault {
+            clause: Clause::Starved,
+            place: Some(3),
+        }),
+    },
+    Row {
+        tablets: 1,
+        entries: 2,
+        cycles: 10,
+        generations: 8,
+        program: Program::OfPoints,
+        points: &[MADE_OF_ONE, SNAP, FULL_OF_ONE],
+        freed: &[&[]],
+        verdict: Verdict::ToTheEnd,
+    },
+    Row {
+        tablets: 1,
+        entries: 2,
+        cycles: 10,
+        generations: 8,
+        program: Program::OfPoints,
+        points: &[MADE_OF_ONE, SNAP, FULL_OF_ONE],
+        freed: &[&[ONE]],
+        verdict: Verdict::No(Fault {
+            clause: Clause::Freed,
+            place: None,
+        }),
+    },
+    Row {
+        tablets: 1,
+        entries: 4,
+        cycles: 10,
+        generations: 8,
+        program: Program::OfPoints,
+        points: &[
+            MADE_OF_ONE,
+            FIRST_NAMES_ITSELF,
+            DROPPED,
+            SNAP,
+            WAITED,
+            SNAP_AGAIN,
+            WAITED_AGAIN,
+        ],
+        freed: &[&[ONE], &[]],
+        verdict: Verdict::ToTheEnd,
+    },
+    Row {
+        tablets: 1,
+        entries: 4,
+        cycles: 10,
+        generations: 8,
+        program: Program::OfPoints,
+        points: &[
+            MADE_OF_ONE,
+            FIRST_NAMES_ITSELF,
+            DROPPED,
+            SNAP,
+            WAITED,
+            SNAP_AGAIN,
+            WAITED_AGAIN,
+        ],
+        freed: &[&[ONE], &[ONE]],
+        verdict: Verdict::No(Fault {
+            clause: Clause::Freed,
+            place: None,
+        }),
+    },
+    Row {
+        tablets: 1,
+        entries: 4,
+        cycles: 10,
+        generations: 8,
+        program: Program::OfPoints,
+        points: &[
+            MADE_OF_SIX,
+            SECOND_OF_FIVE,
+            DROPPED,
+            SNAP,
+            AGAIN_OF_SIX,
+            SHOWN,
+        ],
+        freed: &[&[ONE]],
+        verdict: Verdict::ToTheEnd,
+    },
+    Row {
+        tablets: 1,
+        entries: 4,
+        cycles: 10,
+        generations: 8,
+        program: Program::OfPoints,
+        points: &[MADE_OF_SIX, SECOND_OF_FIVE, DROPPED, AGAIN_OF_SIX],
+        freed: &[],
+        verdict: Verdict::No(Fault {
+            clause: Clause::Reuses,
+            place: Some(3),
+        }),
+    },
+];
+
+/// The program that is the calls of the points.
 fn calls_of(alloc: Global, points: &[Point]) -> Result<Vec<Call>, Fail> {
     let mut calls = Vec::new(alloc);
     for point in points {
@@ -100,8 +605,19 @@ fn calls_of(alloc: Global, points: &[Point]) -> Result<Vec<Call>, Fail> {
             calls.push(*call)?;
         }
     }
-    calls.push(Call::Show { root: 1 })?;
     Ok(calls)
+}
+
+fn program_of(alloc: Global, row: &Row) -> Result<Vec<Call>, Fail> {
+    match row.program {
+        Program::OfPoints => calls_of(alloc, row.points),
+        Program::WithOneMore => {
+            let mut calls = calls_of(alloc, row.points)?;
+            calls.push(Call::Show { root: 1 })?;
+            Ok(calls)
+        }
+        Program::Only(calls) => Ok(Vec::from_slice(alloc, calls)?),
+    }
 }
 
 fn journal_of(alloc: Global, points: &[Point]) -> Result<Journal, Fail> {
@@ -129,256 +645,53 @@ fn cycles_of(alloc: Global, freed: &[&[Name]]) -> Result<Cycles, Fail> {
     Ok(cycles)
 }
 
-fn verdict(
-    alloc: Global,
-    script: &Case,
-    points: &[Point],
-    freed: &[&[Name]],
-) -> Result<Verdict, Fail> {
+/// What the judge says of the front.
+fn judged(alloc: Global, row: &Row) -> Result<Verdict, Fail> {
     let mut programs = Vec::new(alloc);
-    programs.push(Vec::from_slice(alloc, script.program)?)?;
+    programs.push(program_of(alloc, row)?)?;
     let setup = Setup {
         roots: 4,
         board: 1,
-        tablets: script.tablets,
-        entries: script.entries,
+        tablets: row.tablets,
+        entries: row.entries,
         words: 16,
-        cycles: script.cycles,
-        generations: script.generations,
+        cycles: row.cycles,
+        generations: row.generations,
         programs,
     };
-    let journal = journal_of(alloc, points)?;
-    let cycles = cycles_of(alloc, freed)?;
+    let journal = journal_of(alloc, row.points)?;
+    let cycles = cycles_of(alloc, row.freed)?;
     Ok(judge(alloc, &setup, &journal, &cycles)?)
-}
-
-/// The verdict where the program is the calls of the points, with one more, for a script of this size.
-fn sized(
-    alloc: Global,
-    tablets: u32,
-    entries: u32,
-    points: &[Point],
-    freed: &[&[Name]],
-) -> Result<Verdict, Fail> {
-    let calls = calls_of(alloc, points)?;
-    let script = Case {
-        tablets,
-        entries,
-        ..usual(&calls)
-    };
-    verdict(alloc, &script, points, freed)
 }
 
 #[test]
 fn no_room(rt: HostRuntime) -> Result<(), Fail> {
-    let alloc = rt.alloc();
-    let one = [made(1, 0, ONE), dropped(1), snap(1), full(1, 0)];
-    let calls = calls_of(alloc, &one)?;
-    let last = Case {
-        entries: 2,
-        cycles: 1,
-        ..usual(&calls)
-    };
-    assert_eq!(rt; verdict(alloc, &last, &one, &[&[ONE]])?, Verdict::SoFar);
-    assert_eq!(rt;
-        sized(alloc, 1, 2, &one, &[&[ONE]])?,
-        no(Clause::Starved, 3)
-    );
-    let words = [made(1, 13, ONE), snap(1), full(2, 0)];
-    assert_eq!(rt; sized(alloc, 1, 4, &words, &[&[]])?, Verdict::SoFar);
-    let fewer = [made(1, 12, ONE), snap(1), full(2, 0)];
-    assert_eq!(rt; sized(alloc, 1, 4, &fewer, &[&[]])?, no(Clause::Starved, 2));
-    assert_eq!(rt;
-        sized(alloc, 2, 1, &[snap(1), full(1, 0)], &[&[]])?,
-        no(Clause::Starved, 1)
-    );
-    let three = [made(1, 0, ONE), snap(1), full(2, 0)];
-    assert_eq!(rt; sized(alloc, 1, 3, &three, &[&[]])?, no(Clause::Starved, 2));
-    let second = [
-        made(1, 0, ONE),
-        snap(1),
-        waited(1),
-        dropped(1),
-        snap(2),
-        full(1, 0),
-    ];
-    assert_eq!(rt;
-        sized(alloc, 1, 2, &second, &[&[], &[ONE]])?,
-        no(Clause::Starved, 5)
-    );
+    for row in &NO_ROOM {
+        assert_eq!(rt; judged(rt.alloc(), row)?, row.verdict);
+    }
     Ok(())
 }
 
 #[test]
 fn waits_and_cycles(rt: HostRuntime) -> Result<(), Fail> {
-    let alloc = rt.alloc();
-    assert_eq!(rt;
-        sized(alloc, 1, 4, &[snap(1), number(), waited(1)], &[&[]])?,
-        no(Clause::Waits, 2)
-    );
-    assert_eq!(rt;
-        sized(alloc, 1, 4, &[snap(1), waited(1)], &[])?,
-        no(Clause::Waits, 1)
-    );
-    assert_eq!(rt;
-        sized(alloc, 1, 4, &[snap(1), number()], &[])?,
-        Verdict::SoFar
-    );
-    assert_eq!(rt;
-        sized(alloc, 1, 4, &[snap(1), snap(2)], &[])?,
-        no_point(Clause::Unfinished)
-    );
-    assert_eq!(rt;
-        sized(alloc, 1, 4, &[], &[&[]])?,
-        no_point(Clause::Finished)
-    );
+    for row in &WAITS_AND_CYCLES {
+        assert_eq!(rt; judged(rt.alloc(), row)?, row.verdict);
+    }
     Ok(())
 }
 
 #[test]
 fn names_and_programs(rt: HostRuntime) -> Result<(), Fail> {
-    let alloc = rt.alloc();
-    assert_eq!(rt;
-        sized(alloc, 1, 1, &[made(1, 0, ONE)], &[])?,
-        no(Clause::Names, 0)
-    );
-    assert_eq!(rt; sized(alloc, 1, 0, &[], &[])?, no_point(Clause::Names));
-    let again = [made(1, 0, ONE), dropped(1), snap(1), made(1, 0, ONE_AGAIN)];
-    let calls = calls_of(alloc, &again)?;
-    let once = Case {
-        entries: 2,
-        generations: 1,
-        ..usual(&calls)
-    };
-    assert_eq!(rt;
-        verdict(alloc, &once, &again, &[&[ONE]])?,
-        no(Clause::Names, 3)
-    );
-    let twice = [made(1, 0, ONE), made(2, 0, ONE)];
-    assert_eq!(rt; sized(alloc, 1, 4, &twice, &[])?, no(Clause::Legal, 1));
-    assert_eq!(rt;
-        verdict(alloc, &usual(&[]), &[number()], &[])?,
-        no(Clause::Programs, 0)
-    );
-    let done = [made(1, 0, ONE), snap(1), waited(1), dropped(1)];
-    let calls = [
-        Call::New { root: 1, fields: 0 },
-        Call::Collect,
-        Call::DropRoot { root: 1 },
-    ];
-    assert_eq!(rt;
-        verdict(alloc, &usual(&calls), &done, &[&[]])?,
-        Verdict::ToTheEnd
-    );
+    for row in &NAMES_AND_PROGRAMS {
+        assert_eq!(rt; judged(rt.alloc(), row)?, row.verdict);
+    }
     Ok(())
 }
 
-/// The worked examples of the model, each with its wrong variant.
 #[test]
 fn worked_examples(rt: HostRuntime) -> Result<(), Fail> {
-    let alloc = rt.alloc();
-    let tied = [
-        made(1, 1, ONE),
-        made(2, 1, TWO),
-        put(1, 2),
-        put(2, 1),
-        dropped(1),
-        dropped(2),
-        snap(1),
-        waited(1),
-    ];
-    assert_eq!(rt;
-        example(alloc, 2, 2, 8, &tied, &[&[ONE, TWO]])?,
-        Verdict::ToTheEnd
-    );
-    assert_eq!(rt;
-        example(alloc, 2, 2, 8, &tied, &[&[ONE]])?,
-        no_point(Clause::Freed)
-    );
-    let retired = [made(1, 0, ONE), dropped(1), snap(1), full(2, 0)];
-    assert_eq!(rt;
-        example(alloc, 1, 2, 1, &retired, &[&[ONE]])?,
-        Verdict::ToTheEnd
-    );
-    assert_eq!(rt;
-        example(alloc, 1, 2, 1, &retired, &[])?,
-        no(Clause::Starved, 3)
-    );
-    let crowded = [made(1, 1, ONE), snap(1), full(2, 1)];
-    assert_eq!(rt;
-        example(alloc, 1, 2, 8, &crowded, &[&[]])?,
-        Verdict::ToTheEnd
-    );
-    assert_eq!(rt;
-        example(alloc, 1, 2, 8, &crowded, &[&[ONE]])?,
-        no_point(Clause::Freed)
-    );
-    let looped = [
-        made(1, 1, ONE),
-        put(1, 1),
-        dropped(1),
-        snap(1),
-        waited(1),
-        snap(2),
-        waited(2),
-    ];
-    assert_eq!(rt;
-        example(alloc, 1, 4, 8, &looped, &[&[ONE], &[]])?,
-        Verdict::ToTheEnd
-    );
-    assert_eq!(rt;
-        example(alloc, 1, 4, 8, &looped, &[&[ONE], &[ONE]])?,
-        no_point(Clause::Freed)
-    );
+    for row in &WORKED_EXAMPLES {
+        assert_eq!(rt; judged(rt.alloc(), row)?, row.verdict);
+    }
     Ok(())
-}
-
-#[test]
-fn a_used_entry(rt: HostRuntime) -> Result<(), Fail> {
-    let alloc = rt.alloc();
-    let shown = did(Call::Show { root: 2 }, Reply::Value(Value::Ref(TWO)));
-    let reused = [
-        made(1, 6, ONE),
-        made(2, 5, TWO),
-        dropped(1),
-        snap(1),
-        made(3, 6, ONE_AGAIN),
-        shown,
-    ];
-    assert_eq!(rt;
-        example(alloc, 1, 4, 8, &reused, &[&[ONE]])?,
-        Verdict::ToTheEnd
-    );
-    let too_soon = [
-        made(1, 6, ONE),
-        made(2, 5, TWO),
-        dropped(1),
-        made(3, 6, ONE_AGAIN),
-    ];
-    assert_eq!(rt;
-        example(alloc, 1, 4, 8, &too_soon, &[])?,
-        no(Clause::Reuses, 3)
-    );
-    Ok(())
-}
-
-/// The verdict where the program is the calls of the points.
-fn example(
-    alloc: Global,
-    tablets: u32,
-    entries: u32,
-    generations: u32,
-    points: &[Point],
-    freed: &[&[Name]],
-) -> Result<Verdict, Fail> {
-    let mut calls = calls_of(alloc, points)?;
-    calls.pop();
-    let script = Case {
-        tablets,
-        entries,
-        cycles: 10,
-        generations,
-        program: &calls,
-    };
-    verdict(alloc, &script, points, freed)
 }
