@@ -24,7 +24,7 @@ const CIRCLE: &[u8] =
 
 /// Scripts with one tablet: a number that is read back and no calls at all, null and a field that is not there, two
 /// mutators at the board, a retired entry and a starved `new` among them.
-const OF_ONE_TABLET: [&[u8]; 11] = [
+const OF_ONE_TABLET: [&[u8]; 12] = [
     b"mako 1\nservers 1\ntablets 1\nentries 4\nwords 16\nspare 1\nring 2\nroots 4\ncycles 10\ngens 8\nboard 1\nmutator\nnew a 1\nnum n 7\nput a 0 n\nget b a 0\nend\n",
     b"mako 1\nservers 1\ntablets 1\nentries 4\nwords 16\nspare 1\nring 2\nroots 4\ncycles 10\ngens 8\nboard 1\nmutator\nend\n",
     b"mako 1\nservers 1\ntablets 1\nentries 4\nwords 16\nspare 1\nring 2\nroots 4\ncycles 10\ngens 8\nboard 1\nmutator\nnew a 1\nget b a 0\nget c b 0\nend\n",
@@ -35,7 +35,8 @@ const OF_ONE_TABLET: [&[u8]; 11] = [
     b"mako 1\nservers 1\ntablets 1\nentries 2\nwords 16\nspare 1\nring 2\nroots 4\ncycles 10\ngens 8\nboard 1\nmutator\nnew a 1\nnew b 1\nend\n",
     b"mako 1\nservers 1\ntablets 1\nentries 2\nwords 16\nspare 1\nring 2\nroots 4\ncycles 10\ngens 1\nboard 1\nmutator\nnew a 0\ndrop a\nnew b 0\nend\n",
     b"mako 1\nservers 1\ntablets 1\nentries 4\nwords 16\nspare 1\nring 2\nroots 4\ncycles 10\ngens 8\nboard 1\nmutator\nnew a 1\nput a 0 a\ndrop a\ncollect\ncollect\nend\n",
-    b"mako 1\nservers 1\ntablets 1\nentries 1\nwords 16\nspare 1\nring 2\nroots 4\ncycles 0\ngens 8\nboard 1\nmutator\nnew a 0\nshow board\ncollect\nend\n",
+    b"mako 1\nservers 1\ntablets 1\nentries 1\nwords 16\nspare 1\nring 2\nroots 4\ncycles 0\ngens 8\nboard 1\nmutator\nnew a 0\nshow board\nend\n",
+    b"mako 1\nservers 1\ntablets 1\nentries 4\nwords 16\nspare 1\nring 2\nroots 4\ncycles 0\ngens 8\nboard 1\nmutator\ncollect\nend\n",
 ];
 
 /// Scripts with two servers of one tablet each, a chain that crosses over between them among these.
