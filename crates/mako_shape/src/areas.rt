@@ -3,8 +3,30 @@
 ghost use Rattle.std.specs.Prelude.{◌≡◌, ◌*◌};
 ghost use Rattle.mako_shape.specs.Limits.{AllInRange, all_entries};
 ghost use Rattle.mako_shape.specs.Places.{start, total};
+ghost use Rattle.mako_shape.specs.Starting.{starts_of};
 
 use crate::numbers::Numbers;
+
+/// The index of the first word of each area, from that of the roots on.
+#[derive(Clone, Copy, Debug, PartialEq, Eq)]
+pub(crate) struct Starts {
+    pub(crate) roots: u32,
+    pub(crate) barriers: u32,
+    pub(crate) flags: u32,
+    pub(crate) works: u32,
+    pub(crate) ghosts: u32,
+    pub(crate) notices: u32,
+    pub(crate) tablet_gates: u32,
+    pub(crate) turns: u32,
+    pub(crate) homes: u32,
+    pub(crate) tops: u32,
+    pub(crate) leavings: u32,
+    pub(crate) lives: u32,
+    pub(crate) entries: u32,
+    pub(crate) regions: u32,
+    /// The words of all areas.
+    pub(crate) all_words: u32,
+}
 
 #[tactic(auto, using(crate::proofs::Products::are_small), unfolding(crate::specs::Places::total))]
 impl Numbers {
@@ -135,5 +157,29 @@ impl Numbers {
         ensures { result ≡ total self }
     {
         self.regions_start() + self.servers * (self.tablets + self.spare) * self.words
+    }
+
+    /// Where all areas start.
+    pub(crate) fn starts(self) -> Starts
+        requires { AllInRange self }
+        ensures { result ≡ starts_of self }
+    {
+        Starts {
+            roots: self.roots_start(),
+            barriers: self.barriers_start(),
+            flags: self.flags_start(),
+            works: self.works_start(),
+            ghosts: self.ghosts_start(),
+            notices: self.notices_start(),
+            tablet_gates: self.tablet_gates_start(),
+            turns: self.turns_start(),
+            homes: self.homes_start(),
+            tops: self.tops_start(),
+            leavings: self.leavings_start(),
+            lives: self.lives_start(),
+            entries: self.entries_start(),
+            regions: self.regions_start(),
+            all_words: self.all_words(),
+        }
     }
 }

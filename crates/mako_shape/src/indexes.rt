@@ -6,13 +6,13 @@ ghost use Rattle.mako_shape.specs.Places.{Within, index, total};
 
 use crate::shape::Shape;
 
-#[tactic(auto, using(crate::proofs::Products::are_small), unfolding(crate::specs::Places::total, crate::specs::Places::index))]
+#[tactic(auto, using(crate::proofs::Products::are_small), unfolding(crate::specs::Places::total, crate::specs::Places::index, crate::specs::Starting::starts_of))]
 impl Shape {
     /// The number of words of all areas.
     pub fn words(&self) -> u32
         ensures { result ≡ total self.now }
     {
-        self.numbers().all_words()
+        self.starts.all_words
     }
 
     /// The index of the phase word.
@@ -55,7 +55,7 @@ impl Shape {
         ensures below { result < total self.now }
     {
         let numbers = self.numbers();
-        numbers.roots_start() + mutator * numbers.roots + number
+        self.starts.roots + mutator * numbers.roots + number
     }
 
     /// The index of a slot of a mutator's barrier ring.
@@ -65,7 +65,7 @@ impl Shape {
         ensures below { result < total self.now }
     {
         let numbers = self.numbers();
-        numbers.barriers_start() + mutator * numbers.ring + slot
+        self.starts.barriers + mutator * numbers.ring + slot
     }
 
     /// The index of a server's flags.
@@ -74,7 +74,7 @@ impl Shape {
         ensures index { result ≡ index self.now (places.flags server) }
         ensures below { result < total self.now }
     {
-        self.numbers().flags_start() + server
+        self.starts.flags + server
     }
 
     /// The index of a slot of a server's work ring.
@@ -84,7 +84,7 @@ impl Shape {
         ensures below { result < total self.now }
     {
         let numbers = self.numbers();
-        numbers.works_start() + server * numbers.ring + slot
+        self.starts.works + server * numbers.ring + slot
     }
 
     /// The index of a slot of the ghost ring from one server to another.
@@ -94,7 +94,7 @@ impl Shape {
         ensures below { result < total self.now }
     {
         let numbers = self.numbers();
-        numbers.ghosts_start() + (sender * numbers.servers + receiver) * numbers.ring + slot
+        self.starts.ghosts + (sender * numbers.servers + receiver) * numbers.ring + slot
     }
 
     /// The index of a slot of a server's notice ring.
@@ -104,7 +104,7 @@ impl Shape {
         ensures below { result < total self.now }
     {
         let numbers = self.numbers();
-        numbers.notices_start() + server * numbers.ring + slot
+        self.starts.notices + server * numbers.ring + slot
     }
 
     /// The index of a tablet's gate.
@@ -113,7 +113,7 @@ impl Shape {
         ensures index { result ≡ index self.now (places.tablet_gate tablet) }
         ensures below { result < total self.now }
     {
-        self.numbers().tablet_gates_start() + tablet
+        self.starts.tablet_gates + tablet
     }
 
     /// The index of a tablet's turn word.
@@ -122,7 +122,7 @@ impl Shape {
         ensures index { result ≡ index self.now (places.turn tablet) }
         ensures below { result < total self.now }
     {
-        self.numbers().turns_start() + tablet
+        self.starts.turns + tablet
     }
 
     /// The index of the word that holds a tablet's home region.
@@ -131,7 +131,7 @@ impl Shape {
         ensures index { result ≡ index self.now (places.home tablet) }
         ensures below { result < total self.now }
     {
-        self.numbers().homes_start() + tablet
+        self.starts.homes + tablet
     }
 
     /// The index of the word that holds how many words of its home a tablet uses.
@@ -140,7 +140,7 @@ impl Shape {
         ensures index { result ≡ index self.now (places.top tablet) }
         ensures below { result < total self.now }
     {
-        self.numbers().tops_start() + tablet
+        self.starts.tops + tablet
     }
 
     /// The index of the word that holds the region that a tablet leaves.
@@ -149,7 +149,7 @@ impl Shape {
         ensures index { result ≡ index self.now (places.leaving tablet) }
         ensures below { result < total self.now }
     {
-        self.numbers().leavings_start() + tablet
+        self.starts.leavings + tablet
     }
 
     /// The index of the word that holds a tablet's count of live words.
@@ -158,7 +158,7 @@ impl Shape {
         ensures index { result ≡ index self.now (places.live tablet) }
         ensures below { result < total self.now }
     {
-        self.numbers().lives_start() + tablet
+        self.starts.lives + tablet
     }
 
     /// The index of a table entry.
@@ -167,7 +167,7 @@ impl Shape {
         ensures index { result ≡ index self.now (places.entry entry) }
         ensures below { result < total self.now }
     {
-        self.numbers().entries_start() + entry
+        self.starts.entries + entry
     }
 
     /// The index of the first word of a region.
@@ -177,6 +177,6 @@ impl Shape {
         ensures below { result < total self.now }
     {
         let numbers = self.numbers();
-        numbers.regions_start() + region * numbers.words
+        self.starts.regions + region * numbers.words
     }
 }

@@ -2,14 +2,17 @@
 
 ghost use Rattle.std.specs.Prelude.{◌≡◌, ◌↔◌, ◌<◌, IfOk};
 
+use crate::areas::Starts;
 use crate::fault::ShapeFault;
 use crate::numbers::Numbers;
 use std::marker::Model;
 
-/// A geometry: ten numbers that are in their ranges, with entries and words within their limits.
+/// A geometry: ten numbers that are in their ranges, with entries and words within their limits. It keeps where its areas
+/// start, so that an index is found at once.
 #[derive(Clone, Copy, Debug, PartialEq, Eq)]
 pub struct Shape {
     numbers: Numbers,
+    pub(crate) starts: Starts,
 }
 
 impl Model for Shape {
@@ -17,13 +20,15 @@ impl Model for Shape {
 
     ghost Value = { Numbers };
 
+    ghost use Rattle.std.specs.Prelude.{◌≡◌};
     ghost use Rattle.mako_shape.specs.Limits.{IsShape};
+    ghost use Rattle.mako_shape.specs.Starting.{starts_of};
 
     ghost view = { λ s. s.numbers };
 
-    ghost invariant = { λ s. IsShape s.numbers };
+    ghost invariant = { λ s. IsShape s.numbers × (s.starts ≡ starts_of s.numbers) };
 
-    ghost inverse = { λ n. record { numbers = n } };
+    ghost inverse = { λ n. record { numbers = n; starts = starts_of n } };
 }
 
 /// The most entries that all tablets may have together.
@@ -50,7 +55,10 @@ impl Shape {
         if numbers.all_words() > MAX_WORDS {
             return Err(ShapeFault::TooManyWords);
         }
-        Ok(Shape { numbers })
+        Ok(Shape {
+            numbers,
+            starts: numbers.starts(),
+        })
     }
 
     /// The numbers of this geometry.
