@@ -24,7 +24,7 @@ use Rattle.mako_phases.specs.Facets.{Part, PhaseFacet}
 use Rattle.mako_phases.specs.Orders.{PendingFits}
 use Rattle.mako_joint.specs.Joints.{JointScene, Joint}
 use Rattle.mako_pause.specs.Collecting.{Holdings, Collecting, window_of, set_window, forward, empty, barriers_from}
-use Rattle.mako_pause.specs.Collecting.{paused, next_of, Fits, spare_for, chosen_tablet, names_of as names_loaded}
+use Rattle.mako_pause.specs.Collecting.{paused, next_of, Fits, spare_for, chosen_tablet, names_of as names_loaded, at}
 use Rattle.mako_pause.specs.declared.stage.Pause.TheVariants.{Snapshot}
 use Rattle.mako_pause.specs.declared.stage.IdleStage.{IdleStage}
 use Rattle.mako_pause.specs.declared.stage.IdleStage.TheVariants.{LoadingDemand, LookingFinished, StoringStop}
@@ -46,7 +46,7 @@ use Rattle.mako_pause.specs.declared.stage.CollectStage.TheVariants.{Polling, Ch
 use Rattle.mako_pause.proofs.Going.{stage_stands}
 use Rattle.mako_collecting.specs.Facets.{names_of, part_of, phase_facet, gate_facet, IsCollector}
 use Rattle.mako_collecting.specs.Keeping.{CollectorKeeps, PassedAreEmpty, BarrierRingsStand, SameBarriers}
-use Rattle.mako_collecting.specs.Laws.{at, Stands, IsUpToEvac, SeatsStay, StepsKeepTheirOwn}
+use Rattle.mako_collecting.specs.Laws.{Stands, IsUpToEvac, SeatsStay, StepsKeepTheirOwn}
 use Rattle.mako_collecting.specs.Steps.{words_next, collector_next}
 use Rattle.mako_collecting.proofs.Idling.{either_way, is_same, not_same}
 use Rattle.mako_collecting.proofs.Joined.{same_collector}

@@ -8,7 +8,7 @@ use Rattle.mako_ring.specs.Windows.{IsWindow, tail_up}
 use Rattle.mako_ring.proofs.Words.{windows_stay}
 use Rattle.mako_layout.specs.Facets.{Gift}
 use Rattle.mako_joint.specs.Joints.{JointScene, Joint}
-use Rattle.mako_pause.specs.Collecting.{Holdings, running, window_of}
+use Rattle.mako_pause.specs.Collecting.{Holdings, running, window_of, at}
 use Rattle.mako_pause.specs.declared.stage.PauseStage.{PauseStage}
 use Rattle.mako_pause.specs.declared.stage.PauseStage.TheVariants.{Shutting, Draining, LoadingRoot, StoringTrace}
 use Rattle.mako_pause.specs.declared.stage.PauseStage.TheVariants.{Opening}
@@ -23,7 +23,7 @@ use Rattle.mako_pause.specs.declared.stage.CollectStage.TheVariants.{Idle, Pausi
 use Rattle.mako_pause.specs.declared.stage.CollectStage.TheVariants.{Polling, Choosing, Noticing, Ended}
 use Rattle.mako_collecting.specs.Choosing.{choice_at}
 use Rattle.mako_collecting.specs.Facets.{IsCollector}
-use Rattle.mako_collecting.specs.Laws.{at, Stands, IdleStepsKeep, StoresNoPhase, PauseStepsKeep, SnapshotsKeep}
+use Rattle.mako_collecting.specs.Laws.{Stands, IdleStepsKeep, StoresNoPhase, PauseStepsKeep, SnapshotsKeep}
 use Rattle.mako_collecting.specs.Laws.{IsInRound, RoundStepsKeep, PollStepsKeep, ChoiceMayGo, ChoiceStepsKeep}
 use Rattle.mako_collecting.specs.Steps.{with_collector, words_next, collector_next, stepped, snapped, polled, chosen}
 use Rattle.mako_collecting.specs.Ties.{ServersAreTied, RootsStand, BarriersAreEmpty}

@@ -65,7 +65,7 @@ module _ (n : Numbers) (k : Holdings) where
   empties None = record { names = refl; part = refl; watch = refl }
   empties (Some r) = record { names = refl; part = refl; watch = refl }
 
-  abbrev idle_ring : ring.Collecting
+  abbrev idle_ring : ring.CollectorFacet
   idle_ring = collecting_of n (record { pending = k.pending; window = window_of k; stage = away })
 
   -- rings and polls stand there

@@ -35,7 +35,7 @@ use Rattle.mako_joint.proofs.Pauses.{by_part}
 use Rattle.mako_collecting.specs.Facets.{part_of, names_of}
 use Rattle.mako_pause.specs.Collecting.{Holdings, Collecting, running, window_of, next_of, polled_at, chosen_tablet}
 use Rattle.mako_pause.specs.Collecting.{gifts_from, gift_of, server_chosen, servers_from, after_tablet, live_words}
-use Rattle.mako_pause.specs.Collecting.{spare_for}
+use Rattle.mako_pause.specs.Collecting.{spare_for, at}
 use Rattle.mako_pause.specs.declared.stage.Pause.TheVariants.{Choice as ForChoice}
 use Rattle.mako_pause.specs.declared.stage.IdleStage.TheVariants.{LoadingDemand, LookingFinished, StoringStop}
 use Rattle.mako_pause.specs.declared.stage.PauseStage.TheVariants.{Shutting, Draining, LoadingRoot, StoringTrace}
@@ -52,7 +52,7 @@ use Rattle.mako_pause.specs.declared.stage.CollectStage.TheVariants.{Idle, Pausi
 use Rattle.mako_pause.specs.declared.stage.CollectStage.TheVariants.{Polling, Choosing, Noticing, Ended}
 use Rattle.mako_collecting.specs.Findings.{ChoiceFound, StageFound, FindsTablets, FindingsAreKept, LivesStay}
 use Rattle.mako_collecting.specs.Findings.{SnapshotsBeginCounts, OwedAreTied, IsBeforeEvac, ChoosingEndsCounts}
-use Rattle.mako_collecting.specs.Laws.{at, Stands, IsUpToEvac}
+use Rattle.mako_collecting.specs.Laws.{Stands, IsUpToEvac}
 use Rattle.mako_collecting.specs.Steps.{words_next, collector_next}
 use Rattle.mako_collecting.proofs.Idling.{either_way, is_same}
 use Rattle.mako_collecting.proofs.Stays.{load_leaves}

@@ -19,7 +19,7 @@ use Rattle.mako_poll.specs.declared.poller.PollStage.TheVariants.{Asking, Readin
 use Rattle.mako_poll.specs.declared.poller.Polled.TheVariants.{Told, NotYet}
 use Rattle.mako_pause.specs.Collecting.{Holdings, Collecting, forward, forward_from, empty, empty_from, barriers_from}
 use Rattle.mako_pause.specs.Collecting.{polled_at, paused, gifts_from, gift_of, server_chosen, servers_from}
-use Rattle.mako_pause.specs.Collecting.{after_tablet, after_root}
+use Rattle.mako_pause.specs.Collecting.{after_tablet, after_root, at}
 use Rattle.mako_pause.specs.Keeping.{IsKeptKnown}
 use Rattle.mako_pause.specs.declared.stage.Pause.{Pause}
 use Rattle.mako_pause.specs.declared.stage.Pause.TheVariants.{Snapshot, Choice as ForChoice}
@@ -30,7 +30,6 @@ use Rattle.mako_pause.specs.declared.stage.ChoiceStage.TheVariants.{LoadingLive,
 use Rattle.mako_pause.specs.declared.stage.CollectStage.TheVariants.{Pausing, Barriers, Choosing}
 use Rattle.mako_collecting.specs.Keeping.{StageKeeps, passed_at, PassedAreEmpty, BarrierRing, BarrierRingsStand}
 use Rattle.mako_collecting.specs.Keeping.{SameBarriers}
-use Rattle.mako_collecting.specs.Laws.{at}
 use Rattle.mako_collecting.proofs.BarrierRings.{ring_stays, ring_taken, ring_empty}
 use Rattle.mako_collecting.proofs.Idling.{either_way, by_test, is_same}
 use Rattle.mako_collecting.proofs.Stays.{load_leaves}

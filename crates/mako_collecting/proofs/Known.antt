@@ -31,7 +31,7 @@ use Rattle.mako_choice.specs.Choices.{choice}
 use Rattle.mako_pause.specs.Collecting.{Holdings, Collecting, running, window_of, set_window, next_of, Fits, names_of}
 use Rattle.mako_pause.specs.Collecting.{forward, forward_from, empty, empty_from, barriers_from, polled_at, paused}
 use Rattle.mako_pause.specs.Collecting.{gifts_from, gift_of, server_chosen, servers_from, after_tablet, chosen_tablet}
-use Rattle.mako_pause.specs.Collecting.{spare_for}
+use Rattle.mako_pause.specs.Collecting.{spare_for, at}
 use Rattle.mako_pause.specs.Keeping.{IsKeptName, IsKeptKnown, all_regions}
 use Rattle.mako_choice.specs.declared.chooser.Used.{Used}
 use Rattle.mako_pause.specs.declared.regions.Role.{Role}
@@ -52,7 +52,7 @@ use Rattle.mako_pause.specs.declared.stage.CollectStage.TheVariants.{Idle, Pausi
 use Rattle.mako_pause.specs.declared.stage.CollectStage.TheVariants.{Polling, Choosing, Noticing, Ended}
 use Rattle.mako_choice.proofs.Places.{choice_below}
 use Rattle.mako_pause.proofs.Places.{tablets_below}
-use Rattle.mako_collecting.specs.Laws.{at, Stands, IsUpToEvac, StepsKeepKnown, StandsGoOn}
+use Rattle.mako_collecting.specs.Laws.{Stands, IsUpToEvac, StepsKeepKnown, StandsGoOn}
 use Rattle.mako_collecting.proofs.EachKept.{seats_stay, steps_keep_their_own}
 use Rattle.mako_collecting.proofs.LeavesKept.{steps_leave_kept}
 use Rattle.mako_collecting.specs.Steps.{words_next, collector_next}

@@ -15,7 +15,7 @@ use Rattle.mako_poll.specs.declared.poller.Polled.TheVariants.{Told, NotYet}
 use Rattle.mako_layout.specs.Facets.{chooses, settled, spare_of}
 use Rattle.mako_pause.specs.Collecting.{Holdings, Collecting, window_of, set_window, next_of, forward, forward_from}
 use Rattle.mako_pause.specs.Collecting.{empty, empty_from, barriers_from, polled_at, paused, gifts_from, gift_of}
-use Rattle.mako_pause.specs.Collecting.{server_chosen, servers_from, after_tablet, chosen_tablet, spare_for}
+use Rattle.mako_pause.specs.Collecting.{server_chosen, servers_from, after_tablet, chosen_tablet, spare_for, at}
 use Rattle.mako_pause.specs.declared.stage.Pause.{Pause}
 use Rattle.mako_pause.specs.declared.stage.Pause.TheVariants.{Snapshot, Choice as ForChoice}
 use Rattle.mako_pause.specs.declared.stage.IdleStage.TheVariants.{LoadingDemand, LookingFinished, StoringStop}
@@ -30,7 +30,6 @@ use Rattle.mako_pause.specs.declared.stage.NoticeStage.TheVariants.{Looking as N
 use Rattle.mako_pause.specs.declared.stage.CollectStage.{CollectStage}
 use Rattle.mako_pause.specs.declared.stage.CollectStage.TheVariants.{Idle, Pausing, Forwarding, Barriers, Emptying}
 use Rattle.mako_pause.specs.declared.stage.CollectStage.TheVariants.{Polling, Choosing, Noticing, Ended}
-use Rattle.mako_collecting.specs.Laws.{at}
 use Rattle.mako_collecting.specs.Roles.{LeavesKept, StepsLeaveKept, ChoicesBegin}
 use Rattle.mako_collecting.proofs.Idling.{either_way}
 

@@ -9,7 +9,7 @@ use Rattle.mako_layout.specs.Facets.{Gift, gift_of as gift_in}
 use Rattle.mako_layout.specs.Layouts.{regions_of}
 use Rattle.mako_phases.specs.Lives.{AreOnce}
 use Rattle.mako_joint.specs.Joints.{JointScene}
-use Rattle.mako_pause.specs.Collecting.{Holdings, running, chosen_tablet}
+use Rattle.mako_pause.specs.Collecting.{Holdings, running, chosen_tablet, at}
 use Rattle.mako_pause.specs.Regions.{is_spare}
 use Rattle.mako_pause.specs.declared.stage.Gift.{Gift as Exchange}
 use Rattle.mako_pause.specs.declared.stage.ChoiceStage.{ChoiceStage}
@@ -19,7 +19,7 @@ use Rattle.mako_pause.specs.declared.stage.ChoiceStage.TheVariants.{StoringEvac,
 use Rattle.mako_pause.specs.declared.stage.CollectStage.TheVariants.{Choosing}
 use Rattle.mako_collecting.specs.Choosing.{MayGive}
 use Rattle.mako_collecting.specs.Findings.{StageFound}
-use Rattle.mako_collecting.specs.Laws.{at, Stands}
+use Rattle.mako_collecting.specs.Laws.{Stands}
 use Rattle.mako_collecting.specs.Roles.{role_of, ChoiceOf, MayGiveAt, GiftsMayBeGiven}
 
 -- ---- lists

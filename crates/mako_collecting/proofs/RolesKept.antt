@@ -20,7 +20,7 @@ use Rattle.mako_layout.proofs.Roles.{given_not_spare}
 use Rattle.mako_phases.specs.Lives.{AreOnce}
 use Rattle.mako_joint.specs.Joints.{JointScene, layout_in}
 use Rattle.mako_pause.specs.Collecting.{Holdings, Collecting, running, chosen_tablet, gifts_from, gift_of, spare_for}
-use Rattle.mako_pause.specs.Collecting.{server_chosen, servers_from, after_tablet}
+use Rattle.mako_pause.specs.Collecting.{server_chosen, servers_from, after_tablet, at}
 use Rattle.mako_pause.specs.Regions.{is_spare, spare_between, behind}
 use Rattle.mako_pause.specs.declared.regions.Role.{Role}
 use Rattle.mako_pause.specs.declared.regions.Role.TheVariants.{Home, Spare}
@@ -33,7 +33,7 @@ use Rattle.mako_pause.specs.declared.stage.NoticeStage.TheVariants.{Looking as N
 use Rattle.mako_pause.specs.declared.stage.CollectStage.TheVariants.{Choosing, Noticing}
 use Rattle.mako_collecting.specs.Choosing.{choice_next, given_next, spare_next}
 use Rattle.mako_collecting.specs.Findings.{StageFound}
-use Rattle.mako_collecting.specs.Laws.{at, Stands}
+use Rattle.mako_collecting.specs.Laws.{Stands}
 use Rattle.mako_collecting.specs.Roles.{IsDone, ChoiceOf, HasSpare, ChoicesAreKept}
 use Rattle.mako_collecting.specs.Steps.{words_next, collector_next}
 use Rattle.mako_collecting.proofs.Choosing.{without_one, given_one}

@@ -145,7 +145,7 @@ ring_view n c = record {
   stage = ring_stage n c.kept c.stage;
 }
 
-abbrev pub ring_facet : Numbers → Collecting → rings.Collecting
+abbrev pub ring_facet : Numbers → Collecting → rings.CollectorFacet
 ring_facet n c = collecting_of n (ring_view n c)
 
 -- ---- all of them, at the last seat

@@ -9,7 +9,7 @@ use Rattle.mako_joint.specs.Joints.{JointScene}
 use Rattle.mako_phases.specs.Choosing.{AreFound}
 use Rattle.mako_phases.specs.Lives.{LiveFacet, counting, live_count, AreOnce, AreCounted, ArePast}
 use Rattle.mako_phases.specs.LiveSteps.{AgreeOnLives}
-use Rattle.mako_pause.specs.Collecting.{Holdings, running}
+use Rattle.mako_pause.specs.Collecting.{Holdings, running, at}
 use Rattle.mako_pause.specs.declared.stage.PauseStage.TheVariants.{StoringTrace}
 use Rattle.mako_pause.specs.declared.stage.ChoiceStage.{ChoiceStage}
 use Rattle.mako_pause.specs.declared.stage.ChoiceStage.TheVariants.{LoadingLive, LoadingTop, LoadingHome}
@@ -17,7 +17,7 @@ use Rattle.mako_pause.specs.declared.stage.ChoiceStage.TheVariants.{StoringLeavi
 use Rattle.mako_pause.specs.declared.stage.ChoiceStage.TheVariants.{StoringEvac, Opening as Reopening}
 use Rattle.mako_pause.specs.declared.stage.CollectStage.{CollectStage}
 use Rattle.mako_pause.specs.declared.stage.CollectStage.TheVariants.{Pausing, Polling, Choosing}
-use Rattle.mako_collecting.specs.Laws.{at, Stands, IsUpToEvac}
+use Rattle.mako_collecting.specs.Laws.{Stands, IsUpToEvac}
 use Rattle.mako_collecting.specs.Steps.{words_next, collector_next}
 
 -- While it loads, what it has loaded is that of the words; from then on no tablet stands twice among the chosen.

@@ -7,7 +7,7 @@ use Rattle.mako_names.specs.Steps.{NoneIsFreed}
 use Rattle.mako_shades.specs.Serving.{AreSole}
 use Rattle.mako_layout.specs.Facets.{Gift, Choice}
 use Rattle.mako_joint.specs.Joints.{JointScene, Joint}
-use Rattle.mako_pause.specs.Collecting.{Holdings, Collecting, running, spare_for, chosen_tablet, next_of, Fits}
+use Rattle.mako_pause.specs.Collecting.{Holdings, Collecting, running, spare_for, chosen_tablet, next_of, Fits, at}
 use Rattle.mako_pause.specs.Keeping.{IsKeptKnown}
 use Rattle.mako_pause.specs.declared.stage.IdleStage.{IdleStage}
 use Rattle.mako_pause.specs.declared.stage.PauseStage.{PauseStage}
@@ -23,9 +23,6 @@ use Rattle.mako_collecting.specs.Keeping.{CollectorKeeps}
 use Rattle.mako_step.specs.Acts.{finds}
 use Rattle.mako_collecting.specs.Steps.{with_collector, words_next, collector_next, stepped, snapped, polled, chosen}
 use Rattle.mako_collecting.specs.Ties.{TracesAreTied, ServersAreTied, RootsStand, UsesAreRooted}
-
-abbrev pub at : Holdings → CollectStage → Collecting
-at k stage = record { kept = k; stage = stage }
 
 -- the collector stands in the scene, and knows what its stage does
 pub record Stands (n : Numbers) (w : Facts) (s : JointScene) (places : ℕ → ℕ) (c : Collecting) : Type 0 where

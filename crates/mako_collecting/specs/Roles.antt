@@ -9,7 +9,7 @@ use Rattle.mako_model.specs.Legal.{Facts}
 use Rattle.mako_layout.specs.Facets.{Gift, Choice, rests_with, has_chosen, gift_of, times_in}
 use Rattle.mako_layout.specs.Layouts.{regions_of}
 use Rattle.mako_joint.specs.Joints.{JointScene}
-use Rattle.mako_pause.specs.Collecting.{Holdings, Collecting, running, chosen_tablet, spare_for}
+use Rattle.mako_pause.specs.Collecting.{Holdings, Collecting, running, chosen_tablet, spare_for, at}
 use Rattle.mako_pause.specs.Regions.{is_spare}
 use Rattle.mako_pause.specs.declared.regions.Role.{Role}
 use Rattle.mako_pause.specs.declared.regions.Role.TheVariants.{Home, Spare}
@@ -21,7 +21,7 @@ use Rattle.mako_pause.specs.declared.stage.CollectStage.{CollectStage}
 use Rattle.mako_pause.specs.declared.stage.CollectStage.TheVariants.{Choosing}
 use Rattle.mako_collecting.specs.Choosing.{choice_at, choice_next, given_next, spare_next, MayGive}
 use Rattle.mako_collecting.specs.Findings.{StageFound}
-use Rattle.mako_collecting.specs.Laws.{at, Stands, IsUpToEvac}
+use Rattle.mako_collecting.specs.Laws.{Stands, IsUpToEvac}
 use Rattle.mako_collecting.specs.Steps.{words_next, collector_next, choice_begun}
 
 -- what a region is for

@@ -41,7 +41,7 @@ TakesWord (rings.clearing source word) = Unit {0}
 TakesWord doing = ⊥
 
 -- a server that has a name or a slot's word to work on works, or is about to empty a slot
-abbrev pub ServersAreTied : List PhaseFacet → (ℕ → rings.Serving) → Type 0
+abbrev pub ServersAreTied : List PhaseFacet → (ℕ → rings.ServerFacet) → Type 0
 ServersAreTied phases servers = (seat server : ℕ) (stage : ServerStage) (ended : ℕ)
     → slice_get phases seat ≡ Some (serving server stage ended true)
     → ((servers server).working ≡ true) ⊎ TakesWord (servers server).doing

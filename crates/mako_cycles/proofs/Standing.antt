@@ -7,7 +7,7 @@ use Rattle.mako_words.specs.Gates.{count_of}
 use Rattle.mako_words.specs.Words.{all_but}
 use Rattle.mako_words.specs.declared.gate_word.TheConstants.GateWord.{SHUT}
 use Rattle.mako_shape.specs.declared.numbers.Numbers.{Numbers}
-use Rattle.mako_shape.specs.Places.{Place, rank, index, phase, mutator_gate, flags}
+use Rattle.mako_shape.specs.Places.{Place, area_of, index, phase, mutator_gate, flags}
 use Rattle.mako_step.specs.Acts.{after_op}
 use Rattle.mako_step.specs.declared.act.Act.{Act}
 use Rattle.mako_step.specs.declared.act.Op.TheVariants.{Load, Store, Or, And}
@@ -47,7 +47,7 @@ left_stored word trail y w x = left_push word trail (sees (record { word = word;
     ∙ ap (λ (b : Bool). cond b y (left_in word trail x)) (eq-eqb word word refl)
 
 -- every other place has another word than the phase
-pub elsewhere : (n : Numbers) (p : Place) → 0 < rank p → index n p ≢ index n phase
+pub elsewhere : (n : Numbers) (p : Place) → 0 < area_of p → index n p ≢ index n phase
 unfolding index
 elsewhere n phase h e = omega arith
 elsewhere n p h e = omega (arith, e)
@@ -104,14 +104,15 @@ pub record IsPlain (n : Numbers) (act : Act) : Type 0 where
   pub opens : NeverOpens n act
   pub shuts : NeverShuts n act
 
-pub plain_load : (n : Numbers) (p : Place) → 0 < rank p → IsPlain n (record { word = index n p; op = Load })
+pub plain_load : (n : Numbers) (p : Place) → 0 < area_of p → IsPlain n (record { word = index n p; op = Load })
 plain_load n p h = record {
   elsewhere = elsewhere n p h;
   opens = never_opens n _ (λ (e : Load ≡ And (all_but SHUT)). cc);
   shuts = never_shuts n _ (λ (e : Load ≡ Or SHUT). cc);
 }
 
-pub plain_store : (n : Numbers) (p : Place) (x : ℕ) → 0 < rank p → IsPlain n (record { word = index n p; op = Store x })
+pub plain_store : (n : Numbers) (p : Place) (x : ℕ) → 0 < area_of p
+    → IsPlain n (record { word = index n p; op = Store x })
 plain_store n p x h = record {
   elsewhere = elsewhere n p h;
   opens = never_opens n _ (λ (e : Store x ≡ And (all_but SHUT)). cc);

@@ -15,7 +15,7 @@ use Rattle.mako_model.specs.Starved.{words_made}
 use Rattle.mako_names.specs.Going.{Facets}
 use Rattle.mako_names.specs.Steps.{NameScene, NamesHoldIn}
 use Rattle.mako_names.specs.Tables.{IsWorkloadOf, phase_of}
-use Rattle.mako_ring.specs.Facets.{Serving, Collecting, Scene}
+use Rattle.mako_ring.specs.Facets.{ServerFacet, CollectorFacet, Scene}
 use Rattle.mako_ring.specs.Polling.{PollingStands}
 use Rattle.mako_ring.specs.TraceFacets.{TraceFacet}
 use Rattle.mako_shades.specs.Laws.{TracksIn}
@@ -36,8 +36,8 @@ pub record JointFacets : Type 0 where
   pub gates : List GateFacet
   pub works : List Work
   pub choice : Choice
-  pub servers : ℕ → Serving
-  pub collector : Collecting
+  pub servers : ℕ → ServerFacet
+  pub collector : CollectorFacet
   pub phases : List PhaseFacet
 
 -- all words, the front, and the facets of all seats

@@ -2,7 +2,7 @@
 use Rattle.std.proofs.Common.{◌≡◌, ◌≢◌, ℕ, ◌+◌, ◌<◌, ◌≤◌, List, [], ◌∷◌, length, max, set, sym, subst, refl, ◌∙◌, arith}
 use Rattle.mako_words.specs.Phases.{phase_at, cycle_of}
 use Rattle.mako_shape.specs.declared.numbers.Numbers.{Numbers}
-use Rattle.mako_shape.specs.Places.{Place, phase, demand, finished, rank, index, Within, word_at}
+use Rattle.mako_shape.specs.Places.{Place, phase, demand, finished, area_of, index, Within, word_at}
 use Rattle.mako_gate.specs.Standings.{away}
 use Rattle.mako_model.specs.declared.call.Call.{Call}
 use Rattle.mako_model.specs.declared.call.Call.TheVariants as call
@@ -72,7 +72,7 @@ module _ (n : Numbers) (w : Facts) (s : JointScene) (j : Joint n w s) (m : ℕ) 
   size = quiet_all n s.words j.names.hold.size
 
   -- a word elsewhere is stored, which no layout reads
-  laid_elsewhere : (p : Place) (v : ℕ) → Within n p → IsOffLayout p → rank p ≢ 3 → rank p ≢ 10 → rank p ≢ 11
+  laid_elsewhere : (p : Place) (v : ℕ) → Within n p → IsOffLayout p → area_of p ≢ 3 → area_of p ≢ 10 → area_of p ≢ 11
       → Evacuation n (laid n w s (set s.words (index n p) v) s.front s.facets.gates s.facets.works)
   laid_elsewhere p v within off a b c =
       outside_kept n (layout_in n w s) j.layout (λ q. word_at n (set s.words (index n p) v) q)

@@ -6,7 +6,7 @@ use Rattle.mako_words.specs.Gates.{is_shut}
 use Rattle.mako_words.specs.Phases.{phase_at, cycle_of}
 use Rattle.mako_shape.specs.declared.numbers.Numbers.{Numbers}
 use Rattle.mako_shape.specs.Places.{Place, phase, demand, mutator_gate, tablet_gate, turn, leaving, top, entry, home}
-use Rattle.mako_shape.specs.Places.{region_word, rank, index, Within, word_at}
+use Rattle.mako_shape.specs.Places.{region_word, area_of, index, Within, word_at}
 use Rattle.mako_step.specs.Acts.{after_op, does, words_after, words_stepped}
 use Rattle.mako_step.specs.Machines.{IsAct}
 use Rattle.mako_step.specs.declared.act.Op.{Op}
@@ -89,7 +89,7 @@ module _ (x : Trial) where
   Light d = IsLight x.n x.w x.s x.m d
 
   -- an act at a place that is no root
-  pub roots_at : (p : Place) (op : Op) → Within x.n p → rank p ≢ 4
+  pub roots_at : (p : Place) (op : Op) → Within x.n p → area_of p ≢ 4
       → SameRoots x.n x.m x.s.words (words_after (record { word = index x.n p; op = op }) x.s.words)
   roots_at p op within other q in_row =
       same_roots x.n x.s.words p (after_op op (word_at x.n x.s.words p)) within other x.m q x.low in_row
@@ -351,7 +351,7 @@ module _ (x : Trial) (q f c passed : ℕ) (o : Option Reason) where
     still = (quietly r b (found_by x.s (driver z (at_stage r)))).1;
   }
 
-  acts_lightly : (r : NewStage) (b : IsBefore r) → (place : Place) (op : Op) → Within x.n place → rank place ≢ 4
+  acts_lightly : (r : NewStage) (b : IsBefore r) → (place : Place) (op : Op) → Within x.n place → area_of place ≢ 4
       → drivers.next_of (driver z (at_stage r)) ≡ does (index x.n place) op → Light x (driver z (at_stage r))
   acts_lightly r b place op within other is = record {
     was = tt;

@@ -7,7 +7,7 @@ use Rattle.mako_words.specs.declared.value.Value.{Value}
 use Rattle.mako_words.specs.declared.value.Value.TheVariants as value
 use Rattle.mako_words.specs.Values.{value_word, value_at}
 use Rattle.mako_words.proofs.ValueWords.{name_words}
-use Rattle.mako_shape.specs.Places.{Place, phase, barrier, rank, index, Within, word_at}
+use Rattle.mako_shape.specs.Places.{Place, phase, barrier, area_of, index, Within, word_at}
 use Rattle.mako_shape.proofs.PlaceLaws.{word_other}
 use Rattle.mako_step.specs.Acts.{words_after}
 use Rattle.mako_step.specs.declared.act.Op.TheVariants.{Store}
@@ -225,7 +225,7 @@ module _ (x : Scene) (within : Bool) where
             known_after.progress.task.known.agrees at.keeps.says tt) refl (left_same x within s at slot t);
         tracks = tracks_by x.n x.w x.s x.j x.m low was at.seen traced_after
             (phase_same x.n x.s.words us (word_other x.n x.s.words p phase v there tt
-            (λ e. let f : 0 ≡ rank p = ap rank e in absurd (omega arith))))
+            (λ e. let f : 0 ≡ area_of p = ap area_of e in absurd (omega arith))))
             (λ c e tr. tracing.step_kept x.n x.w c (trace_in x.s) traced_after (heaps_stand x.n x.w x.s x.j) tr
             (shades.Shades x.m l.object put.field old x.m x.slot at.seen.trace there at.keeps.counts.1
             (ap (λ f. record (trace_in x.s) { words = us; facets = set x.s.facets.trace x.m f })

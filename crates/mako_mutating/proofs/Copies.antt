@@ -3,7 +3,7 @@ use Rattle.std.proofs.Common.{◌≡◌, ◌≢◌, ℕ, ◌+◌, ◌*◌, ◌<�
 use Rattle.std.proofs.Common.{slice_index, Some, sym, ap, subst, refl, ◌∙◌, arith, append-nil}
 use Rattle.mako_words.specs.declared.entry_word.EntryWord.{EntryWord}
 use Rattle.mako_words.specs.Entries.{entry_word}
-use Rattle.mako_shape.specs.Places.{Place, top, entry, region_word, rank, index, Within, word_at}
+use Rattle.mako_shape.specs.Places.{Place, top, entry, region_word, area_of, index, Within, word_at}
 use Rattle.mako_shape.specs.Belongings.{IsAddress, region_of_address, word_of_address, tablet_of_entry}
 use Rattle.mako_shape.proofs.BelongingLaws.{address_place, region_words, word_after, belongings_in_range}
 use Rattle.mako_shape.proofs.PlaceLaws.{word_same, word_other}
@@ -99,7 +99,7 @@ module _ (x : Scene) (within : Bool) (e : Errand) (found : EntryWord) (home : �
 
     -- and a store
     stores_on : (next : CopyStage) → drivers.IsKnown (after x x.slot (copy next))
-        → CopyCounts (heap x) e.object next → (p : Place) (v : ℕ) → Within x.n p → IsUnread p → rank p ≢ 4
+        → CopyCounts (heap x) e.object next → (p : Place) (v : ℕ) → Within x.n p → IsUnread p → area_of p ≢ 4
         → Evacuation x.n (record (st x) {
           words = λ q. word_at x.n (stored_words p v) q;
           works = set x.s.facets.works x.m (copy_work y found home next);

@@ -4,7 +4,7 @@ use Rattle.std.proofs.Common.{◌*◌, ◌<◌, sym, ap, subst, refl, ◌∙◌,
 use Rattle.std.specs.List.{Contains}
 use Rattle.mako_words.specs.Gates.{is_shut}
 use Rattle.mako_words.specs.declared.name.Name.{Name}
-use Rattle.mako_shape.specs.Places.{Place, mutator_gate, tablet_gate, turn, root, rank, index, Within, word_at}
+use Rattle.mako_shape.specs.Places.{Place, mutator_gate, tablet_gate, turn, root, area_of, index, Within, word_at}
 use Rattle.mako_shape.proofs.PlaceLaws.{word_other}
 use Rattle.mako_gate.specs.Changes.{Makes, Sets}
 use Rattle.mako_gate.specs.GateActions as gate
@@ -85,7 +85,7 @@ module _ (x : Scene) (within : Bool) where
     pub there : Within x.n p
     pub unread : IsUnread p
     pub elsewhere : IsElsewhere p
-    pub no_root : rank p ≢ 4
+    pub no_root : area_of p ≢ 4
 
   pub own_gate : x.m < x.n.mutators → IsGate (mutator_gate x.m)
   own_gate low = record {
@@ -112,12 +112,13 @@ module _ (x : Scene) (within : Bool) where
   }
 
   -- the roots are as they were, where none is still to be stored
-  pub roots_else : (s : CallStage) (at : At x within s) (d : Driving) (p : Place) (v : ℕ) → Within x.n p → rank p ≢ 4
+  pub roots_else : (s : CallStage) (at : At x within s) (d : Driving) (p : Place) (v : ℕ) → Within x.n p → area_of p ≢ 4
       → carried_of d ≡ stage_carried s → RootsStand x.n (heap x) (set x.s.words (index x.n p) v) x.m d
   roots_else s at d p v there no_root same q u low is =
       subst (λ c. WordStands c q (word_at x.n (set x.s.words (index x.n p) v) (root x.m q)) u) (sym same)
       (subst (λ z. WordStands (stage_carried s) q z u)
-      (sym (word_other x.n x.s.words p (root x.m q) v there (at.keeps.in_range, low) (λ e. no_root (sym (ap rank e)))))
+      (sym (word_other x.n x.s.words p (root x.m q) v there (at.keeps.in_range, low)
+      (λ e. no_root (sym (ap area_of e)))))
       (at.keeps.roots q u low is))
 
   pub gate_step : (s : CallStage) (at : At x within s) (d : Driving) (p : Place) (op : Op) → IsGate p

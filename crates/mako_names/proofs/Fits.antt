@@ -20,7 +20,7 @@ use Rattle.mako_model.specs.Dead.{made_by, names_made, IsDead}
 use Rattle.mako_model.specs.LawfulFronts.{IsLawfulFront}
 use Rattle.mako_model.proofs.Lists.{get_set_cases}
 use Rattle.mako_names.specs.Counts.{name_of}
-use Rattle.mako_names.specs.Freeing.{Freeing, FreeingFits, IsMarked, EpochsStand, EpochsFit, TraceStands, since_snap}
+use Rattle.mako_names.specs.Freeing.{Freeing, FreeingFits, EpochStands, EpochsStand, EpochsFit, TraceStands, since_snap}
 use Rattle.mako_names.specs.Tables.{entry_of}
 use Rattle.mako_names.specs.Trying as trying
 use Rattle.mako_names.specs.Trying.{Trying, TryingStands, AllTrying}
@@ -91,8 +91,8 @@ epochs_touch : (n : Numbers) (ws us : List ℕ) (w : Facts) (history : List Poin
     → ((x : ℕ) → x < all_entries n → (entry_of n us x).epoch ≡ (entry_of n ws x).epoch)
     → EpochsStand n ws w history cycle → EpochsStand n us w history cycle
 epochs_touch n ws us w history cycle taken generation epoch epochs x within is =
-    subst (λ g. IsMarked w history cycle x g (entry_of n us x).epoch) (sym (generation x within))
-    (subst (IsMarked w history cycle x (entry_of n ws x).generation) (sym (epoch x within))
+    subst (λ g. EpochStands w history cycle x g (entry_of n us x).epoch) (sym (generation x within))
+    (subst (EpochStands w history cycle x (entry_of n ws x).generation) (sym (epoch x within))
     (epochs x within (sym (taken x within) ∙ is)))
 
 trace_touch : (n : Numbers) (ws us : List ℕ) (w : Facts) (history : List Point) (cycle : ℕ)

@@ -25,7 +25,7 @@ use Rattle.mako_model.proofs.Lists.{get_set_cases}
 use Rattle.mako_names.specs.Counts.{name_of}
 use Rattle.mako_names.specs.Tables.{IsWorkloadOf, TableStands, entry_of, phase_of, settled_of}
 use Rattle.mako_names.specs.Freeing.{Freeing, IsFreedIn, AreFreedOf, own_entries, entry_by, IsLeftIn, IsPast}
-use Rattle.mako_names.specs.Freeing.{FreeingStands, IsMarked, EpochsStand}
+use Rattle.mako_names.specs.Freeing.{FreeingStands, EpochStands, EpochsStand}
 use Rattle.mako_names.proofs.Counts.{names_none}
 use Rattle.mako_names.proofs.Entries.{dead_made, no_bool}
 use Rattle.mako_names.proofs.FreedRuns.{freed_none, freed_passes, freed_push, freed_joined}
@@ -429,7 +429,7 @@ module _ (n : Numbers) (w : Facts) where
       good (subst (λ k. IsDead w history cycle (name_of (entry_by n s f.through) k)) (sym is) freed.dead)
 
   marked_stays : (before after : List Point) (cycle x generation epoch : ℕ) → SameDead w before after cycle
-      → IsMarked w before cycle x generation epoch → IsMarked w after cycle x generation epoch
+      → EpochStands w before cycle x generation epoch → EpochStands w after cycle x generation epoch
   marked_stays before after cycle x generation epoch same marked = record {
     good = λ e dead. marked.good e (same.was cycle (name_of x generation) (omega arith) dead);
     dead = λ other. same.stays cycle (name_of x generation) (omega arith) (marked.dead other);
@@ -441,24 +441,25 @@ module _ (n : Numbers) (w : Facts) where
       → ((x : ℕ) → x < all_entries n → entry_of n us x ≡ entry_of n ws x) → EpochsStand n ws w before cycle
       → EpochsStand n us w after cycle
   epochs_stay ws us before after cycle same words epochs x within =
-      subst (λ (u : EntryWord). u.taken ≡ true → IsMarked w after cycle x u.generation u.epoch) (sym (words x within))
+      subst (λ (u : EntryWord). u.taken ≡ true → EpochStands w after cycle x u.generation u.epoch)
+      (sym (words x within))
       (λ taken. marked_stays before after cycle x (entry_of n ws x).generation (entry_of n ws x).epoch same
       (epochs x within taken))
 
   -- one entry word is stored, for which it is so
   pub epochs_store : (ws : List ℕ) (before after : List Point) (cycle x : ℕ) (e : EntryWord) → length ws ≡ total n
       → x < all_entries n → FitsEntry e → SameDead w before after cycle
-      → (e.taken ≡ true → IsMarked w after cycle x e.generation e.epoch) → EpochsStand n ws w before cycle
+      → (e.taken ≡ true → EpochStands w after cycle x e.generation e.epoch) → EpochsStand n ws w before cycle
       → EpochsStand n (set ws (index n (entry x)) (entry_word e)) w after cycle
   epochs_store ws before after cycle x e size within fits same stored epochs y inside =
       let us : List ℕ = set ws (index n (entry x)) (entry_word e) in
       ⊎_elim
       (λ here.
       subst (λ k. (entry_of n us k).taken ≡ true
-      → IsMarked w after cycle k (entry_of n us k).generation (entry_of n us k).epoch) (sym here)
-      (subst (λ (u : EntryWord). u.taken ≡ true → IsMarked w after cycle x u.generation u.epoch)
+      → EpochStands w after cycle k (entry_of n us k).generation (entry_of n us k).epoch) (sym here)
+      (subst (λ (u : EntryWord). u.taken ≡ true → EpochStands w after cycle x u.generation u.epoch)
       (sym (entry_stored n ws x e size within fits)) stored))
-      (λ other. subst (λ (u : EntryWord). u.taken ≡ true → IsMarked w after cycle y u.generation u.epoch)
+      (λ other. subst (λ (u : EntryWord). u.taken ≡ true → EpochStands w after cycle y u.generation u.epoch)
       (sym (entry_else n ws x y (entry_word e) within inside other))
       (λ taken. marked_stays before after cycle y (entry_of n ws y).generation (entry_of n ws y).epoch same
       (epochs y inside taken)))
@@ -468,7 +469,7 @@ module _ (n : Numbers) (w : Facts) where
   pub made_marked : (history : List Point) (m : ℕ) (c : Call) (cycle x g : ℕ)
       → IsLegal w (history ++ Did m c (Made (name_of x g)) ∷ []) → cycle ≤ (state_of w history).snaps
       → (Contains (names_made history) (name_of x g) → ⊥)
-      → IsMarked w (history ++ Did m c (Made (name_of x g)) ∷ []) cycle x g cycle
+      → EpochStands w (history ++ Did m c (Made (name_of x g)) ∷ []) cycle x g cycle
   made_marked history m c cycle x g legal begun fresh = record {
     good = λ e dead. fresh
         (dead_made w history cycle (name_of x g)

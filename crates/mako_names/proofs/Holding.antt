@@ -15,7 +15,7 @@ use Rattle.mako_words.specs.Names.{name_word, FitsName}
 use Rattle.mako_words.specs.Phases.{phase_word, cycle_of, FitsPhase}
 use Rattle.mako_shape.specs.declared.numbers.Numbers.{Numbers}
 use Rattle.mako_shape.specs.Limits.{all_entries}
-use Rattle.mako_shape.specs.Places.{Place, phase, entry, rank, index, total, Within, word_at}
+use Rattle.mako_shape.specs.Places.{Place, phase, entry, area_of, index, total, Within, word_at}
 use Rattle.mako_shape.proofs.PlaceLaws.{word_other}
 use Rattle.mako_model.specs.declared.call.Call.{Call}
 use Rattle.mako_model.specs.declared.call.Call.TheVariants as call
@@ -37,7 +37,7 @@ use Rattle.mako_names.specs.Tables.{settled_of, running_of}
 use Rattle.mako_names.specs.Uses.{IsGood, IsUseSlot, UsesStand, SameSlots}
 use Rattle.mako_names.specs.Trying as trying
 use Rattle.mako_names.specs.Trying.{Trying, TryingStands}
-use Rattle.mako_names.specs.Freeing.{Freeing, IsFreedIn, own_entries, entry_by, FreeingStands, FreeingFits, IsMarked}
+use Rattle.mako_names.specs.Freeing.{Freeing, IsFreedIn, own_entries, entry_by, FreeingStands, FreeingFits, EpochStands}
 use Rattle.mako_names.specs.Freeing.{EpochsStand, EpochsFit, AllMarked, since_snap}
 use Rattle.mako_names.specs.Holding.{NameFacets, NamesHoldWith}
 use Rattle.mako_names.proofs.Counts.{names_in_order, made_opening}
@@ -143,8 +143,8 @@ module _ (n : Numbers) (w : Facts) where
   }
 
   -- a slot is filled or emptied
-  pub hold_puts : (ws : List ℕ) (front : Seen) (facets : NameFacets) (p : Place) (v : ℕ) → Within n p → rank p ≢ 0
-      → rank p ≢ 16 → ((name : Name) → FitsName name → v ≡ name_word name → IsGood w front.history name)
+  pub hold_puts : (ws : List ℕ) (front : Seen) (facets : NameFacets) (p : Place) (v : ℕ) → Within n p → area_of p ≢ 0
+      → area_of p ≢ 16 → ((name : Name) → FitsName name → v ≡ name_word name → IsGood w front.history name)
       → NamesHoldWith n w ws front facets → NamesHoldWith n w (set ws (index n p) v) front facets
   hold_puts ws front facets p v within not_phase not_entry good hold =
       elsewhere ws (set ws (index n p) v) front facets (length-set ws (index n p) v ∙ hold.size)
@@ -455,7 +455,7 @@ module _ (n : Numbers) (w : Facts) where
       }
     where
       by_mark : (vs : List ℕ) (history : List Point) (cycle y : ℕ) (u : EntryWord)
-          → (u.taken ≡ true → IsMarked w history cycle y u.generation u.epoch) → u.epoch ≡ cycle → (P : Type 0)
+          → (u.taken ≡ true → EpochStands w history cycle y u.generation u.epoch) → u.epoch ≡ cycle → (P : Type 0)
           → (u.taken ≡ false → P) → (¬ IsDead w history cycle (name_of y u.generation) → P) → P
       by_mark vs history cycle y u marked epoch P is_free good =
           elim u.taken as (λ b. u.taken ≡ b → P)

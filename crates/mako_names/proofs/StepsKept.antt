@@ -10,7 +10,7 @@ use Rattle.mako_words.specs.Entries.{entry_word, FitsEntry}
 use Rattle.mako_words.specs.Phases.{cycle_of}
 use Rattle.mako_shape.specs.declared.numbers.Numbers.{Numbers}
 use Rattle.mako_shape.specs.Limits.{all_entries}
-use Rattle.mako_shape.specs.Places.{Place, phase, entry, barrier, work, ghost, rank, index, total, Within}
+use Rattle.mako_shape.specs.Places.{Place, phase, entry, barrier, work, ghost, area_of, index, total, Within}
 use Rattle.mako_shape.proofs.PlaceLaws.{word_other}
 use Rattle.mako_model.specs.declared.call.Call.{Call}
 use Rattle.mako_model.specs.declared.call.Call.TheVariants as call
@@ -96,11 +96,11 @@ module _ (n : Numbers) (w : Facts) where
   in_phase ws front p lawful table is = subst (λ q. cycle_of q ≤ w.cycles) is (cycle_within ws front lawful table)
 
 -- a slot is neither the phase nor an entry
-slot_rank : (p : Place) → IsUseSlot p → (rank p ≢ 0) × (rank p ≢ 16)
-slot_rank (barrier m slot) slot_is = ((λ e. omega arith), (λ e. omega arith))
-slot_rank (work s slot) slot_is = ((λ e. omega arith), (λ e. omega arith))
-slot_rank (ghost sender receiver slot) slot_is = ((λ e. omega arith), (λ e. omega arith))
-slot_rank p slot_is = absurd slot_is
+slot_area : (p : Place) → IsUseSlot p → (area_of p ≢ 0) × (area_of p ≢ 16)
+slot_area (barrier m slot) slot_is = ((λ e. omega arith), (λ e. omega arith))
+slot_area (work s slot) slot_is = ((λ e. omega arith), (λ e. omega arith))
+slot_area (ghost sender receiver slot) slot_is = ((λ e. omega arith), (λ e. omega arith))
+slot_area p slot_is = absurd slot_is
 
 -- ---- words in which no name is looked for
 
@@ -243,7 +243,7 @@ step_kept n w s _ of_it (Stores us leaves) names =
     (same_slots n s.words us leaves) hold) names
 step_kept n w s _ of_it (Puts p v within slot good) names =
     let us : List ℕ = set s.words (index n p) v in
-    let other = slot_rank p slot in
+    let other = slot_area p slot in
     go_on n w s.words us s.front s.front s.facets s.facets
     (phase_same n s.words us (table_frame n s.words p v within other.0 other.1).phase) refl refl refl
     (λ freed hold. hold_puts n w s.words s.front (with_freed s.facets freed) p v within other.0 other.1 good hold) names

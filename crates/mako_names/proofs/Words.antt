@@ -8,7 +8,7 @@ use Rattle.mako_words.proofs.EntryWords.{entry_at-entry_word}
 use Rattle.mako_words.proofs.PhaseWords.{phase_words}
 use Rattle.mako_shape.specs.declared.numbers.Numbers.{Numbers}
 use Rattle.mako_shape.specs.Limits.{all_entries}
-use Rattle.mako_shape.specs.Places.{Place, phase, entry, rank, offset, index, total, Within, word_at}
+use Rattle.mako_shape.specs.Places.{Place, phase, entry, area_of, offset, index, total, Within, word_at}
 use Rattle.mako_shape.proofs.PlaceLaws.{word_same, word_other}
 use Rattle.mako_names.specs.Tables.{entry_of, phase_of, SameTable}
 
@@ -40,7 +40,7 @@ pub phase_else : (n : Numbers) (ws : List ℕ) (x : ℕ) (v : ℕ) → x < all_e
     → phase_of n (set ws (index n (entry x)) v) ≡ phase_of n ws
 phase_else n ws x v within =
     phase_same n ws (set ws (index n (entry x)) v)
-    (word_other n ws (entry x) phase v within tt (λ e. let f : 0 ≡ 16 = ap rank e in absurd (omega arith)))
+    (word_other n ws (entry x) phase v within tt (λ e. let f : 0 ≡ 16 = ap area_of e in absurd (omega arith)))
 
 -- a phase that was stored is read
 pub phase_stored : (n : Numbers) (ws : List ℕ) (p : PhaseWord) → length ws ≡ total n → FitsPhase p
@@ -52,12 +52,12 @@ pub entries_else : (n : Numbers) (ws : List ℕ) (x v : ℕ) → x < all_entries
     → entry_of n (set ws (index n phase) v) x ≡ entry_of n ws x
 entries_else n ws x v within =
     entry_same n ws (set ws (index n phase) v) x
-    (word_other n ws phase (entry x) v tt within (λ e. let f : 16 ≡ 0 = ap rank e in absurd (omega arith)))
+    (word_other n ws phase (entry x) v tt within (λ e. let f : 16 ≡ 0 = ap area_of e in absurd (omega arith)))
 
 -- a store at a place that is neither the phase nor an entry leaves the table as it is
-pub table_frame : (n : Numbers) (ws : List ℕ) (p : Place) (v : ℕ) → Within n p → rank p ≢ 0 → rank p ≢ 16
+pub table_frame : (n : Numbers) (ws : List ℕ) (p : Place) (v : ℕ) → Within n p → area_of p ≢ 0 → area_of p ≢ 16
     → SameTable n ws (set ws (index n p) v)
 table_frame n ws p v within not_phase not_entry = record {
-  phase = word_other n ws p phase v within tt (λ e. not_phase (sym (ap rank e)));
-  entries = λ x inside. word_other n ws p (entry x) v within inside (λ e. not_entry (sym (ap rank e)));
+  phase = word_other n ws p phase v within tt (λ e. not_phase (sym (ap area_of e)));
+  entries = λ x inside. word_other n ws p (entry x) v within inside (λ e. not_entry (sym (ap area_of e)));
 }

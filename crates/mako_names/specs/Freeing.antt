@@ -77,7 +77,7 @@ FreeingFits (Stop c) n ws w history servers = Unit {0}
 -- ---- epochs
 
 -- a taken entry has the cycle's epoch exactly where its name is not dead in it, and else an earlier one
-pub record IsMarked (w : Facts) (history : List Point) (cycle x generation epoch : ℕ) : Type 0 where
+pub record EpochStands (w : Facts) (history : List Point) (cycle x generation epoch : ℕ) : Type 0 where
   pub good : epoch ≡ cycle → ¬ IsDead w history cycle (name_of x generation)
   pub dead : epoch ≢ cycle → IsDead w history cycle (name_of x generation)
   pub old : epoch ≤ cycle
@@ -85,7 +85,7 @@ pub record IsMarked (w : Facts) (history : List Point) (cycle x generation epoch
 -- so it is with each taken entry
 abbrev pub EpochsStand : Numbers → List ℕ → Facts → List Point → ℕ → Type 0
 EpochsStand n ws w history cycle = (x : ℕ) → x < all_entries n → (entry_of n ws x).taken ≡ true
-    → IsMarked w history cycle x (entry_of n ws x).generation (entry_of n ws x).epoch
+    → EpochStands w history cycle x (entry_of n ws x).generation (entry_of n ws x).epoch
 
 -- the points since the last snapshot, with one point more
 abbrev pub after_next : List Point → Point → List Point

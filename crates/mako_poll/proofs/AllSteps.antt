@@ -6,7 +6,8 @@ use Rattle.mako_shape.specs.declared.numbers.Numbers.{Numbers}
 use Rattle.mako_shape.specs.Places.{Place, flags, work, ghost}
 use Rattle.mako_ring.specs.Contents.{RingStands}
 use Rattle.mako_ring.specs.declared.window.Window.{Window}
-use Rattle.mako_ring.specs.Facets.{Serving, Poll, elsewhere, forwarding, polling, reading, Scene, flags_of, IsClearing}
+use Rattle.mako_ring.specs.Facets.{ServerFacet, Poll, elsewhere, forwarding, polling, reading, Scene, flags_of}
+use Rattle.mako_ring.specs.Facets.{IsClearing}
 use Rattle.mako_ring.specs.Facets.{IsStoring}
 use Rattle.mako_ring.specs.Rings.{slots_of}
 use Rattle.mako_ring.specs.declared.ring.Ring.TheVariants.{Work}
@@ -24,7 +25,7 @@ use Rattle.mako_shape.proofs.PlaceLaws.{word_same, word_other}
 
 pub steps_hold : StepsHold
 steps_hold n s after h (Serves i f g is turn step) =
-    server_holds n s after i g h turn (subst (λ (x : Serving). ServerStep n s.word after.word i x g) (sym is) step)
+    server_holds n s after i g h turn (subst (λ (x : ServerFacet). ServerStep n s.word after.word i x g) (sym is) step)
 steps_hold n s after h (Collected d turn step) = collector_holds n s after d h turn step
 
 -- where a state reads the same, the same is true of it
@@ -40,7 +41,8 @@ chains_hold n s (t ∷ ts) h chain = chains_hold n t ts (steps_hold n s t h chai
 
 pub quiet_stays : QuietStays
 quiet_stays n s after i f g h is turn step q =
-    server_quiet n s after i g h turn (subst (λ (x : Serving). ServerStep n s.word after.word i x g) (sym is) step) q
+    server_quiet n s after i g h turn (subst (λ (x : ServerFacet). ServerStep n s.word after.word i x g) (sym is) step)
+    q
 
 pub told_is_quiet : ToldIsQuiet
 told_is_quiet n s k h is all =

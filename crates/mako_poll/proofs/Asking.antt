@@ -9,7 +9,7 @@ use Rattle.mako_shape.specs.Places.{flags, total, word_at}
 use Rattle.mako_step.specs.Acts.{words_stepped, finds}
 use Rattle.mako_step.specs.Machines.{IsAct}
 use Rattle.mako_step.specs.declared.act.Op.TheVariants.{And}
-use Rattle.mako_ring.specs.Facets.{Serving, Collecting, polling, reading, flags_of}
+use Rattle.mako_ring.specs.Facets.{ServerFacet, CollectorFacet, polling, reading, flags_of}
 use Rattle.mako_ring.specs.Polling.{PollingStands}
 use Rattle.mako_poll.specs.Polls.{stage_next, stage_fed, has_work, asking_from, reading_from, IsKnown}
 use Rattle.mako_poll.specs.Steps.{CollectorStep, Leaves, FindsWork, FindsClean, TurnsToRead, ReadsZero, Collected}
@@ -21,7 +21,7 @@ use Rattle.mako_poll.proofs.Acting.{untouched_load, wrote_at}
 use Rattle.mako_poll.proofs.AllSteps.{steps_hold}
 
 module _ (n : Numbers) (words after : List ℕ) (server : ℕ
-    → Serving) (c : CollectorView) (some : 0 < n.servers) (size : length words ≡ total n) where
+    → ServerFacet) (c : CollectorView) (some : 0 < n.servers) (size : length words ≡ total n) where
   abbrev at : PollStage → CollectorView
   at stage = record c { stage = polls stage }
 
@@ -33,13 +33,13 @@ module _ (n : Numbers) (words after : List ℕ) (server : ℕ
     collector = collecting_of n (at stage);
   })
 
-  abbrev AfterBy : Collecting → Type 0
+  abbrev AfterBy : CollectorFacet → Type 0
   AfterBy d = PollingStands n (record { word = word_at n after; server = server; collector = d })
 
   abbrev pub After : PollStage → Type 0
   After stage = AfterBy (collecting_of n (at stage)) × CollectorStands n (polls stage)
 
-  by_kind : (stage : PollStage) (d : Collecting) → Before stage
+  by_kind : (stage : PollStage) (d : CollectorFacet) → Before stage
       → CollectorStep n (word_at n words) (word_at n after) (collecting_of n (at stage)) d → AfterBy d
   by_kind stage d stands step =
       steps_hold n _ _ stands (Collected d (record { here = refl; servers = λ j lt. refl }) step)

@@ -10,8 +10,8 @@ use Rattle.mako_shape.specs.Places.{flags, work, ghost}
 use Rattle.mako_ring.specs.Contents.{RingStands}
 use Rattle.mako_ring.specs.Windows.{tail_up, head_up, found_room}
 use Rattle.mako_ring.specs.declared.window.Window.{Window}
-use Rattle.mako_ring.specs.Facets.{Doing, resting, sending, storing, taking, clearing, Serving, Poll, elsewhere}
-use Rattle.mako_ring.specs.Facets.{forwarding, polling, reading, Collecting, Scene, flags_of, incoming, IsSource}
+use Rattle.mako_ring.specs.Facets.{Doing, resting, sending, storing, taking, clearing, ServerFacet, Poll, elsewhere}
+use Rattle.mako_ring.specs.Facets.{forwarding, polling, reading, CollectorFacet, Scene, flags_of, incoming, IsSource}
 use Rattle.mako_ring.specs.Rings.{slots_of}
 use Rattle.mako_ring.specs.declared.ring.Ring.TheVariants.{Work, Ghost}
 use Rattle.mako_ring.specs.declared.tracing.Source.{Source}
@@ -25,8 +25,9 @@ use Rattle.mako_ring.proofs.Turns.{place_below}
 use Rattle.mako_ring.proofs.RingLaws.{ring_same, ring_empty, ring_tail, ring_room, ring_put}
 use Rattle.mako_poll.proofs.Flagging.{Flagged, polled, left_alone}
 
-module _ (n : Numbers) (s after : Scene) (d : Collecting) (h : PollingStands n s) (turn : Collects n s after d) where
-  abbrev c : Collecting
+module _ (n : Numbers) (s after : Scene) (d : CollectorFacet) (h : PollingStands n s)
+    (turn : Collects n s after d) where
+  abbrev c : CollectorFacet
   c = s.collector
 
   -- what the collector leaves of the words of servers
@@ -81,7 +82,7 @@ module _ (n : Numbers) (s after : Scene) (d : Collecting) (h : PollingStands n s
     doing_kept j lt (taking source v) m = take_kept j source v lt m
     doing_kept j lt (clearing source v) m = take_kept j source v lt m
 
-    each : (P : ℕ → Serving → Type 0) → ((j : ℕ) → j < n.servers → P j (s.server j)) → (j : ℕ) → j < n.servers
+    each : (P : ℕ → ServerFacet → Type 0) → ((j : ℕ) → j < n.servers → P j (s.server j)) → (j : ℕ) → j < n.servers
         → P j (after.server j)
     each P rest j lt = subst (P j) (sym (turn.servers j lt)) (rest j lt)
 
@@ -96,9 +97,9 @@ module _ (n : Numbers) (s after : Scene) (d : Collecting) (h : PollingStands n s
           (λ b lb o. ring_same n.ring (slots_of s.word (Ghost a b)) ((s.server b).ghost_at a) ((s.server a).window b)
           (h.ghosts a b la lb o) (slots_of after.word (Ghost a b)) (λ k lk. spares.ghosts a b k la lb lk)) b lb o) a
           la o;
-      works = λ r lr. subst (λ (x : Collecting). WorkStands n after.word r x (after.server r)) (sym turn.here)
+      works = λ r lr. subst (λ (x : CollectorFacet). WorkStands n after.word r x (after.server r)) (sym turn.here)
           (each (λ r f. WorkStands n after.word r d f) works r lr);
-      poll = subst (λ (x : Collecting). PollStands n (record after { collector = x }) x.poll) (sym turn.here) poll;
+      poll = subst (λ (x : CollectorFacet). PollStands n (record after { collector = x }) x.poll) (sym turn.here) poll;
     }
 
   -- ---- work rings
@@ -151,7 +152,7 @@ module _ (n : Numbers) (s after : Scene) (d : Collecting) (h : PollingStands n s
 
     quiet_alone : d.pending ≡ c.pending → IsQuietScene n s → IsQuietScene n (record after { collector = d })
     quiet_alone e q = record {
-      servers = λ j lt. ap (λ (f : Serving). f.working) (turn.servers j lt) ∙ q.servers j lt;
+      servers = λ j lt. ap (λ (f : ServerFacet). f.working) (turn.servers j lt) ∙ q.servers j lt;
       works = λ r k lr lk. slots_alone r lr k lk ∙ q.works r k lr lk;
       ghosts = λ a b k la lb lk. u (ghost a b k) tt (la, lb, lk) ∙ q.ghosts a b k la lb lk;
       pending = e ∙ q.pending;
@@ -204,14 +205,15 @@ module _ (n : Numbers) (s after : Scene) (d : Collecting) (h : PollingStands n s
     -- the collector as it was, but for where it is
     module _ (p : Poll) (is : d ≡ record c { poll = p }) where
       pub windows_kept : SameWindows n c d
-      windows_kept r lr = ap (λ (x : Collecting). x.window r) is
+      windows_kept r lr = ap (λ (x : CollectorFacet). x.window r) is
 
       pub nothing_kept : NothingSent n c → NothingSent n (record c { poll = p })
       nothing_kept none = record { pending = none.pending; windows = none.windows }
 
       pub poll_is : PollStands n (record after { collector = record c { poll = p } }) p
           → PollStands n (record after { collector = d }) d.poll
-      poll_is stands = subst (λ (x : Collecting). PollStands n (record after { collector = x }) x.poll) (sym is) stands
+      poll_is stands =
+          subst (λ (x : CollectorFacet). PollStands n (record after { collector = x }) x.poll) (sym is) stands
 
     waits_poll : (p : Poll) → PollStands n s p → PollStands n (record after { collector = c }) p
     waits_poll elsewhere stands = tt
@@ -231,7 +233,7 @@ module _ (n : Numbers) (s after : Scene) (d : Collecting) (h : PollingStands n s
     waits_poll (reading k) stands = (
       stands.0,
       λ none. let q = stands.1 (calm_before k none) in record {
-        servers = λ j lt. ap (λ (f : Serving). f.working) (turn.servers j lt) ∙ q.servers j lt;
+        servers = λ j lt. ap (λ (f : ServerFacet). f.working) (turn.servers j lt) ∙ q.servers j lt;
         works = λ r i lr li. slots_alone r lr i li ∙ q.works r i lr li;
         ghosts = λ a b i la lb li. u (ghost a b i) tt (la, lb, li) ∙ q.ghosts a b i la lb li;
         pending = q.pending;
@@ -239,8 +241,8 @@ module _ (n : Numbers) (s after : Scene) (d : Collecting) (h : PollingStands n s
     )
 
     waits : d ≡ c → PollingStands n after
-    waits is = collects_hold spares_alone (works_alone (λ r lr. ap (λ (x : Collecting). x.window r) is))
-        (subst (λ (x : Collecting). PollStands n (record after { collector = x }) x.poll) (sym is)
+    waits is = collects_hold spares_alone (works_alone (λ r lr. ap (λ (x : CollectorFacet). x.window r) is))
+        (subst (λ (x : CollectorFacet). PollStands n (record after { collector = x }) x.poll) (sym is)
         (waits_poll c.poll h.poll))
 
     turns_to_read : c.poll ≡ polling n.servers → d ≡ record c { poll = reading 0 } → PollingStands n after
@@ -255,7 +257,7 @@ module _ (n : Numbers) (s after : Scene) (d : Collecting) (h : PollingStands n s
       where
         moved : d ≡ record c { poll = reading 0 } → IsQuietScene n s
             → IsQuietScene n (record after { collector = record c { poll = reading 0 } })
-        moved is q = let x = quiet_alone (ap (λ (x : Collecting). x.pending) is) q in
+        moved is q = let x = quiet_alone (ap (λ (x : CollectorFacet). x.pending) is) q in
             record { servers = x.servers; works = x.works; ghosts = x.ghosts; pending = q.pending }
 
     reads_zero : (k : ℕ) → c.poll ≡ reading k → s.word (flags k) ≡ 0 → d ≡ record c { poll = reading (k + 1) }
@@ -275,7 +277,7 @@ module _ (n : Numbers) (s after : Scene) (d : Collecting) (h : PollingStands n s
 
         moved : d ≡ record c { poll = reading (k + 1) } → IsQuietScene n s
             → IsQuietScene n (record after { collector = record c { poll = reading (k + 1) } })
-        moved is q = let x = quiet_alone (ap (λ (x : Collecting). x.pending) is) q in
+        moved is q = let x = quiet_alone (ap (λ (x : CollectorFacet). x.pending) is) q in
             record { servers = x.servers; works = x.works; ghosts = x.ghosts; pending = q.pending }
 
   -- ---- a put
@@ -343,8 +345,8 @@ module _ (n : Numbers) (s after : Scene) (d : Collecting) (h : PollingStands n s
         → d ≡ record c { poll = polling (k + 1) } → PollingStands n after
     finds_clean was busy ghost_ is =
         let old : PollStands n s (polling k) = subst (λ (p : Poll). PollStands n s p) was h.poll in
-        collects_hold spares_polled (works_polled (λ r lr. ap (λ (x : Collecting). x.window r) is))
-        (subst (λ (x : Collecting). PollStands n (record after { collector = x }) x.poll) (sym is)
+        collects_hold spares_polled (works_polled (λ r lr. ap (λ (x : CollectorFacet). x.window r) is))
+        (subst (λ (x : CollectorFacet). PollStands n (record after { collector = x }) x.poll) (sym is)
         (record { pending = old.0.pending; windows = old.0.windows }, λ j lt below. clean j lt below old.1))
       where
         clean : (j : ℕ) → j < n.servers → j < k + 1 → ((j : ℕ) → j < n.servers → j < k → StaysClean s.word j)

@@ -8,7 +8,7 @@ use Rattle.std.proofs.lemmas.Bool.Decides.{nat_tests}
 use Rattle.std.proofs.lemmas.List.Sums.{fails_before_first}
 use Rattle.mako_words.specs.declared.name.Name.{Name}
 use Rattle.mako_shape.specs.declared.numbers.Numbers.{Numbers}
-use Rattle.mako_ring.specs.Facets.{resting, Serving}
+use Rattle.mako_ring.specs.Facets.{resting, ServerFacet}
 use Rattle.mako_ring.specs.TraceFacets.{is_filled}
 use Rattle.mako_ring.specs.TracerFacets.{serving_of}
 use Rattle.mako_ring.specs.TracerFacts.{holds, TracerKeeps, TracerStands}
@@ -52,7 +52,7 @@ stack_empty (x ∷ xs) e = absurd (some (length xs) e)
     some k e = grind (arith, nat_tests)
 
 -- the facet of a machine that is about to do nothing on a ring, and has nothing in its stage
-abbrev pub rested : TracerView → Serving
+abbrev pub rested : TracerView → ServerFacet
 rested t = record (serving_of t) { working = holds t; doing = resting }
 
 work_facet : (t : TracerView) (o : Option Name) (s : Option Scan) → t.outgoing ≡ o → t.scan ≡ s

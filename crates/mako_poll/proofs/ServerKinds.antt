@@ -9,7 +9,7 @@ use Rattle.mako_shape.specs.Places.{flags, work, ghost}
 use Rattle.mako_ring.specs.Contents.{RingStands}
 use Rattle.mako_ring.specs.Windows.{tail_up, head_up, found_room}
 use Rattle.mako_ring.specs.declared.window.Window.{Window}
-use Rattle.mako_ring.specs.Facets.{Doing, resting, sending, storing, taking, clearing, Serving, Scene, flags_of}
+use Rattle.mako_ring.specs.Facets.{Doing, resting, sending, storing, taking, clearing, ServerFacet, Scene, flags_of}
 use Rattle.mako_ring.specs.Facets.{incoming, IsSource, IsStoring, IsClearing}
 use Rattle.mako_ring.specs.Rings.{slots_of}
 use Rattle.mako_ring.specs.declared.ring.Ring.TheVariants.{Work, Ghost}
@@ -26,9 +26,9 @@ use Rattle.mako_poll.proofs.Flagging.{Flagged, false_true, sends, receives, rest
 use Rattle.mako_poll.proofs.Changing.{Changes, changes_none, changes_flags, changes_put, changes_work, changes_take}
 use Rattle.mako_poll.proofs.Serving.{Shows, serves_hold, quiet_after}
 
-module _ (n : Numbers) (s after : Scene) (i : ℕ) (g : Serving) (h : PollingStands n s)
+module _ (n : Numbers) (s after : Scene) (i : ℕ) (g : ServerFacet) (h : PollingStands n s)
     (turn : Turns n s after i g) where
-  abbrev f : Serving
+  abbrev f : ServerFacet
   f = s.server i
 
   old : FlagsStand n s.word i f
@@ -203,19 +203,19 @@ module _ (n : Numbers) (s after : Scene) (i : ℕ) (g : Serving) (h : PollingSta
   module _ (d : Doing) (is : g ≡ record f { doing = d }) where
     rings_kept : SameRings n f g
     rings_kept = record {
-      work_at = ap (λ (x : Serving). x.work_at) is;
-      ghost_at = λ a la. ap (λ (x : Serving). x.ghost_at a) is;
-      window = λ r lr. ap (λ (x : Serving). x.window r) is;
+      work_at = ap (λ (x : ServerFacet). x.work_at) is;
+      ghost_at = λ a la. ap (λ (x : ServerFacet). x.ghost_at a) is;
+      window = λ r lr. ap (λ (x : ServerFacet). x.window r) is;
     }
 
     working_kept : g.working ≡ f.working
-    working_kept = ap (λ (x : Serving). x.working) is
+    working_kept = ap (λ (x : ServerFacet). x.working) is
 
     doing_is : g.doing ≡ d
-    doing_is = ap (λ (x : Serving). x.doing) is
+    doing_is = ap (λ (x : ServerFacet). x.doing) is
 
     doing_stands : DoingStands n after.word i (record f { doing = d }) d → DoingStands n after.word i g g.doing
-    doing_stands m = subst (λ (x : Serving). DoingStands n after.word i x x.doing) (sym is) m
+    doing_stands m = subst (λ (x : ServerFacet). DoingStands n after.word i x x.doing) (sym is) m
 
   shows_name : (source : Source) (w : ℕ) → (u : Untouched n s.word after.word) → IsSource n i source
       → s.word (incoming i f source) ≡ w → w ≢ 0 → g ≡ record f { doing = taking source w } → Shows n s after i g
@@ -322,12 +322,12 @@ module _ (n : Numbers) (s after : Scene) (i : ℕ) (g : Serving) (h : PollingSta
   shows_lowered_busy : Wrote n s.word after.word (flags i) (bit_and (s.word (flags i)) (all_but 1)) → f.working ≡ false
       → f.doing ≡ resting → g ≡ f → Shows n s after i g
   shows_lowered_busy w none rest is =
-      let doing : g.doing ≡ resting = ap (λ (x : Serving). x.doing) is ∙ rest in
+      let doing : g.doing ≡ resting = ap (λ (x : ServerFacet). x.doing) is ∙ rest in
       shows_flags (bit_and (s.word (flags i)) (all_but 1)) w (record (flags_of s.word i) { busy = false })
       (rests s.word after.word i old.packed w.there)
-      (same_is is) (ap (λ (x : Serving). x.working) is) (subst (DoingStands n after.word i g) (sym doing) tt)
+      (same_is is) (ap (λ (x : ServerFacet). x.working) is) (subst (DoingStands n after.word i g) (sym doing) tt)
       (λ c. (c, λ e. refl, λ e. e))
-      (λ c. (ap (λ (x : Serving). x.working) is ∙ none, no_clearing doing))
+      (λ c. (ap (λ (x : ServerFacet). x.working) is ∙ none, no_clearing doing))
       (λ c. (
         no_storing doing,
         λ r k lr lk. to_flags (bit_and (s.word (flags i)) (all_but 1)) w r lr k lk
@@ -336,9 +336,9 @@ module _ (n : Numbers) (s after : Scene) (i : ℕ) (g : Serving) (h : PollingSta
     where
       same_is : g ≡ f → SameRings n f g
       same_is is = record {
-        work_at = ap (λ (x : Serving). x.work_at) is;
-        ghost_at = λ a la. ap (λ (x : Serving). x.ghost_at a) is;
-        window = λ r lr. ap (λ (x : Serving). x.window r) is;
+        work_at = ap (λ (x : ServerFacet). x.work_at) is;
+        ghost_at = λ a la. ap (λ (x : ServerFacet). x.ghost_at a) is;
+        window = λ r lr. ap (λ (x : ServerFacet). x.window r) is;
       }
 
   -- with no window open, all slots that it fills are
@@ -346,12 +346,12 @@ module _ (n : Numbers) (s after : Scene) (i : ℕ) (g : Serving) (h : PollingSta
       → ((r : ℕ) → r < n.servers → r ≢ i → (f.window r).head ≤ (f.window r).tail) → f.doing ≡ resting → g ≡ f
       → Shows n s after i g
   shows_lowered_ghost w empty rest is =
-      let doing : g.doing ≡ resting = ap (λ (x : Serving). x.doing) is ∙ rest in
+      let doing : g.doing ≡ resting = ap (λ (x : ServerFacet). x.doing) is ∙ rest in
       shows_flags (bit_and (s.word (flags i)) (all_but 2)) w (record (flags_of s.word i) { ghost_ = false })
       (seen_off s.word after.word i old.packed w.there)
-      (same_is is) (ap (λ (x : Serving). x.working) is) (subst (DoingStands n after.word i g) (sym doing) tt)
+      (same_is is) (ap (λ (x : ServerFacet). x.working) is) (subst (DoingStands n after.word i g) (sym doing) tt)
       (λ c. (c, λ e. e, λ e. refl))
-      (λ c. (ap (λ (x : Serving). x.working) is ∙ (old.busy c).0, no_clearing doing))
+      (λ c. (ap (λ (x : ServerFacet). x.working) is ∙ (old.busy c).0, no_clearing doing))
       (λ c. (
         no_storing doing,
         λ r k lr lk. to_flags (bit_and (s.word (flags i)) (all_but 2)) w r lr k lk
@@ -360,9 +360,9 @@ module _ (n : Numbers) (s after : Scene) (i : ℕ) (g : Serving) (h : PollingSta
     where
       same_is : g ≡ f → SameRings n f g
       same_is is = record {
-        work_at = ap (λ (x : Serving). x.work_at) is;
-        ghost_at = λ a la. ap (λ (x : Serving). x.ghost_at a) is;
-        window = λ r lr. ap (λ (x : Serving). x.window r) is;
+        work_at = ap (λ (x : ServerFacet). x.work_at) is;
+        ghost_at = λ a la. ap (λ (x : ServerFacet). x.ghost_at a) is;
+        window = λ r lr. ap (λ (x : ServerFacet). x.window r) is;
       }
 
       all_empty : (r k : ℕ) → r < n.servers → k < n.ring → s.word (ghost i r k) ≡ 0

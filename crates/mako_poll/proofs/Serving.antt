@@ -4,8 +4,8 @@ use Rattle.std.proofs.lemmas.Bool.{cases_eq}
 use Rattle.mako_words.specs.Flags.{flag_at}
 use Rattle.mako_shape.specs.declared.numbers.Numbers.{Numbers}
 use Rattle.mako_shape.specs.Places.{ghost}
-use Rattle.mako_ring.specs.Facets.{Doing, resting, sending, storing, taking, clearing, Serving, Poll, elsewhere}
-use Rattle.mako_ring.specs.Facets.{forwarding, polling, reading, Collecting, Scene, flags_of, incoming, IsSource}
+use Rattle.mako_ring.specs.Facets.{Doing, resting, sending, storing, taking, clearing, ServerFacet, Poll, elsewhere}
+use Rattle.mako_ring.specs.Facets.{forwarding, polling, reading, CollectorFacet, Scene, flags_of, incoming, IsSource}
 use Rattle.mako_ring.specs.Rings.{slots_of}
 use Rattle.mako_ring.specs.declared.ring.Ring.TheVariants.{Work, Ghost}
 use Rattle.mako_ring.specs.declared.tracing.Source.{Source}
@@ -18,7 +18,7 @@ use Rattle.mako_ring.proofs.RingLaws.{ring_same}
 use Rattle.mako_poll.proofs.Changing.{Changes}
 
 -- what the going server has to show
-pub record Shows (n : Numbers) (s after : Scene) (i : ℕ) (g : Serving) : Type 0 where
+pub record Shows (n : Numbers) (s after : Scene) (i : ℕ) (g : ServerFacet) : Type 0 where
   pub flags : FlagsStand n after.word i g
   pub doing : DoingStands n after.word i g g.doing
   pub sends : (b : ℕ) → b < n.servers → b ≢ i → GhostStands n after.word i b g (s.server b)
@@ -32,7 +32,7 @@ pub record Shows (n : Numbers) (s after : Scene) (i : ℕ) (g : Serving) : Type 
   pub quiet : IsQuietScene n s → (g.working ≡ false)
       × ((r k : ℕ) → r < n.servers → k < n.ring → after.word (ghost i r k) ≡ 0)
 
-module _ (n : Numbers) (s after : Scene) (i : ℕ) (g : Serving) (h : PollingStands n s) (turn : Turns n s after i g)
+module _ (n : Numbers) (s after : Scene) (i : ℕ) (g : ServerFacet) (h : PollingStands n s) (turn : Turns n s after i g)
     (ch : Changes n s.word after.word i) where
   -- a ring has slots
   pub some_slots : 0 < n.ring
@@ -88,7 +88,7 @@ module _ (n : Numbers) (s after : Scene) (i : ℕ) (g : Serving) (h : PollingSta
   doing_kept j lt d (clearing source w) m = may_take_kept j source w lt d m
 
   -- what holds of server i as it is now, and of the others as they were, holds of all
-  each : (P : ℕ → Serving → Type 0) → P i g → ((j : ℕ) → j < n.servers → j ≢ i → P j (s.server j)) → (j : ℕ)
+  each : (P : ℕ → ServerFacet → Type 0) → P i g → ((j : ℕ) → j < n.servers → j ≢ i → P j (s.server j)) → (j : ℕ)
       → j < n.servers → P j (after.server j)
   each P own rest j lt = elim (cases_eq j i) [
     | inl e ↦ subst (λ (k : ℕ). P k (after.server k)) (sym e) (subst (P i) (sym turn.here) own)
@@ -102,7 +102,8 @@ module _ (n : Numbers) (s after : Scene) (i : ℕ) (g : Serving) (h : PollingSta
         each (λ a f. a ≢ b → GhostStands n after.word a b f (after.server b)) from_i from_other a la d
       where
         from_i : i ≢ b → GhostStands n after.word i b g (after.server b)
-        from_i d = subst (λ (f : Serving). GhostStands n after.word i b g f) (sym (turn.others b lb (λ e. d (sym e))))
+        from_i d = subst (λ (f : ServerFacet). GhostStands n after.word i b g f)
+            (sym (turn.others b lb (λ e. d (sym e))))
             (shows.sends b lb (λ e. d (sym e)))
 
         from_other : (a : ℕ) → a < n.servers → a ≢ i → a ≢ b
@@ -171,8 +172,8 @@ module _ (n : Numbers) (s after : Scene) (i : ℕ) (g : Serving) (h : PollingSta
       doing = each (λ j f. DoingStands n after.word j f f.doing) shows.doing
           (λ j lt d. doing_kept j lt d (s.server j).doing (h.doing j lt));
       ghosts = ghosts_after;
-      works = λ r lr. subst (λ (c : Collecting). WorkStands n after.word r c (after.server r)) (sym turn.collector)
+      works = λ r lr. subst (λ (c : CollectorFacet). WorkStands n after.word r c (after.server r)) (sym turn.collector)
           (works_after r lr);
-      poll = subst (λ (c : Collecting). PollStands n (record after { collector = c }) c.poll) (sym turn.collector)
+      poll = subst (λ (c : CollectorFacet). PollStands n (record after { collector = c }) c.poll) (sym turn.collector)
           (poll_kept s.collector.poll h.poll);
     }

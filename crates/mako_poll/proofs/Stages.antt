@@ -21,7 +21,7 @@ use Rattle.mako_step.specs.Acts.{words_stepped, finds}
 use Rattle.mako_step.specs.Machines.{IsAct}
 use Rattle.mako_step.specs.declared.act.Op.TheVariants.{Store, Or, And}
 use Rattle.mako_ring.specs.Contents.{after_place}
-use Rattle.mako_ring.specs.Facets.{Serving, incoming, IsSource}
+use Rattle.mako_ring.specs.Facets.{ServerFacet, incoming, IsSource}
 use Rattle.mako_ring.specs.TracerFacets.{serving_of}
 use Rattle.mako_ring.specs.TracerFacts.{holds, OutgoingStands, TracerKeeps, TracerStands}
 use Rattle.mako_ring.specs.Tracing.{TracerView, owner, no_window, window_of, set_window, slot_of, head_slot, own_tablet}
@@ -65,7 +65,7 @@ behind : (t : TracerView) (source : Source) → after_source t source ≢ t.serv
 behind t Collector e = grind (arith, nat_tests)
 behind t (Server a) e = grind (arith, nat_tests)
 
-keeps : (n : Numbers) (f g : Serving) → g.work_at ≡ f.work_at → g.ghost_at ≡ f.ghost_at → g.window ≡ f.window
+keeps : (n : Numbers) (f g : ServerFacet) → g.work_at ≡ f.work_at → g.ghost_at ≡ f.ghost_at → g.window ≡ f.window
     → SameRings n f g
 keeps n f g a b c = record { work_at = a; ghost_at = λ s ls. (λ z. b z s); window = λ r lr. (λ z. c z r) }
 
@@ -96,8 +96,8 @@ module _ (i : ℕ) (t : TracerView) (words after : List ℕ) where
       → ((serving_of (at_stage t x)).working ≡ false → holds v ≡ false)
       → ServerStep n word word' t.server (serving_of (at_stage t x)) (serving_of u)
   rests x u v still e same none =
-      Works still (subst (SameRings n (serving_of (at_stage t x))) (sym e) same) (ap (λ (f : Serving). f.doing) e)
-      (λ z. ap (λ (f : Serving). f.working) e ∙ none z)
+      Works still (subst (SameRings n (serving_of (at_stage t x))) (sym e) same) (ap (λ (f : ServerFacet). f.doing) e)
+      (λ z. ap (λ (f : ServerFacet). f.working) e ∙ none z)
 
   -- a step that stays within the machine's own work
   works : (x y : TraceStage) → Still → At y → (serving_of (at_stage t y)).doing ≡ (serving_of (at_stage t Ended)).doing
@@ -109,7 +109,7 @@ module _ (i : ℕ) (t : TracerView) (words after : List ℕ) where
   )
 
   -- a window set
-  sets : (g : Serving) (r : ℕ) (w : Window) (x : TraceStage) → r < length t.windows → g.work_at ≡ t.work_at
+  sets : (g : ServerFacet) (r : ℕ) (w : Window) (x : TraceStage) → r < length t.windows → g.work_at ≡ t.work_at
       → g.ghost_at ≡ (λ a. slice_index t.ghost_at a)
       → g.window ≡ (λ q. slice_index_or (slice_set t.windows r w) q no_window)
       → SetsWindow n (serving_of (at_stage t x)) g r w
@@ -197,11 +197,12 @@ module _ (i : ℕ) (t : TracerView) (words after : List ℕ) where
       } in
       let e : serving_of (next_work v) ≡ rested v = next_work_facet v in (
         Stores r (name_word x) wrote (name_is_filled x) refl
-            (subst (λ (g : Serving). SetsWindow n (serving_of (at_stage t (Sending (HeadStore x)))) g r
+            (subst (λ (g : ServerFacet). SetsWindow n (serving_of (at_stage t (Sending (HeadStore x)))) g r
             (head_up (window_of t r))) (sym e)
             (sets (rested v) r (head_up (window_of t r)) (Sending (HeadStore x))
             (inside stands.keeps r o.0) refl refl refl))
-            (ap (λ (f : Serving). f.doing) e) (λ z. absurd (false_true (holds t) z (outgoing_holds t x stands.stage))),
+            (ap (λ (f : ServerFacet). f.doing) e)
+            (λ z. absurd (false_true (holds t) z (outgoing_holds t x stands.stage))),
         next_work_stands n i v refl (kept_window stands.keeps None tt r (head_up (window_of t r)) o.1),
       )
 
@@ -366,11 +367,11 @@ module _ (i : ℕ) (t : TracerView) (words after : List ℕ) where
       let v : TracerView = set_window (at_stage t (Resting (TailLook r))) r (tail_up n.ring (window_of t r)) in
       let f : serving_of (windows_from v (r + 1)) ≡ rested v = windows_facet v (r + 1) in (
         SeesEmptied r still x.1 x.2 x.3 (is ∙ zero_is)
-            (subst (λ (g : Serving). SetsWindow n (serving_of (at_stage t (Resting (TailLook r)))) g r
+            (subst (λ (g : ServerFacet). SetsWindow n (serving_of (at_stage t (Resting (TailLook r)))) g r
             (tail_up n.ring (window_of t r))) (sym f)
             (sets (rested v) r (tail_up n.ring (window_of t r)) (Resting (TailLook r))
             (inside stands.keeps r x.1) refl refl refl))
-            (ap (λ (g : Serving). g.doing) f) (λ z. ap (λ (g : Serving). g.working) f ∙ z),
+            (ap (λ (g : ServerFacet). g.doing) f) (λ z. ap (λ (g : ServerFacet). g.working) f ∙ z),
         windows_stand n i v (r + 1) refl
             (kept_window stands.keeps t.outgoing stands.keeps.outgoing_stands r
             (tail_up n.ring (window_of t r)) x.2) x.0,

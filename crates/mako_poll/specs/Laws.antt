@@ -2,7 +2,7 @@
 use Rattle.std.specs.Prelude.{ℕ, true, false, ◌≡◌, ◌<◌, ◌≤◌, ◌⊎◌, List, length, slice_set}
 use Rattle.mako_shape.specs.declared.numbers.Numbers.{Numbers}
 use Rattle.mako_shape.specs.Places.{Place, Within, index, total, word_at}
-use Rattle.mako_ring.specs.Facets.{Serving, elsewhere, reading, Scene, resting, flags_of, IsPolled}
+use Rattle.mako_ring.specs.Facets.{ServerFacet, elsewhere, reading, Scene, resting, flags_of, IsPolled}
 use Rattle.mako_ring.specs.Polling.{PollingHolds, IsQuietScene, PollingStands}
 use Rattle.mako_poll.specs.Steps.{Wrote, Turns, ServerStep, PollStep, Chain, end_by}
 
@@ -39,7 +39,7 @@ UnrestShows = (n : Numbers) (s : Scene) (k : ℕ) → PollingStands n s → s.co
 
 -- quiet is kept by each step of a server
 abbrev pub QuietStays : Type 0
-QuietStays = (n : Numbers) (s after : Scene) (i : ℕ) (f g : Serving) → PollingStands n s → s.server i ≡ f
+QuietStays = (n : Numbers) (s after : Scene) (i : ℕ) (f g : ServerFacet) → PollingStands n s → s.server i ≡ f
     → Turns n s after i g → ServerStep n s.word after.word i f g → IsQuietScene n s → IsQuietScene n after
 
 -- what is kept says the polling invariant in words

@@ -7,8 +7,9 @@ use Rattle.mako_ring.specs.FlagBits.{busy_bit, ghost_bit, changed_bit, sending_b
 use Rattle.mako_ring.specs.Contents.{after_place}
 use Rattle.mako_ring.specs.Windows.{tail_up, head_up, found_room}
 use Rattle.mako_ring.specs.declared.window.Window.{Window}
-use Rattle.mako_ring.specs.Facets.{resting, sending, storing, taking, clearing, Serving, elsewhere, forwarding, polling}
-use Rattle.mako_ring.specs.Facets.{reading, Collecting, Scene, flags_of, incoming, IsSource, IsPolled}
+use Rattle.mako_ring.specs.Facets.{resting, sending, storing, taking, clearing, ServerFacet, elsewhere, forwarding}
+use Rattle.mako_ring.specs.Facets.{polling}
+use Rattle.mako_ring.specs.Facets.{reading, CollectorFacet, Scene, flags_of, incoming, IsSource, IsPolled}
 use Rattle.mako_ring.specs.declared.tracing.Source.{Source}
 use Rattle.mako_ring.specs.declared.tracing.Source.TheVariants.{Collector, Server}
 use Rattle.mako_ring.specs.Polling.{NothingSent}
@@ -23,43 +24,43 @@ pub record Wrote (n : Numbers) (word after : Place → ℕ) (p : Place) (x : ℕ
   pub else : (q : Place) → IsPolled q → Within n q → q ≢ p → after q ≡ word q
 
 -- one server goes on, and no other seat
-pub record Turns (n : Numbers) (s after : Scene) (i : ℕ) (f : Serving) : Type 0 where
+pub record Turns (n : Numbers) (s after : Scene) (i : ℕ) (f : ServerFacet) : Type 0 where
   pub in_range : i < n.servers
   pub here : after.server i ≡ f
   pub others : (j : ℕ) → j < n.servers → j ≢ i → after.server j ≡ s.server j
   pub collector : after.collector ≡ s.collector
 
 -- the collector goes on, and no server
-pub record Collects (n : Numbers) (s after : Scene) (c : Collecting) : Type 0 where
+pub record Collects (n : Numbers) (s after : Scene) (c : CollectorFacet) : Type 0 where
   pub here : after.collector ≡ c
   pub servers : (j : ℕ) → j < n.servers → after.server j ≡ s.server j
 
 -- a server's positions and windows stay
-pub record SameRings (n : Numbers) (f g : Serving) : Type 0 where
+pub record SameRings (n : Numbers) (f g : ServerFacet) : Type 0 where
   pub work_at : g.work_at ≡ f.work_at
   pub ghost_at : (a : ℕ) → a < n.servers → g.ghost_at a ≡ f.ghost_at a
   pub window : (r : ℕ) → r < n.servers → g.window r ≡ f.window r
 
 -- its window to one server becomes another
-pub record SetsWindow (n : Numbers) (f g : Serving) (r : ℕ) (w : Window) : Type 0 where
+pub record SetsWindow (n : Numbers) (f g : ServerFacet) (r : ℕ) (w : Window) : Type 0 where
   pub work_at : g.work_at ≡ f.work_at
   pub ghost_at : (a : ℕ) → a < n.servers → g.ghost_at a ≡ f.ghost_at a
   pub here : g.window r ≡ w
   pub else : (q : ℕ) → q < n.servers → q ≢ r → g.window q ≡ f.window q
 
 -- its position in one ring rises
-abbrev pub Rises : Numbers → Serving → Serving → Source → Type 0
+abbrev pub Rises : Numbers → ServerFacet → ServerFacet → Source → Type 0
 Rises n f g Collector = (g.work_at ≡ after_place n.ring f.work_at)
     × ((a : ℕ) → a < n.servers → g.ghost_at a ≡ f.ghost_at a)
 Rises n f g (Server b) = (g.work_at ≡ f.work_at) × (g.ghost_at b ≡ after_place n.ring (f.ghost_at b))
     × ((a : ℕ) → a < n.servers → a ≢ b → g.ghost_at a ≡ f.ghost_at a)
 
-pub record Advances (n : Numbers) (f g : Serving) (source : Source) : Type 0 where
+pub record Advances (n : Numbers) (f g : ServerFacet) (source : Source) : Type 0 where
   pub window : (r : ℕ) → r < n.servers → g.window r ≡ f.window r
   pub rises : Rises n f g source
 
 -- the steps of server i, from f to g
-pub data ServerStep (n : Numbers) (word after : Place → ℕ) (i : ℕ) (f g : Serving) : Type 0 where
+pub data ServerStep (n : Numbers) (word after : Place → ℕ) (i : ℕ) (f g : ServerFacet) : Type 0 where
   -- it considers, pushes, dismisses, scans, takes off its stack, or looks and finds nothing to do
   Works : Untouched n word after → SameRings n f g → g.doing ≡ resting → (f.working ≡ false → g.working ≡ false)
       → ServerStep n word after i f g
@@ -100,15 +101,15 @@ pub data ServerStep (n : Numbers) (word after : Place → ℕ) (i : ℕ) (f g : 
       → f.doing ≡ resting → g ≡ f → ServerStep n word after i f g
 
 -- the collector's windows stay
-abbrev pub SameWindows : Numbers → Collecting → Collecting → Type 0
+abbrev pub SameWindows : Numbers → CollectorFacet → CollectorFacet → Type 0
 SameWindows n c d = (r : ℕ) → r < n.servers → d.window r ≡ c.window r
 
 -- one of them becomes another
-abbrev pub SetsWork : Numbers → Collecting → Collecting → ℕ → Window → Type 0
+abbrev pub SetsWork : Numbers → CollectorFacet → CollectorFacet → ℕ → Window → Type 0
 SetsWork n c d r w = (d.window r ≡ w) × ((q : ℕ) → q < n.servers → q ≢ r → d.window q ≡ c.window q)
 
 -- the steps of the collector, from c to d
-pub data CollectorStep (n : Numbers) (word after : Place → ℕ) (c d : Collecting) : Type 0 where
+pub data CollectorStep (n : Numbers) (word after : Place → ℕ) (c d : CollectorFacet) : Type 0 where
   -- nothing: a look that found nothing ready, or a step of a seat that rings, flags and polls do not read
   Waits : Untouched n word after → d ≡ c → CollectorStep n word after c d
   -- anything that leaves rings and flags alone, and ends no poll by completion
@@ -143,10 +144,10 @@ pub data CollectorStep (n : Numbers) (word after : Place → ℕ) (c d : Collect
 
 -- one step of any seat
 pub data PollStep (n : Numbers) (s after : Scene) : Type 0 where
-  Serves : (i : ℕ) (f g : Serving) → s.server i ≡ f → Turns n s after i g → ServerStep n s.word after.word i f g
+  Serves : (i : ℕ) (f g : ServerFacet) → s.server i ≡ f → Turns n s after i g → ServerStep n s.word after.word i f g
       → PollStep n s after
   -- the collector, or with `Waits` any seat that is not read
-  Collected : (d : Collecting) → Collects n s after d → CollectorStep n s.word after.word s.collector d
+  Collected : (d : CollectorFacet) → Collects n s after d → CollectorStep n s.word after.word s.collector d
       → PollStep n s after
 
 -- a list of steps

@@ -5,7 +5,7 @@ use Rattle.mako_shape.specs.declared.numbers.Numbers.{Numbers}
 use Rattle.mako_shape.specs.Places.{Place, Within, total, word_at}
 use Rattle.mako_step.specs.Acts.{words_stepped, finds}
 use Rattle.mako_step.specs.Machines.{IsAct}
-use Rattle.mako_ring.specs.Facets.{Poll, elsewhere, forwarding, polling, reading, Collecting, Scene, IsPolled}
+use Rattle.mako_ring.specs.Facets.{Poll, elsewhere, forwarding, polling, reading, CollectorFacet, Scene, IsPolled}
 use Rattle.mako_ring.specs.Polling.{PollingStands}
 use Rattle.mako_ring.specs.Shades.{IsQuiet}
 use Rattle.mako_ring.specs.TraceFacets.{TraceFacet, serving, collecting, is_filled}
@@ -50,7 +50,7 @@ poll_of n (polls (Reading k)) = reading k
 poll_of n (polls (Ended Told)) = reading n.servers
 poll_of n (polls (Ended (NotYet k w))) = elsewhere
 
-abbrev pub collecting_of : Numbers → CollectorView → Collecting
+abbrev pub collecting_of : Numbers → CollectorView → CollectorFacet
 collecting_of n c = record { pending = is_filled c.pending; window = c.window; poll = poll_of n c.stage }
 
 abbrev pub scene_of : Numbers → World → Scene

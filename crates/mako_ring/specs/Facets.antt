@@ -22,7 +22,7 @@ pub data Doing : Type 0 where
 
 -- what is read of a server: whether it has anything in hand, outgoing, on its stack, taken off or under a scan; its
 -- position in its work ring and in the ring from each server; its window of the ring to each server
-pub record Serving : Type 0 where
+pub record ServerFacet : Type 0 where
   pub working : Bool
   pub work_at : ℕ
   pub ghost_at : ℕ → ℕ
@@ -41,7 +41,7 @@ pub data Poll : Type 0 where
   reading : (next : ℕ) → Poll
 
 -- what is read of the collector: whether names are pending, and its window of each work ring
-pub record Collecting : Type 0 where
+pub record CollectorFacet : Type 0 where
   pub pending : Bool
   pub window : ℕ → Window
   pub poll : Poll
@@ -49,15 +49,15 @@ pub record Collecting : Type 0 where
 -- what rings, flags and polls read of a state: words by place, the servers, the collector
 pub record Scene : Type 0 where
   pub word : Place → ℕ
-  pub server : ℕ → Serving
-  pub collector : Collecting
+  pub server : ℕ → ServerFacet
+  pub collector : CollectorFacet
 
 -- the flags of a server
 abbrev pub flags_of : (Place → ℕ) → ℕ → FlagWord
 flags_of word s = flag_at (word (flags s))
 
 -- the slot at a server's position
-abbrev pub incoming : ℕ → Serving → Source → Place
+abbrev pub incoming : ℕ → ServerFacet → Source → Place
 incoming s f Collector = work s f.work_at
 incoming s f (Server a) = ghost a s (f.ghost_at a)
 

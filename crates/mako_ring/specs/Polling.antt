@@ -3,15 +3,15 @@ use Rattle.std.specs.Prelude.{ℕ, true, false, ◌≡◌, ◌≢◌, ◌+◌, �
 use Rattle.mako_shape.specs.declared.numbers.Numbers.{Numbers}
 use Rattle.mako_shape.specs.Places.{Place, flags, work, ghost}
 use Rattle.mako_ring.specs.Contents.{RingStands}
-use Rattle.mako_ring.specs.Facets.{Doing, resting, sending, storing, taking, clearing, Serving, Poll, elsewhere}
-use Rattle.mako_ring.specs.Facets.{forwarding, polling, reading, Collecting, Scene, flags_of, incoming, IsSource}
+use Rattle.mako_ring.specs.Facets.{Doing, resting, sending, storing, taking, clearing, ServerFacet, Poll, elsewhere}
+use Rattle.mako_ring.specs.Facets.{forwarding, polling, reading, CollectorFacet, Scene, flags_of, incoming, IsSource}
 use Rattle.mako_ring.specs.Facets.{IsStoring, IsClearing}
 use Rattle.mako_ring.specs.Rings.{slots_of}
 use Rattle.mako_ring.specs.declared.ring.Ring.TheVariants.{Work, Ghost}
 use Rattle.mako_ring.specs.declared.tracing.Source.{Source}
 
 -- The flags of a server. All is said of a flag that is clear: then nothing is to be read from it that is not there.
-pub record FlagsStand (n : Numbers) (word : Place → ℕ) (s : ℕ) (f : Serving) : Type 0 where
+pub record FlagsStand (n : Numbers) (word : Place → ℕ) (s : ℕ) (f : ServerFacet) : Type 0 where
   pub packed : word (flags s) < 8
   -- with busy clear it has no work, and is not about to clear a slot
   pub busy : (flags_of word s).busy ≡ false → (f.working ≡ false) × (¬ IsClearing f.doing)
@@ -22,7 +22,7 @@ pub record FlagsStand (n : Numbers) (word : Place → ℕ) (s : ℕ) (f : Servin
   pub own : (k : ℕ) → k < n.ring → word (ghost s s k) ≡ 0
 
 -- it may put its outgoing name into the ring to that server
-pub record MayPut (n : Numbers) (word : Place → ℕ) (s : ℕ) (f : Serving) (r : ℕ) : Type 0 where
+pub record MayPut (n : Numbers) (word : Place → ℕ) (s : ℕ) (f : ServerFacet) (r : ℕ) : Type 0 where
   pub in_range : r < n.servers
   pub other : r ≢ s
   pub working : f.working ≡ true
@@ -30,13 +30,13 @@ pub record MayPut (n : Numbers) (word : Place → ℕ) (s : ℕ) (f : Serving) (
   pub room : (f.window r).head < (f.window r).tail + n.ring
 
 -- it may take that word from there
-pub record MayTake (n : Numbers) (word : Place → ℕ) (s : ℕ) (f : Serving) (source : Source) (w : ℕ) : Type 0 where
+pub record MayTake (n : Numbers) (word : Place → ℕ) (s : ℕ) (f : ServerFacet) (source : Source) (w : ℕ) : Type 0 where
   pub is_source : IsSource n s source
   pub found : word (incoming s f source) ≡ w
   pub filled : w ≢ 0
 
 -- what it is about to do, it may do
-abbrev pub DoingStands : Numbers → (Place → ℕ) → ℕ → Serving → Doing → Type 0
+abbrev pub DoingStands : Numbers → (Place → ℕ) → ℕ → ServerFacet → Doing → Type 0
 DoingStands n word s f resting = Unit {0}
 DoingStands n word s f (sending r) = MayPut n word s f r
 DoingStands n word s f (storing r) = MayPut n word s f r
@@ -44,12 +44,12 @@ DoingStands n word s f (taking source w) = MayTake n word s f source w
 DoingStands n word s f (clearing source w) = MayTake n word s f source w
 
 -- the ring from one server to another
-abbrev pub GhostStands : Numbers → (Place → ℕ) → ℕ → ℕ → Serving → Serving → Type 0
+abbrev pub GhostStands : Numbers → (Place → ℕ) → ℕ → ℕ → ServerFacet → ServerFacet → Type 0
 GhostStands n word a b sender receiver =
     RingStands n.ring (slots_of word (Ghost a b)) (receiver.ghost_at a) (sender.window b)
 
 -- the work ring of a server
-abbrev pub WorkStands : Numbers → (Place → ℕ) → ℕ → Collecting → Serving → Type 0
+abbrev pub WorkStands : Numbers → (Place → ℕ) → ℕ → CollectorFacet → ServerFacet → Type 0
 WorkStands n word s c receiver = RingStands n.ring (slots_of word (Work s)) receiver.work_at (c.window s)
 
 -- no work or ghost slot, pending list, hand, outgoing name, stack or scan holds anything
@@ -60,7 +60,7 @@ pub record IsQuietScene (n : Numbers) (s : Scene) : Type 0 where
   pub pending : s.collector.pending ≡ false
 
 -- nothing is pending, and each name put into a work ring was seen taken
-pub record NothingSent (n : Numbers) (c : Collecting) : Type 0 where
+pub record NothingSent (n : Numbers) (c : CollectorFacet) : Type 0 where
   pub pending : c.pending ≡ false
   pub windows : (r : ℕ) → r < n.servers → (c.window r).tail ≡ (c.window r).head
 

@@ -1,7 +1,7 @@
 -- What tracing, and rings, flags and polls, read of a server's tracing machine.
 use Rattle.std.specs.Prelude.{slice_index}
 use Rattle.mako_words.specs.Names.{name_word}
-use Rattle.mako_ring.specs.Facets.{Doing, resting, sending, storing, taking, clearing, Serving}
+use Rattle.mako_ring.specs.Facets.{Doing, resting, sending, storing, taking, clearing, ServerFacet}
 use Rattle.mako_ring.specs.TraceFacets.{Hand, empty, considering, marking, pushing, Off, nothing, popped, located, Work}
 use Rattle.mako_ring.specs.TraceFacets.{is_working}
 use Rattle.mako_ring.specs.Tracing.{TracerView, owner, window_of}
@@ -62,7 +62,7 @@ doing_of t (Resting stage) = resting
 doing_of t Ended = resting
 
 -- what rings, flags and polls read of it
-abbrev pub serving_of : TracerView → Serving
+abbrev pub serving_of : TracerView → ServerFacet
 serving_of t = record {
   working = is_working (work_of t);
   work_at = t.work_at;

@@ -5,7 +5,7 @@ use Rattle.mako_shape.proofs.Rows.{row-below, div-below, mod-below, row-and-colu
 use Rattle.mako_shape.specs.declared.numbers.Numbers.{Numbers}
 use Rattle.mako_shape.specs.Places.{Place, phase, demand, finished, mutator_gate, root, barrier, flags, work, ghost}
 use Rattle.mako_shape.specs.Places.{notice, tablet_gate, turn, home, top, leaving, live, entry, region_word, sizes}
-use Rattle.mako_shape.specs.Places.{rank, offset, Within}
+use Rattle.mako_shape.specs.Places.{area_of, offset, Within}
 
 -- the places of each area by their offsets, in the order of the areas
 abbrev pub decoders : Numbers → List (ℕ → Place)
@@ -39,7 +39,7 @@ pair-of : (f : ℕ → ℕ → Place) (a w b : ℕ) → b < w → f ((a * w + b)
 pair-of f a w b h = rw (div-mul-add a w b h, mod-mul-add a w b h)
 
 -- the place in a place's area at its offset is that place
-pub place_of-offset : (n : Numbers) (p : Place) → Within n p → place_of n (rank p) (offset n p) ≡ p
+pub place_of-offset : (n : Numbers) (p : Place) → Within n p → place_of n (area_of p) (offset n p) ≡ p
 place_of-offset n phase h = refl
 place_of-offset n demand h = refl
 place_of-offset n finished h = refl
@@ -62,7 +62,7 @@ place_of-offset n (entry x) h = refl
 place_of-offset n (region_word r w) h = pair-of region_word r n.words w h.1
 
 -- the offset of a place is below its area's size
-pub offset-below : (n : Numbers) (p : Place) → Within n p → offset n p < get_or (sizes n) (rank p) 0
+pub offset-below : (n : Numbers) (p : Place) → Within n p → offset n p < get_or (sizes n) (area_of p) 0
 offset-below n phase h = omega arith
 offset-below n demand h = omega arith
 offset-below n finished h = omega arith
@@ -85,7 +85,7 @@ offset-below n (region_word r w) h = row-below r n.words w (n.servers * (n.table
 
 -- what an area's places have to meet: each offset below its size gives a place in range of that area at that offset
 abbrev Covers : Numbers → ℕ → (ℕ → Place) → ℕ → Type 0
-Covers n area d size = (a : ℕ) → a < size → Within n (d a) × (rank (d a) ≡ area) × (offset n (d a) ≡ a)
+Covers n area d size = (a : ℕ) → a < size → Within n (d a) × (area_of (d a) ≡ area) × (offset n (d a) ≡ a)
 
 -- the same of a row of areas, the first of which has this number
 abbrev CoverFrom : Numbers → ℕ → List (ℕ → Place) → List ℕ → Type 0
@@ -97,15 +97,15 @@ CoverFrom n area (d ∷ ds) [] = ⊥
 -- so each area of the row meets it
 covers-at : (n : Numbers) (from : ℕ) (ds : List (ℕ → Place)) (ss : List ℕ) → CoverFrom n from ds ss → (i a : ℕ)
     → a < get_or ss i 0 →
-    Within n (get_or ds i (λ b. phase) a) × (rank (get_or ds i (λ b. phase) a) ≡ from + i)
+    Within n (get_or ds i (λ b. phase) a) × (area_of (get_or ds i (λ b. phase) a) ≡ from + i)
     × (offset n (get_or ds i (λ b. phase) a) ≡ a)
 covers-at n from [] [] c i a h = absurd (omega arith)
 covers-at n from [] (s ∷ ss) c i a h = absurd c
 covers-at n from (d ∷ ds) [] c i a h = absurd c
-covers-at n from (d ∷ ds) (s ∷ ss) c zero a h = let k : Within n (d a) × (rank (d a) ≡ from)
+covers-at n from (d ∷ ds) (s ∷ ss) c zero a h = let k : Within n (d a) × (area_of (d a) ≡ from)
     × (offset n (d a) ≡ a) = c.0 a h in (k.0, k.1 ∙ omega arith, k.2)
 covers-at n from (d ∷ ds) (s ∷ ss) c (suc i) a h =
-    let k : Within n (get_or ds i (λ b. phase) a) × (rank (get_or ds i (λ b. phase) a) ≡ suc from + i)
+    let k : Within n (get_or ds i (λ b. phase) a) × (area_of (get_or ds i (λ b. phase) a) ≡ suc from + i)
     × (offset n (get_or ds i (λ b. phase) a) ≡ a) = covers-at n (suc from) ds ss c.1 i a h in
     (k.0, k.1 ∙ omega arith, k.2)
 
@@ -196,8 +196,8 @@ covers-all n = (
 
 -- an offset below the size of an area gives a place in range of that area at that offset
 pub place_of-covers : (n : Numbers) (area a : ℕ) → a < get_or (sizes n) area 0 →
-    Within n (place_of n area a) × (rank (place_of n area a) ≡ area) × (offset n (place_of n area a) ≡ a)
+    Within n (place_of n area a) × (area_of (place_of n area a) ≡ area) × (offset n (place_of n area a) ≡ a)
 place_of-covers n area a h =
-    let k : Within n (place_of n area a) × (rank (place_of n area a) ≡ 0 + area)
+    let k : Within n (place_of n area a) × (area_of (place_of n area a) ≡ 0 + area)
     × (offset n (place_of n area a) ≡ a) = covers-at n 0 (decoders n) (sizes n) (covers-all n) area a h in
     (k.0, k.1 ∙ omega arith, k.2)

@@ -3,7 +3,7 @@ use Rattle.std.proofs.Common.{◌≡◌, ◌≢◌, ℕ, ◌+◌, ◌<◌, ◌*�
 use Rattle.std.proofs.Math.Nat.{mul-add, mul_assoc}
 use Rattle.std.proofs.lemmas.List.{get_or-set_same, get_or-set_other}
 use Rattle.mako_shape.specs.declared.numbers.Numbers.{Numbers}
-use Rattle.mako_shape.specs.Places.{Place, sizes, total, rank, offset, start, index, Within, word_at}
+use Rattle.mako_shape.specs.Places.{Place, sizes, total, area_of, offset, start, index, Within, word_at}
 use Rattle.mako_shape.proofs.Cells.{cell-below, one_cell, cell-of}
 use Rattle.mako_shape.proofs.Decode.{place_of, place_of-offset, offset-below, place_of-covers}
 
@@ -28,14 +28,14 @@ words_add_up n = grind (
 -- a place in range has an index below the number of words
 pub index_below : (n : Numbers) (p : Place) → Within n p → index n p < total n
 unfolding index total
-index_below n p h = cell-below (sizes n) (rank p) (offset n p) (offset-below n p h)
+index_below n p h = cell-below (sizes n) (area_of p) (offset n p) (offset-below n p h)
 
 -- places in range that have one index are one place
 pub one_place : (n : Numbers) (p r : Place) → Within n p → Within n r → index n p ≡ index n r → p ≡ r
 unfolding index
 one_place n p r h k e =
-    let same : (rank p ≡ rank r) × (offset n p ≡ offset n r) =
-    one_cell (sizes n) (rank p) (rank r) (offset n p) (offset n r) (offset-below n p h) (offset-below n r k) e in
+    let same : (area_of p ≡ area_of r) × (offset n p ≡ offset n r) =
+    one_cell (sizes n) (area_of p) (area_of r) (offset n p) (offset n r) (offset-below n p h) (offset-below n r k) e in
     sym (place_of-offset n p h) ∙ (λ i. place_of n (same.0 i) (same.1 i)) ∙ place_of-offset n r k
 
 -- each index below the number of words is that of a place in range
@@ -45,7 +45,7 @@ some_place n w h =
     let cell : (area : ℕ)
     × ((a : ℕ) × ((a < get_or (sizes n) area 0) × (start n area + a ≡ w))) = cell-of (sizes n) w h in
     let place : Place = place_of n cell.0 cell.1.0 in
-    let known : Within n place × (rank place ≡ cell.0)
+    let known : Within n place × (area_of place ≡ cell.0)
     × (offset n place ≡ cell.1.0) = place_of-covers n cell.0 cell.1.0 cell.1.1.0 in
     (place, (known.0, (λ i. start n (known.1 i) + known.2 i) ∙ cell.1.1.1))
 

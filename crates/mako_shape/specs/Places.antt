@@ -51,25 +51,25 @@ unfoldable pub total : Numbers → ℕ
 total n = sum (sizes n)
 
 -- the area of a place, by its number in the order of areas
-abbrev pub rank : Place → ℕ
-rank phase = 0
-rank demand = 1
-rank finished = 2
-rank (mutator_gate m) = 3
-rank (root m q) = 4
-rank (barrier m slot) = 5
-rank (flags s) = 6
-rank (work s slot) = 7
-rank (ghost sender receiver slot) = 8
-rank (notice s slot) = 9
-rank (tablet_gate t) = 10
-rank (turn t) = 11
-rank (home t) = 12
-rank (top t) = 13
-rank (leaving t) = 14
-rank (live t) = 15
-rank (entry x) = 16
-rank (region_word r word) = 17
+abbrev pub area_of : Place → ℕ
+area_of phase = 0
+area_of demand = 1
+area_of finished = 2
+area_of (mutator_gate m) = 3
+area_of (root m q) = 4
+area_of (barrier m slot) = 5
+area_of (flags s) = 6
+area_of (work s slot) = 7
+area_of (ghost sender receiver slot) = 8
+area_of (notice s slot) = 9
+area_of (tablet_gate t) = 10
+area_of (turn t) = 11
+area_of (home t) = 12
+area_of (top t) = 13
+area_of (leaving t) = 14
+area_of (live t) = 15
+area_of (entry x) = 16
+area_of (region_word r word) = 17
 
 -- the index of a place within its area
 abbrev pub offset : Numbers → Place → ℕ
@@ -98,7 +98,7 @@ start n area = sum (take area (sizes n))
 
 -- the index of a place among all words
 unfoldable pub index : Numbers → Place → ℕ
-index n p = start n (rank p) + offset n p
+index n p = start n (area_of p) + offset n p
 
 -- each number of the place is in its range
 abbrev pub Within : Numbers → Place → Type 0

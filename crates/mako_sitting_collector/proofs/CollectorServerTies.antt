@@ -35,9 +35,9 @@ module _ (n : Numbers) (w : Facts) (s : JointScene) (seats : List Seat) (a : All
   abbrev Tied : ℕ → Type 0
   Tied i = ((s.facets.servers i).working ≡ true) ⊎ TakesWord (s.facets.servers i).doing
 
-  tied_at : (i : ℕ) (f : rings.Serving) → s.facets.servers i ≡ f → is_laden f ≡ true → Tied i
+  tied_at : (i : ℕ) (f : rings.ServerFacet) → s.facets.servers i ≡ f → is_laden f ≡ true → Tied i
   tied_at i f same laden =
-      subst (λ (g : rings.Serving). (g.working ≡ true) ⊎ TakesWord g.doing) (sym same)
+      subst (λ (g : rings.ServerFacet). (g.working ≡ true) ⊎ TakesWord g.doing) (sym same)
       (laden_by f.working f.doing laden)
 
   found : (seat i : ℕ) (stage : ServerStage) (ended : ℕ) → i < n.servers

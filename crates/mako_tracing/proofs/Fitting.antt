@@ -255,13 +255,14 @@ module _ (w : Facts) (s : JointScene) (seat : ℕ) (t : TracerView) (ended : ℕ
     source_within : (source : Source) → IsSource shape t.server source → Within shape (slot_of t source)
     source_within Collector is = (
       at.stands.keeps.in_range,
-      (subst (λ (f : rings.Serving). WorkStands shape (word_at shape s.words) t.server s.facets.collector f) at.serves
+      (subst (λ (f : rings.ServerFacet). WorkStands shape (word_at shape s.words) t.server s.facets.collector f)
+          at.serves
           (at.joint.polls.works t.server at.stands.keeps.in_range)).at_below,
     )
     source_within (Server a) is = (
       is.0,
       at.stands.keeps.in_range,
-      (subst (λ (f : rings.Serving). GhostStands shape (word_at shape s.words) a t.server (s.facets.servers a) f)
+      (subst (λ (f : rings.ServerFacet). GhostStands shape (word_at shape s.words) a t.server (s.facets.servers a) f)
           at.serves (at.joint.polls.ghosts a t.server is.0 at.stands.keeps.in_range is.1)).at_below,
     )
 

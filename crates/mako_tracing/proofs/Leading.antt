@@ -10,7 +10,7 @@ use Rattle.mako_words.specs.Names.{name_at}
 use Rattle.mako_words.specs.Values.{value_at}
 use Rattle.mako_shape.specs.declared.numbers.Numbers.{Numbers}
 use Rattle.mako_model.specs.Legal.{Facts}
-use Rattle.mako_ring.specs.Facets.{Serving}
+use Rattle.mako_ring.specs.Facets.{ServerFacet}
 use Rattle.mako_ring.specs.TraceFacets.{empty, nothing, popped, Work, TraceFacet}
 use Rattle.mako_ring.specs.TracerFacets.{work_of}
 use Rattle.mako_ring.specs.Windows.{tail_up, head_up, found_room}
@@ -71,7 +71,8 @@ rest_work t = on t.busy_up
 
 -- ---- the next work takes at most an entry off the stack
 
-module _ (n : Numbers) (w : Facts) (s : JointScene) (seat : ℕ) (words : List ℕ) (f : PhaseFacet) (i : ℕ) (g : Serving)
+module _ (n : Numbers) (w : Facts) (s : JointScene) (seat : ℕ) (words : List ℕ) (f : PhaseFacet) (i : ℕ)
+    (g : ServerFacet)
     (old : TraceFacet) (here : slice_get s.facets.trace seat ≡ Some old) where
   abbrev Has : Work → Type 0
   Has job = Joint n w (scene_of s seat words job f i g)

@@ -105,7 +105,7 @@ module _ (w : Facts) (s : JointScene) (seat : ℕ) (t : TracerView) (ended : ℕ
   pub may_put : (x : Name) → Here (Sending (HeadStore x))
       → MayPut n (word_at n s.words) t.server (serving_of (at_stage t (Sending (HeadStore x)))) (owner n x)
   may_put x at =
-      subst (λ (f : rings.Serving). DoingStands n (word_at n s.words) t.server f f.doing) at.serves
+      subst (λ (f : rings.ServerFacet). DoingStands n (word_at n s.words) t.server f f.doing) at.serves
       (at.joint.polls.doing t.server at.stands.keeps.in_range)
 
   pub store_within : (x : Name) → Here (Sending (HeadStore x)) → Within n (head_slot t x)
@@ -174,7 +174,7 @@ module _ (w : Facts) (s : JointScene) (seat : ℕ) (t : TracerView) (ended : ℕ
       → MayTake n (word_at n s.words) t.server (serving_of (at_stage t (Receiving (SlotClear source x)))) source
       (name_word x)
   may_take source x at =
-      subst (λ (f : rings.Serving). DoingStands n (word_at n s.words) t.server f f.doing) at.serves
+      subst (λ (f : rings.ServerFacet). DoingStands n (word_at n s.words) t.server f f.doing) at.serves
       (at.joint.polls.doing t.server at.stands.keeps.in_range)
 
   pub slot_clear : (source : Source) (x : Name) → Here (Receiving (SlotClear source x))

@@ -11,7 +11,7 @@ use Rattle.mako_model.specs.Heaps.{fields_of}
 use Rattle.mako_model.specs.Legal.{Facts, state_of, IsLegal}
 use Rattle.mako_model.proofs.Closed.{made_are_objects}
 use Rattle.mako_model.proofs.Histories.{legal_prefix}
-use Rattle.mako_ring.specs.Facets.{Doing, resting, sending, storing, taking, clearing, Serving, Scene}
+use Rattle.mako_ring.specs.Facets.{Doing, resting, sending, storing, taking, clearing, ServerFacet, Scene}
 use Rattle.mako_ring.specs.Polling.{DoingStands, MayTake, IsQuietScene, PollingStands}
 use Rattle.mako_ring.specs.TraceFacets as trace
 use Rattle.mako_ring.specs.TraceFacets.{Hand, empty, considering, marking, pushing, Off, nothing, popped, located, Work}
@@ -90,8 +90,8 @@ neither true b e f = absurd (false_true true e refl)
 pub quiet_unladen : QuietServersAreUnladen
 quiet_unladen n s t stands quiet low is =
     neither (serving_of t).working (is_taking (serving_of t).doing)
-    (ap (λ (f : Serving). f.working) (sym is) ∙ quiet.servers t.server low)
-    (ap (λ (f : Serving). is_taking f.doing) (sym is)
+    (ap (λ (f : ServerFacet). f.working) (sym is) ∙ quiet.servers t.server low)
+    (ap (λ (f : ServerFacet). is_taking f.doing) (sym is)
     ∙ not_taking n s stands quiet t.server low (s.server t.server).doing (stands.doing t.server low))
 
 -- ---- a measured record stays so

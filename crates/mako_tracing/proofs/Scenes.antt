@@ -16,7 +16,7 @@ use Rattle.mako_names.specs.Tables.{phase_of}
 use Rattle.mako_names.specs.Uses.{IsUseSlot, IsNamePlace}
 use Rattle.mako_names.proofs.StepsKept.{step_kept, leaves_others}
 use Rattle.mako_names.proofs.Words.{phase_same}
-use Rattle.mako_ring.specs.Facets.{Serving}
+use Rattle.mako_ring.specs.Facets.{ServerFacet}
 use Rattle.mako_ring.specs.Polling.{PollingStands}
 use Rattle.mako_ring.specs.TraceFacets as trace
 use Rattle.mako_ring.specs.TraceFacets.{Work}
@@ -41,7 +41,7 @@ use Rattle.mako_tracing.specs.ServerFacets.{server_serving, IsServerSeat, with_s
 use Rattle.mako_tracing.proofs.Lists.{if_same}
 
 -- the scene with these words, and these facets of a server's seat
-abbrev pub scene_of : JointScene → ℕ → List ℕ → Work → PhaseFacet → ℕ → Serving → JointScene
+abbrev pub scene_of : JointScene → ℕ → List ℕ → Work → PhaseFacet → ℕ → ServerFacet → JointScene
 scene_of s seat words job f i g = record {
   words = words;
   front = s.front;
@@ -150,7 +150,8 @@ tracks_by n w a b (Evac c) goes t = tt
 tracks_by n w a b (Stop c) goes t = tt
 
 module _ (n : Numbers) (w : Facts) (s : JointScene) (j : Joint n w s) (seat : ℕ) where
-  pub assembled : (words : List ℕ) (job : Work) (server ended i : ℕ) (stage : ServerStage) (laden : Bool) (g : Serving)
+  pub assembled : (words : List ℕ) (job : Work) (server ended i : ℕ) (stage : ServerStage) (laden : Bool)
+      (g : ServerFacet)
       → WordsKeep n w s words
       → TracksFit (phase_of n words) n w
       (record { words = words; facets = set s.facets.trace seat (trace.serving job); history = s.front.history })
@@ -176,7 +177,7 @@ module _ (n : Numbers) (w : Facts) (s : JointScene) (j : Joint n w s) (seat : �
 
 -- then the facet of tracing alone changes once more
 module _ (n : Numbers) (w : Facts) (s : JointScene) (seat : ℕ) (words : List ℕ) (job next : Work) (f : PhaseFacet)
-    (i : ℕ) (g : Serving) (old : trace.TraceFacet) (here : slice_get s.facets.trace seat ≡ Some old) where
+    (i : ℕ) (g : ServerFacet) (old : trace.TraceFacet) (here : slice_get s.facets.trace seat ≡ Some old) where
   abbrev mid : JointScene
   mid = scene_of s seat words job f i g
 

@@ -73,7 +73,7 @@ tracer_goes w s seat t ended AtEnd at = absurd at.acts
 
 -- with nothing left it turns again
 returned : (n : Numbers) (w : Facts) (s : JointScene) → Joint n w s → (seat : ℕ) (words : List ℕ) (job : Work)
-    (server d ended i : ℕ) (laden : Bool) (g : rings.Serving) (old : PhaseFacet)
+    (server d ended i : ℕ) (laden : Bool) (g : rings.ServerFacet) (old : PhaseFacet)
     → slice_get s.facets.phases seat ≡ Some old → (¬ IsClearing s.facets.phases seat)
     → Joint n w (scene_of s seat words job (serving server (working d) ended laden) i g)
     → Joint n w (scene_of s seat words job (serving server order.resting ended laden) i g)

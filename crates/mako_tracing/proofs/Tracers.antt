@@ -119,13 +119,13 @@ module _ (w : Facts) (s : JointScene) (seat : ℕ) (t : TracerView) (ended : ℕ
     pub slot_within : (source : Source) → IsSource n t.server source → Within n (slot_of t source)
     slot_within Collector is = (
       at.stands.keeps.in_range,
-      (subst (λ (f : rings.Serving). WorkStands n (word_at n s.words) t.server s.facets.collector f) at.serves
+      (subst (λ (f : rings.ServerFacet). WorkStands n (word_at n s.words) t.server s.facets.collector f) at.serves
           (j.polls.works t.server at.stands.keeps.in_range)).at_below,
     )
     slot_within (Server a) is = (
       is.0,
       at.stands.keeps.in_range,
-      (subst (λ (f : rings.Serving). GhostStands n (word_at n s.words) a t.server (s.facets.servers a) f) at.serves
+      (subst (λ (f : rings.ServerFacet). GhostStands n (word_at n s.words) a t.server (s.facets.servers a) f) at.serves
           (j.polls.ghosts a t.server is.0 at.stands.keeps.in_range is.1)).at_below,
     )
 

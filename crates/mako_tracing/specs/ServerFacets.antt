@@ -32,7 +32,7 @@ abbrev pub server_trace : Serving → TraceFacet
 server_trace v = trace.serving (work_of v.tracer)
 
 -- what rings, flags and polls read of it
-abbrev pub server_serving : Serving → rings.Serving
+abbrev pub server_serving : Serving → rings.ServerFacet
 server_serving v = serving_of v.tracer
 
 -- a slot's word is on its way into its hand
@@ -44,7 +44,7 @@ is_taking (taking source word) = true
 is_taking (clearing source word) = true
 
 -- it has a name, an entry, a scan or a slot's word to work on
-abbrev pub is_laden : rings.Serving → Bool
+abbrev pub is_laden : rings.ServerFacet → Bool
 is_laden f = f.working || is_taking f.doing
 
 abbrev pub tracer_laden : TracerView → Bool
@@ -109,7 +109,7 @@ pub record IsServerSeat (s : JointScene) (seat : ℕ) (v : Serving) : Type 0 whe
   pub serving : s.facets.servers v.tracer.server ≡ server_serving v
 
 -- the facets by server, once those of one are others
-abbrev pub servers_with : (ℕ → rings.Serving) → ℕ → rings.Serving → ℕ → rings.Serving
+abbrev pub servers_with : (ℕ → rings.ServerFacet) → ℕ → rings.ServerFacet → ℕ → rings.ServerFacet
 servers_with servers i f j = if j == i then f else servers j
 
 -- the scene once the words are others, and the seat's facets those of this server
