@@ -64,7 +64,7 @@ either_way true x y f g = f refl
 either_way false x y f g = g refl
 
 -- what tests say
-next_below : (m count : ℕ) → m < count → (m + 1 == count) ≡ false → m + 1 < count
+pub next_below : (m count : ℕ) → m < count → (m + 1 == count) ≡ false → m + 1 < count
 next_below m count h e = grind (arith, nat_tests)
 
 is_below : (a b : ℕ) → nat_lt a b ≡ true → a < b

@@ -1,0 +1,35 @@
+use Rattle.std.proofs.Common.{◌∙◌, sym, subst}
+use Rattle.std.proofs.lemmas.List.{length-set}
+use Rattle.std.proofs.lemmas.List.Elements.{All-set}
+use Rattle.mako_ring.specs.Windows.{IsWindow}
+use Rattle.mako_pause.specs.Collecting.{Holdings}
+use Rattle.mako_pause.proofs.kept.Kept.set_window.Goals as goal
+
+pub invariant_of-self : goal.invariant_of-self
+invariant_of-self c = record {
+  known = record {
+    shape = c.self.invariant.known.shape;
+    cycle = c.self.invariant.known.cycle;
+    pending = c.self.invariant.known.pending;
+    windows_count = length-set c.self.inside.windows.items c.args.server c.args.window ∙ c.self.invariant.known.windows_count;
+    windows = All-set (IsWindow c.self.inside.shape.ring) c.self.inside.windows.items c.args.server c.args.window
+        (subst (λ (k : Holdings). IsWindow k.shape.ring c.args.window) (sym c.self.view_is) c.requires.bounds)
+        c.self.invariant.known.windows;
+    barriers_count = c.self.invariant.known.barriers_count;
+    barriers = c.self.invariant.known.barriers;
+    notices_count = c.self.invariant.known.notices_count;
+    notices = c.self.invariant.known.notices;
+    poll_shape = c.self.invariant.known.poll_shape;
+    poll = c.self.invariant.known.poll;
+    chosen = c.self.invariant.known.chosen;
+    roles = c.self.invariant.known.roles;
+    lists = c.self.invariant.known.lists;
+    lists_room = c.self.invariant.known.lists_room;
+    names = c.self.invariant.known.names;
+  };
+  pending_room = c.self.invariant.pending_room;
+  used_room = c.self.invariant.used_room;
+  chosen_room = c.self.invariant.chosen_room;
+  freed_room = c.self.invariant.freed_room;
+  chooser_room = c.self.invariant.chooser_room;
+}
