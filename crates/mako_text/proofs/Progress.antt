@@ -1,12 +1,12 @@
 -- Writing a text piece by piece.
-use Rattle.std.proofs.Common.{◌≡◌, ℕ, suc, ◌+◌, ◌-◌, ◌^◌, ◌<◌, ◌≤◌, min, List, [], ◌∷◌, ◌++◌, length, take, drop}
+use Rattle.std.proofs.Common.{◌≡◌, ℕ, suc, ◌+◌, ◌-◌, ◌<◌, ◌≤◌, List, [], ◌∷◌, ◌++◌, length, take, drop}
 use Rattle.std.proofs.Common.{get_or, map, Option, Some, Result, Ok, Err, refl, sym, ap, subst, ◌∙◌, append_assoc}
 use Rattle.std.proofs.Common.{arith, length-append}
 use Rattle.std.proofs.lemmas.List.{append-nil, take-append-le, drop_more, drop_all, length-map}
 use Rattle.std.specs.Io.KnownBytes.{Appends}
 use Rattle.std.proofs.KnownBytes.{Appends-trans, Appends-nil}
 use Rattle.std.specs.List.{flat_map, enumerate_from, range_with_len}
-use Rattle.std.specs.Prelude.{slice_get}
+use Rattle.std.specs.Prelude.{slice_get, OnOk, IfErr}
 use Rattle.mako_words.specs.declared.name.Name.{Name}
 use Rattle.mako_model.specs.declared.point.Point.{Point}
 use mathlib.Core.List.{IsPrefix}
@@ -18,28 +18,30 @@ use Rattle.std.proofs.lemmas.Option.{get_or_from_slice_get, slice_get-get_or}
 use Rattle.mako_io.specs.declared.writing.WriteFault.{WriteFault}
 use Rattle.mako_model.specs.declared.call.Call.{Call}
 use Rattle.mako_model.specs.declared.reply.Reply.{Reply}
+use Rattle.mako_text.specs.declared.writer.OutputWriter.{OutputWriter}
 use Rattle.mako_text.specs.Outputs.{WentOut, point_text, cycle_text, mutator_line, mutator_text}
-use Rattle.mako_text.specs.Written.{Writes, lines_text, sections_text, FitPrograms}
+use Rattle.mako_text.specs.Written.{Writes, raised_by, lines_text, sections_text, FitPrograms}
 
 -- a prefix of the text went out, and this part of it is still to go
-pub record Progress (text todo : List ℕ) (old now : Option (List ℕ)) (before went : ℕ) : Type 0 where
+pub record Progress {K : Type 0} (taken : K → Option (List ℕ)) (text todo : List ℕ) (old now : OutputWriter K)
+    : Type 0 where
   pub front : List ℕ
   pub parts : front ++ todo ≡ text
-  pub taken : Appends old now front
-  pub counted : went ≡ min (before + length front) (2 ^ 64 - 1)
+  pub sent : Appends (taken old.sink.now) (taken now.sink.now) front
+  pub counted : now.went ≡ raised_by old.went (length front)
 
-pub starts : (text : List ℕ) (old : Option (List ℕ)) (before : ℕ) → before < 2 ^ 64
-    → Progress text text old old before before
-starts text old before small = record { front = []; parts = refl; taken = Appends-nil old; counted = omega arith }
+pub starts : {K : Type 0} (taken : K → Option (List ℕ)) (text : List ℕ) (w : OutputWriter K)
+    → Progress taken text text w w
+starts taken text w = record { front = []; parts = refl; sent = Appends-nil (taken w.sink.now); counted = omega arith }
 
-pub goes_on : (text todo piece rest : List ℕ) (old mid new : Option (List ℕ)) (before went now : ℕ)
-    → Progress text todo old mid before went → todo ≡ piece ++ rest
-    → Appends mid new piece → now ≡ min (went + length piece) (2 ^ 64 - 1) → Progress text rest old new before now
-goes_on text todo piece rest old mid new before went now p split taken counted = record {
+pub goes_on : {K : Type 0} (taken : K → Option (List ℕ)) (text todo piece rest : List ℕ) (old mid new : OutputWriter K)
+    → Progress taken text todo old mid → todo ≡ piece ++ rest → Writes taken piece mid new (Ok tt)
+    → Progress taken text rest old new
+goes_on taken text todo piece rest old mid new p split w = record {
   front = p.front ++ piece;
   parts = append_assoc p.front piece rest ∙ ap (λ (x : List ℕ). p.front ++ x) (sym split) ∙ p.parts;
-  taken = Appends-trans old mid new p.front piece p.taken taken;
-  counted = omega (arith, p.counted, counted, length-append p.front piece);
+  sent = Appends-trans (taken old.sink.now) (taken mid.sink.now) (taken new.sink.now) p.front piece p.sent w.0;
+  counted = omega (arith, p.counted, w.1, length-append p.front piece);
 }
 
 take_behind : (front piece rest : List ℕ) (k : ℕ) → k ≤ length piece
@@ -48,43 +50,62 @@ take_behind [] piece rest k short = let e : 0 + k ≡ k = omega arith in rw e (t
 take_behind (x ∷ front) piece rest k short = let e : length (x ∷ front) + k ≡ suc (length front + k) = omega arith in
     rw e (ap (λ (t : List ℕ). x ∷ t) (take_behind front piece rest k short))
 
-pub stops : (text todo piece rest : List ℕ) (old mid new : Option (List ℕ)) (before went now : ℕ)
-    → Progress text todo old mid before went → todo ≡ piece ++ rest
-    → WentOut piece mid new went now → WentOut text old new before now
-stops text todo piece rest old mid new before went now p split w =
+pub stops : {K : Type 0} (taken : K → Option (List ℕ)) (text todo piece rest : List ℕ) (old mid new : OutputWriter K)
+    (fault : WriteFault) → Progress taken text todo old mid → todo ≡ piece ++ rest
+    → Writes taken piece mid new (Err fault) → Writes taken text old new (Err fault)
+stops taken text todo piece rest old mid new fault p split w =
     let whole : text ≡ p.front ++ (piece ++ rest) = sym p.parts ∙ ap (λ (x : List ℕ). p.front ++ x) split in
-    record {
-      bytes = length p.front + w.bytes;
-      short = omega (arith, ap length whole, length-append p.front (piece ++ rest), length-append piece rest, w.short);
-      taken = rw (whole, take_behind p.front piece rest w.bytes (omega (arith, w.short)))
-          (Appends-trans old mid new p.front (take w.bytes piece) p.taken w.taken);
-      counted = omega (arith, p.counted, w.counted);
-    }
+    let out = w.0 in (
+      record {
+        bytes = length p.front + out.bytes;
+        short = omega
+            (arith, ap length whole, length-append p.front (piece ++ rest), length-append piece rest, out.short);
+        taken = rw (whole, take_behind p.front piece rest out.bytes (omega (arith, out.short)))
+            (Appends-trans (taken old.sink.now) (taken mid.sink.now) (taken new.sink.now) p.front
+            (take out.bytes piece) p.sent out.taken);
+        counted = omega (arith, p.counted, out.counted);
+      },
+      w.1,
+    )
 
-pub done : (text : List ℕ) (old new : Option (List ℕ)) (before went : ℕ) → Progress text [] old new before went
-    → Writes text old new before (Ok went)
-done text old new before went p =
-    let whole : p.front ≡ text = sym (append-nil p.front) ∙ p.parts in
-    (subst (Appends old new) whole p.taken, omega (arith, p.counted, ap length whole))
+pub done : {K : Type 0} (taken : K → Option (List ℕ)) (text todo : List ℕ) (old new : OutputWriter K) → todo ≡ []
+    → Progress taken text todo old new → Writes taken text old new (Ok tt)
+done taken text todo old new none p =
+    let whole : p.front ≡ text = sym (append-nil p.front) ∙ ap (λ (x : List ℕ). p.front ++ x) (sym none) ∙ p.parts in (
+      subst (Appends (taken old.sink.now) (taken new.sink.now)) whole p.sent,
+      omega (arith, p.counted, ap length whole),
+    )
 
 -- one piece and another
-pub both : (a b : List ℕ) (old mid new : Option (List ℕ)) (before went : ℕ) (r : Result ℕ WriteFault) → before < 2 ^ 64
-    → Appends old mid a → went ≡ min (before + length a) (2 ^ 64 - 1)
-    → Writes b mid new went r → Writes (a ++ b) old new before r
-both a b old mid new before went (Ok now) small taken counted w =
-    done (a ++ b) old new before now
-    (goes_on (a ++ b) b b [] old mid new before went now
-    (goes_on (a ++ b) (a ++ b) a b old old mid before before went
-    (starts (a ++ b) old before small) refl taken counted) (sym (append-nil b)) w.0 w.1)
-both a b old mid new before went (Err fault) small taken counted w =
-    stops (a ++ b) b b [] old mid new before went fault.went
-    (goes_on (a ++ b) (a ++ b) a b old old mid before before went
-    (starts (a ++ b) old before small) refl taken counted) (sym (append-nil b)) w
+pub both : {K : Type 0} (taken : K → Option (List ℕ)) (a b : List ℕ) (old mid new : OutputWriter K)
+    (r : Result (Unit {0}) WriteFault) → Writes taken a old mid (Ok tt) → Writes taken b mid new r
+    → Writes taken (a ++ b) old new r
+both taken a b old mid new (Ok x) v w =
+    done taken (a ++ b) [] old new refl
+    (goes_on taken (a ++ b) b b [] old mid new
+    (goes_on taken (a ++ b) (a ++ b) a b old old mid (starts taken (a ++ b) old) refl v) (sym (append-nil b)) w)
+both taken a b old mid new (Err fault) v w =
+    stops taken (a ++ b) b b [] old mid new fault
+    (goes_on taken (a ++ b) (a ++ b) a b old old mid (starts taken (a ++ b) old) refl v) (sym (append-nil b)) w
 
-pub first : (a b : List ℕ) (old new : Option (List ℕ)) (before went : ℕ) → before < 2 ^ 64
-    → WentOut a old new before went → WentOut (a ++ b) old new before went
-first a b old new before went small w =
-    stops (a ++ b) (a ++ b) a b old old new before before went (starts (a ++ b) old before small) refl w
+pub first : {K : Type 0} (taken : K → Option (List ℕ)) (a b : List ℕ) (old new : OutputWriter K) (fault : WriteFault)
+    → Writes taken a old new (Err fault) → Writes taken (a ++ b) old new (Err fault)
+first taken a b old new fault w =
+    stops taken (a ++ b) (a ++ b) a b old old new fault (starts taken (a ++ b) old) refl w
+
+-- what a new writer wrote, the sink took
+pub sink_took : {K : Type 0} (taken : K → Option (List ℕ)) (text : List ℕ) (old new : OutputWriter K) (start end : K)
+    (r : Result (Unit {0}) WriteFault) → old.sink.now ≡ start → end ≡ new.sink.now → Writes taken text old new r
+    → OnOk r (Appends (taken start) (taken end) text)
+sink_took taken text old new start end (Ok x) kept ends w = rw (← kept, ends) w.0
+sink_took taken text old new start end (Err fault) kept ends w = tt
+
+pub sink_stopped : {K : Type 0} (taken : K → Option (List ℕ)) (text : List ℕ) (old new : OutputWriter K)
+    (start end : K) (r : Result (Unit {0}) WriteFault) → old.sink.now ≡ start → old.went ≡ 0 → end ≡ new.sink.now
+    → Writes taken text old new r → IfErr r (λ fault. WentOut text (taken start) (taken end) 0 fault.went)
+sink_stopped taken text old new start end (Ok x) kept none ends w = tt
+sink_stopped taken text old new start end (Err fault) kept none ends w =
+    subst (λ (n : ℕ). WentOut text (taken start) (taken end) n fault.went) none (rw (← kept, ends) w.0)
 
 -- the next line, and the lines behind it
 pub lines_more : (calls : List Call) (replies : List Reply) (i : ℕ) (c : Call) (r : Reply) → i < length calls

@@ -1,17 +1,25 @@
 -- What a writer of a part of the output did.
-use Rattle.std.specs.Prelude.{◌≡◌, ℕ, ◌+◌, ◌-◌, ◌^◌, ◌<◌, ◌≤◌, slice_index_or, min, List, [], ◌∷◌, ◌++◌, length, Result}
-use Rattle.std.specs.Prelude.{Ok, Err}
+use Rattle.std.specs.Prelude.{◌≡◌, ℕ, ◌+◌, ◌-◌, ◌^◌, ◌<◌, ◌≤◌, slice_index_or, min, max, List, [], ◌∷◌, ◌++◌, length}
+use Rattle.std.specs.Prelude.{Result, Ok, Err}
 use Rattle.std.specs.declared.option.Option.{Option}
 use Rattle.std.specs.Io.KnownBytes.{Appends}
 use Rattle.mako_io.specs.declared.writing.WriteFault.{WriteFault}
 use Rattle.mako_model.specs.declared.call.Call.{Call}
 use Rattle.mako_model.specs.declared.reply.Reply.{Reply}
+use Rattle.mako_text.specs.declared.writer.OutputWriter.{OutputWriter}
 use Rattle.mako_text.specs.Outputs.{WentOut, point_text, mutator_line}
 
--- the whole text went out and is counted, or only a prefix of it
-abbrev pub Writes : List ℕ → Option (List ℕ) → Option (List ℕ) → ℕ → Result ℕ WriteFault → Type 0
-Writes text old new before (Ok now) = Appends old new text × (now ≡ min (before + length text) (2 ^ 64 - 1))
-Writes text old new before (Err fault) = WentOut text old new before fault.went
+-- a count with so many more, up to the greatest number
+abbrev pub raised_by : ℕ → ℕ → ℕ
+raised_by count more = max count (min (count + more) (2 ^ 64 - 1))
+
+-- the whole text went out and the writer counts it, or only a prefix of it, which the writer counts as the fault does
+abbrev pub Writes : {K : Type 0} → (K → Option (List ℕ)) → List ℕ → OutputWriter K → OutputWriter K
+    → Result (Unit {0}) WriteFault → Type 0
+Writes taken text old new (Ok done) =
+    Appends (taken old.sink.now) (taken new.sink.now) text × (new.went ≡ raised_by old.went (length text))
+Writes taken text old new (Err fault) =
+    WentOut text (taken old.sink.now) (taken new.sink.now) old.went fault.went × (new.went ≡ fault.went)
 
 -- the lines of calls with their replies, as far as there are replies
 abbrev pub lines_text : List Call → List Reply → List ℕ

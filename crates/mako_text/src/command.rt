@@ -7,6 +7,7 @@ ghost use Rattle.mako_text.specs.Commands.{FitCall, call_of, command_of, defines
 use arrayvec::ArrayVec;
 use mako_model::Call;
 
+/// A command of a script: its line stands for one call of a mutator.
 #[derive(Clone, Copy)]
 pub enum Command {
     New,
@@ -77,6 +78,7 @@ impl Command {
         }
     }
 
+    /// The word that begins its line.
     pub fn word(self) -> &'static [u8]
         ensures word { result.now ≡ word_of self }
         ensures short { length result.now ≤ 7 }

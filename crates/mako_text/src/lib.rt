@@ -4,11 +4,13 @@
 pub mod command;
 pub mod keys;
 pub mod line;
+mod lines;
 mod output;
 mod printing;
 mod program;
 mod script;
 pub mod text;
+mod writer;
 
 pub use line::Line;
 pub use output::write_output;

@@ -5,7 +5,7 @@ ghost use Rattle.std.specs.Io.KnownBytes.{Appends};
 ghost use Rattle.mako_io.specs.Causes.{Rose};
 ghost use Rattle.mako_text.specs.Outputs.{WentOut};
 
-use crate::output::write_piece;
+use crate::writer::OutputWriter;
 use mako_io::{Sink, WriteFault};
 
 /// The place of the first such byte.
@@ -35,11 +35,11 @@ pub fn write_text<K: Sink>(sink: &mut K, text: &[u8]) -> Result<(), WriteFault>
     ensures fault { OnErr result (Rose (K.faults sink.old) (K.faults sink.new)) }
     ensures counted { K.faults sink.old ≤ K.faults sink.new }
 {
-    let mut went = 0;
+    let mut writer = OutputWriter::new(sink);
     let mut rest = text;
     'lines: while !rest.is_empty() {
         let (line, after) = first_line(rest);
-        went = write_piece(sink, went, line)?;
+        writer.piece(line)?;
         rest = after;
     }
     Ok(())

@@ -1,4 +1,4 @@
-use Rattle.std.proofs.Common.{◌≡◌, ◌++◌, List, ℕ, length, map, ap, ◌∙◌, arith, Ok, Err, Vec, Global}
+use Rattle.std.proofs.Common.{rules, ◌≡◌, ◌++◌, List, ℕ, length, map, ap, ◌∙◌, Ok, Err, Vec, Global}
 use Rattle.std.specs.List.{flat_map, range_with_len, enumerate_from}
 use Rattle.std.proofs.lemmas.Result.{err_from_is_err_and}
 use Rattle.mako_model.specs.declared.reply.Reply.{Reply}
@@ -6,7 +6,7 @@ use Rattle.mako_text.specs.Programs.{ProgramView}
 use Rattle.mako_text.specs.Scripts.{ScriptView}
 use Rattle.mako_text.specs.Outputs.{mutator_text, cycle_text, last_line}
 use Rattle.mako_text.specs.Written.{sections_text}
-use Rattle.mako_text.proofs.Progress.{both, first, output_sections}
+use Rattle.mako_text.proofs.Progress.{both, first, sink_took, sink_stopped, output_sections}
 use Rattle.mako_text.proofs.output.write_output.Goals as goal
 
 pub returns-in_err-sections-clause-went : goal.returns-in_err-sections-clause-went
@@ -23,8 +23,12 @@ returns-in_err-sections-clause-went g c =
     rw (same_programs, c.deref-2.ensures.value)
     (output_sections programs o c.requires.whole c.requires.lists c.requires.follows) in
     let s = rw sections_is at c.in_err-sections.ensures.written in
-    rw (p.1, p.2) (first (sections ++ cycles) (last_line c.args.finished) _ _ _ _ (omega arith)
-    (first sections cycles _ _ _ _ (omega arith) s))
+    let fault = c.in_err-sections.field-0.0 in
+    let last = last_line c.args.finished in
+    let two = first g.K.Sink.taken sections cycles c.new-writer.result c.sections.new.self fault s in
+    let written = first g.K.Sink.taken (sections ++ cycles) last c.new-writer.result c.sections.new.self fault two in
+    rw (p.1, p.2) (sink_stopped g.K.Sink.taken (sections ++ cycles ++ last) c.new-writer.result c.sections.new.self _ _
+    (Err fault) c.new-writer.ensures.kept c.new-writer.ensures.none (search rules) written)
 
 pub returns-in_err-cycles-clause-went : goal.returns-in_err-cycles-clause-went
 returns-in_err-cycles-clause-went g c =
@@ -41,11 +45,16 @@ returns-in_err-cycles-clause-went g c =
     (output_sections programs o c.requires.whole c.requires.lists c.requires.follows) in
     let s = rw sections_is at c.in_ok-sections.ensures.written in
     let t = rw c.requires.freed at c.in_err-cycles.ensures.written in
-    rw (p.1, p.2) (first (sections ++ cycles) (last_line c.args.finished) _ _ _ _ (omega arith)
-    (both sections cycles _ _ _ _ _ (Err c.in_err-cycles.field-0.0) (omega arith) s.0 s.1 t))
+    let fault = c.in_err-cycles.field-0.0 in
+    let last = last_line c.args.finished in
+    let two = both g.K.Sink.taken sections cycles c.new-writer.result c.sections.new.self c.cycles.new.self (Err fault)
+    s t in
+    let written = first g.K.Sink.taken (sections ++ cycles) last c.new-writer.result c.cycles.new.self fault two in
+    rw (p.1, p.2) (sink_stopped g.K.Sink.taken (sections ++ cycles ++ last) c.new-writer.result c.cycles.new.self _ _
+    (Err fault) c.new-writer.ensures.kept c.new-writer.ensures.none (search rules) written)
 
-pub returns-in-Ok-clause-written : goal.returns-in-Ok-clause-written
-returns-in-Ok-clause-written g c =
+pub returns-clause-written : goal.returns-clause-written
+returns-clause-written g c =
     let o = c.args.outcome.now in
     let programs = c.args.script.now.programs in
     let same_programs : c.deref.result.now ≡ programs = c.deref.ensures.value
@@ -58,12 +67,17 @@ returns-in-Ok-clause-written g c =
     (output_sections programs o c.requires.whole c.requires.lists c.requires.follows) in
     let s = rw sections_is at c.in_ok-sections.ensures.written in
     let t = rw c.requires.freed at c.in_ok-cycles.ensures.written in
-    let two = both sections cycles _ _ _ _ _ (Ok c.in_ok-cycles.cycles) (omega arith) s.0 s.1 t in
-    let l = rw c.last_bytes.ensures at c.in-Ok.ensures.written in
-    (both (sections ++ cycles) (last_line c.args.finished) _ _ _ _ _ (Ok c.in-Ok.field-0) (omega arith) two.0 two.1 l).0
+    let l = rw c.last_bytes.ensures at c.piece.ensures.written in
+    let last = last_line c.args.finished in
+    let two = both g.K.Sink.taken sections cycles c.new-writer.result c.sections.new.self c.cycles.new.self
+    (Ok c.in_ok-cycles.field-0) s t in
+    let written = both g.K.Sink.taken (sections ++ cycles) last c.new-writer.result c.cycles.new.self c.piece.new.self
+    c.piece.result two l in
+    sink_took g.K.Sink.taken (sections ++ cycles ++ last) c.new-writer.result c.piece.new.self _ _ c.piece.result
+    c.new-writer.ensures.kept (search rules) written
 
-pub returns-in-Err-clause-went : goal.returns-in-Err-clause-went
-returns-in-Err-clause-went g c =
+pub returns-clause-went : goal.returns-clause-went
+returns-clause-went g c =
     let o = c.args.outcome.now in
     let programs = c.args.script.now.programs in
     let same_programs : c.deref.result.now ≡ programs = c.deref.ensures.value
@@ -76,6 +90,11 @@ returns-in-Err-clause-went g c =
     (output_sections programs o c.requires.whole c.requires.lists c.requires.follows) in
     let s = rw sections_is at c.in_ok-sections.ensures.written in
     let t = rw c.requires.freed at c.in_ok-cycles.ensures.written in
-    let two = both sections cycles _ _ _ _ _ (Ok c.in_ok-cycles.cycles) (omega arith) s.0 s.1 t in
-    let l = rw c.last_bytes.ensures at c.in-Err.ensures.written in
-    both (sections ++ cycles) (last_line c.args.finished) _ _ _ _ _ (Err c.in-Err.fault) (omega arith) two.0 two.1 l
+    let l = rw c.last_bytes.ensures at c.piece.ensures.written in
+    let last = last_line c.args.finished in
+    let two = both g.K.Sink.taken sections cycles c.new-writer.result c.sections.new.self c.cycles.new.self
+    (Ok c.in_ok-cycles.field-0) s t in
+    let written = both g.K.Sink.taken (sections ++ cycles) last c.new-writer.result c.cycles.new.self c.piece.new.self
+    c.piece.result two l in
+    sink_stopped g.K.Sink.taken (sections ++ cycles ++ last) c.new-writer.result c.piece.new.self _ _ c.piece.result
+    c.new-writer.ensures.kept c.new-writer.ensures.none (search rules) written

@@ -1,15 +1,15 @@
-use Rattle.std.proofs.Common.{◌≡◌, ◌++◌, [], List, ℕ, map, get_or, ap, sym, ◌∙◌, subst, arith, Vec, Global}
+use Rattle.std.proofs.Common.{◌≡◌, ◌++◌, [], map, get_or, refl, ap, sym, ◌∙◌, arith, Vec, Global}
 use Rattle.std.proofs.lemmas.Result.{err_from_is_err_and}
 use Rattle.std.proofs.lemmas.List.{get_or-map, length-map}
 use Rattle.mako_model.specs.declared.reply.Reply.{Reply}
 use Rattle.mako_text.specs.Programs.{ProgramView}
 use Rattle.mako_text.specs.Outputs.{mutator_line}
-use Rattle.mako_text.specs.Written.{sections_text, lines_text}
-use Rattle.mako_text.proofs.Progress.{Progress, goes_on, stops, done, sections_more, sections_none}
-use Rattle.mako_text.proofs.output.write_sections.Goals as goal
+use Rattle.mako_text.specs.Written.{lines_text}
+use Rattle.mako_text.proofs.Progress.{starts, goes_on, stops, done, sections_more, sections_none}
+use Rattle.mako_text.proofs.writer.OutputWriter.sections.Goals as goal
 
-pub write_section-requires : goal.write_section-requires
-write_section-requires g c =
+pub section-requires : goal.section-requires
+section-requires g c =
     let programs = c.args.programs.now in
     let lists = c.args.lists.now in
     let calls_at : c.deref.result.now ≡ get_or (map (λ (p : ProgramView). p.calls) programs) c.loop-m.m [] =
@@ -25,8 +25,11 @@ write_section-requires g c =
     rw (calls_at, replies_at)
     (c.requires.fit c.loop-m.m (omega (arith, length-map lists (λ (v : Vec Reply Global). v.items))))
 
-pub returns-in_err-went-clause-written : goal.returns-in_err-went-clause-written
-returns-in_err-went-clause-written g c =
+pub loop-m-init : goal.loop-m-init
+loop-m-init g c = record { progress = starts _ _ _; counted = omega arith; same_sink = refl }
+
+pub returns-in_err-section-clause-written : goal.returns-in_err-section-clause-written
+returns-in_err-section-clause-written g c =
     let p = err_from_is_err_and c.from_residual.result c.from_residual.ensures.1 in
     let programs = c.args.programs.now in
     let lists = c.args.lists.now in
@@ -45,9 +48,9 @@ returns-in_err-went-clause-written g c =
     (omega (arith, c.requires.same, length-map programs (λ (p : ProgramView). p.calls)))
     (omega (arith, length-map lists (λ (v : Vec Reply Global). v.items))) in
     let split = rw (← calls_at, ← replies_at) at more in
-    rw (p.1, p.2) (stops _ _
-    (mutator_line c.loop-m.m ++ lines_text c.deref.result.now c.deref-in-loop-m.result.now) _ _ _ _ _ _ _
-    c.loop-m.invariant.0 split c.in_err-went.ensures.written)
+    let piece = mutator_line c.loop-m.m ++ lines_text c.deref.result.now c.deref-in-loop-m.result.now in
+    rw (p.1, p.2) (stops g.K.Sink.taken _ _ piece _ c.args.self.now c.loop-m.self c.section.new.self
+    c.in_err-section.field-0.0 c.loop-m.invariant.progress split c.in_err-section.ensures.written)
 
 pub loop-m-preserved : goal.loop-m-preserved
 loop-m-preserved g c =
@@ -67,20 +70,19 @@ loop-m-preserved g c =
     (map (λ (v : Vec Reply Global). v.items) lists) c.loop-m.m [] []
     (omega (arith, c.requires.same, length-map programs (λ (p : ProgramView). p.calls)))
     (omega (arith, length-map lists (λ (v : Vec Reply Global). v.items))) in
-    let split = rw (← calls_at, ← replies_at) at more in (
-      goes_on _ _ (mutator_line c.loop-m.m ++ lines_text c.deref.result.now c.deref-in-loop-m.result.now) _ _ _ _ _ _ _
-          c.loop-m.invariant.0 split c.in_ok-went.ensures.written.0 c.in_ok-went.ensures.written.1,
-      omega (arith, c.in_ok-went.ensures.counted, c.loop-m.invariant.1),
-    )
+    let split = rw (← calls_at, ← replies_at) at more in
+    let piece = mutator_line c.loop-m.m ++ lines_text c.deref.result.now c.deref-in-loop-m.result.now in record {
+      progress = goes_on g.K.Sink.taken _ _ piece _ c.args.self.now c.loop-m.self c.section.new.self
+          c.loop-m.invariant.progress split c.in_ok-section.ensures.written;
+      counted = omega (arith, c.in_ok-section.ensures.counted, c.loop-m.invariant.counted);
+      same_sink = c.in_ok-section.ensures.same_sink ∙ c.loop-m.invariant.same_sink;
+    }
 
 pub returns-clause-written : goal.returns-clause-written
 returns-clause-written g c =
-    let programs = c.args.programs.now in
     let lists = c.args.lists.now in
-    let none = sections_none (map (λ (p : ProgramView). p.calls) programs)
+    done g.K.Sink.taken _ _ c.args.self.now c.loop-m.self
+    (sections_none (map (λ (p : ProgramView). p.calls) c.args.programs.now)
     (map (λ (v : Vec Reply Global). v.items) lists) c.loop-m.m
-    (omega (arith, length-map lists (λ (v : Vec Reply Global). v.items), c.loop-m-test.false)) in
-    done _ _ _ _ _ (subst
-    (λ (t : List ℕ). Progress
-    (sections_text 0 (map (λ (p : ProgramView). p.calls) programs) (map (λ (v : Vec Reply Global). v.items) lists))
-    t (g.K.Sink.taken c.args.sink.now) (g.K.Sink.taken c.loop-m.sink) 0 c.loop-m.went) none c.loop-m.invariant.0)
+    (omega (arith, length-map lists (λ (v : Vec Reply Global). v.items), c.loop-m-test.false)))
+    c.loop-m.invariant.progress
