@@ -1,10 +1,6 @@
-//! Tests of the commands and of counts. They stand here so that the crates below are proved once, and not once more
-//! with their tests.
+//! Tests of the commands that replay scripts, and of words that are no command. They stand here so that the crates below
+//! are proved once, and not once more with their tests.
 #![tactic(auto)]
 
 #[cfg(test)]
 mod commands;
-#[cfg(test)]
-mod counts;
-#[cfg(test)]
-mod small_counts;
