@@ -7,24 +7,12 @@ ghost use Rattle.mako_shape.specs.Starting.{starts_of};
 
 use crate::numbers::Numbers;
 
-/// The index of the first word of each area, from that of the roots on.
+/// The index of the first word of the areas that are read and written most, and the words of all areas.
 #[derive(Clone, Copy, Debug, PartialEq, Eq)]
 pub(crate) struct Starts {
-    pub(crate) roots: u32,
-    pub(crate) barriers: u32,
-    pub(crate) flags: u32,
-    pub(crate) works: u32,
-    pub(crate) ghosts: u32,
-    pub(crate) notices: u32,
     pub(crate) tablet_gates: u32,
-    pub(crate) turns: u32,
-    pub(crate) homes: u32,
-    pub(crate) tops: u32,
-    pub(crate) leavings: u32,
-    pub(crate) lives: u32,
     pub(crate) entries: u32,
     pub(crate) regions: u32,
-    /// The words of all areas.
     pub(crate) all_words: u32,
 }
 
@@ -102,46 +90,12 @@ impl Numbers {
         self.notices_start() + self.servers * self.ring
     }
 
-    pub(crate) fn turns_start(self) -> u32
-        requires { AllInRange self }
-        ensures { result ≡ start self 11 }
-    {
-        self.tablet_gates_start() + self.all_tablets()
-    }
-
-    pub(crate) fn homes_start(self) -> u32
-        requires { AllInRange self }
-        ensures { result ≡ start self 12 }
-    {
-        self.turns_start() + self.all_tablets()
-    }
-
-    pub(crate) fn tops_start(self) -> u32
-        requires { AllInRange self }
-        ensures { result ≡ start self 13 }
-    {
-        self.homes_start() + self.all_tablets()
-    }
-
-    pub(crate) fn leavings_start(self) -> u32
-        requires { AllInRange self }
-        ensures { result ≡ start self 14 }
-    {
-        self.tops_start() + self.all_tablets()
-    }
-
-    pub(crate) fn lives_start(self) -> u32
-        requires { AllInRange self }
-        ensures { result ≡ start self 15 }
-    {
-        self.leavings_start() + self.all_tablets()
-    }
-
+    /// Where the entries start, after six areas with a word for each tablet.
     pub(crate) fn entries_start(self) -> u32
         requires { AllInRange self }
         ensures { result ≡ start self 16 }
     {
-        self.lives_start() + self.all_tablets()
+        self.tablet_gates_start() + 6 * self.all_tablets()
     }
 
     pub(crate) fn regions_start(self) -> u32
@@ -159,24 +113,13 @@ impl Numbers {
         self.regions_start() + self.servers * (self.tablets + self.spare) * self.words
     }
 
-    /// Where all areas start.
+    /// Where the areas start that are read and written most.
     pub(crate) fn starts(self) -> Starts
         requires { AllInRange self }
         ensures { result ≡ starts_of self }
     {
         Starts {
-            roots: self.roots_start(),
-            barriers: self.barriers_start(),
-            flags: self.flags_start(),
-            works: self.works_start(),
-            ghosts: self.ghosts_start(),
-            notices: self.notices_start(),
             tablet_gates: self.tablet_gates_start(),
-            turns: self.turns_start(),
-            homes: self.homes_start(),
-            tops: self.tops_start(),
-            leavings: self.leavings_start(),
-            lives: self.lives_start(),
             entries: self.entries_start(),
             regions: self.regions_start(),
             all_words: self.all_words(),

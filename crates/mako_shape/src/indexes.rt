@@ -55,7 +55,7 @@ impl Shape {
         ensures below { result < total self.now }
     {
         let numbers = self.numbers();
-        self.starts.roots + mutator * numbers.roots + number
+        numbers.roots_start() + mutator * numbers.roots + number
     }
 
     /// The index of a slot of a mutator's barrier ring.
@@ -65,7 +65,7 @@ impl Shape {
         ensures below { result < total self.now }
     {
         let numbers = self.numbers();
-        self.starts.barriers + mutator * numbers.ring + slot
+        numbers.barriers_start() + mutator * numbers.ring + slot
     }
 
     /// The index of a server's flags.
@@ -74,7 +74,7 @@ impl Shape {
         ensures index { result ≡ index self.now (places.flags server) }
         ensures below { result < total self.now }
     {
-        self.starts.flags + server
+        self.numbers().flags_start() + server
     }
 
     /// The index of a slot of a server's work ring.
@@ -84,7 +84,7 @@ impl Shape {
         ensures below { result < total self.now }
     {
         let numbers = self.numbers();
-        self.starts.works + server * numbers.ring + slot
+        numbers.works_start() + server * numbers.ring + slot
     }
 
     /// The index of a slot of the ghost ring from one server to another.
@@ -94,7 +94,7 @@ impl Shape {
         ensures below { result < total self.now }
     {
         let numbers = self.numbers();
-        self.starts.ghosts + (sender * numbers.servers + receiver) * numbers.ring + slot
+        numbers.ghosts_start() + (sender * numbers.servers + receiver) * numbers.ring + slot
     }
 
     /// The index of a slot of a server's notice ring.
@@ -104,7 +104,7 @@ impl Shape {
         ensures below { result < total self.now }
     {
         let numbers = self.numbers();
-        self.starts.notices + server * numbers.ring + slot
+        numbers.notices_start() + server * numbers.ring + slot
     }
 
     /// The index of a tablet's gate.
@@ -122,7 +122,7 @@ impl Shape {
         ensures index { result ≡ index self.now (places.turn tablet) }
         ensures below { result < total self.now }
     {
-        self.starts.turns + tablet
+        self.starts.tablet_gates + self.numbers().all_tablets() + tablet
     }
 
     /// The index of the word that holds a tablet's home region.
@@ -131,7 +131,7 @@ impl Shape {
         ensures index { result ≡ index self.now (places.home tablet) }
         ensures below { result < total self.now }
     {
-        self.starts.homes + tablet
+        self.starts.tablet_gates + 2 * self.numbers().all_tablets() + tablet
     }
 
     /// The index of the word that holds how many words of its home a tablet uses.
@@ -140,7 +140,7 @@ impl Shape {
         ensures index { result ≡ index self.now (places.top tablet) }
         ensures below { result < total self.now }
     {
-        self.starts.tops + tablet
+        self.starts.tablet_gates + 3 * self.numbers().all_tablets() + tablet
     }
 
     /// The index of the word that holds the region that a tablet leaves.
@@ -149,7 +149,7 @@ impl Shape {
         ensures index { result ≡ index self.now (places.leaving tablet) }
         ensures below { result < total self.now }
     {
-        self.starts.leavings + tablet
+        self.starts.tablet_gates + 4 * self.numbers().all_tablets() + tablet
     }
 
     /// The index of the word that holds a tablet's count of live words.
@@ -158,7 +158,7 @@ impl Shape {
         ensures index { result ≡ index self.now (places.live tablet) }
         ensures below { result < total self.now }
     {
-        self.starts.lives + tablet
+        self.starts.tablet_gates + 5 * self.numbers().all_tablets() + tablet
     }
 
     /// The index of a table entry.

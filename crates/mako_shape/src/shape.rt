@@ -8,7 +8,7 @@ use crate::numbers::Numbers;
 use std::marker::Model;
 
 /// A geometry: ten numbers that are in their ranges, with entries and words within their limits. It keeps where its
-/// areas start, so that an index is found at once.
+/// largest areas start, so that an index of them is found at once.
 #[derive(Clone, Copy, Debug, PartialEq, Eq)]
 pub struct Shape {
     numbers: Numbers,

@@ -1,16 +1,14 @@
 use Rattle.std.proofs.Common.{◌≡◌, ap, ◌∙◌, arith}
-use Rattle.mako_shape.specs.declared.areas.Starts.{Starts}
 use Rattle.mako_shape.specs.declared.numbers.Numbers.{Numbers}
 use Rattle.mako_shape.specs.Places.{start, total}
-use Rattle.mako_shape.specs.Starting.{starts_of}
 use Rattle.mako_shape.proofs.Rows.{row-below}
 use Rattle.mako_shape.proofs.shape.Shape.barrier.Goals as goal
 
 pub returns-clause-below : goal.returns-clause-below
-unfolding total starts_of
+unfolding total
 returns-clause-below c =
-    let first : c.self.inside.starts.barriers ≡ start c.args.self.now 5 =
-    ap (λ (s : Starts). s.barriers) c.self.invariant.1 ∙ ap (λ (n : Numbers). start n 5) c.self.view_is
+    let first : c.barriers_start.result ≡ start c.args.self.now 5 =
+    c.barriers_start.ensures ∙ ap (λ (n : Numbers). start n 5) c.numbers-numbers.ensures.numbers
     in
     rw c.numbers-numbers.ensures.numbers
     (omega (

@@ -1,16 +1,14 @@
 use Rattle.std.proofs.Common.{◌≡◌, ◌+◌, ◌*◌, ◌<◌, ap, ◌∙◌, arith}
-use Rattle.mako_shape.specs.declared.areas.Starts.{Starts}
 use Rattle.mako_shape.specs.declared.numbers.Numbers.{Numbers}
 use Rattle.mako_shape.specs.Places.{start, total}
-use Rattle.mako_shape.specs.Starting.{starts_of}
 use Rattle.mako_shape.proofs.Rows.{row-below}
 use Rattle.mako_shape.proofs.shape.Shape.ghost_.Goals as goal
 
 pub returns-clause-below : goal.returns-clause-below
-unfolding total starts_of
+unfolding total
 returns-clause-below c =
-    let first : c.self.inside.starts.ghosts ≡ start c.args.self.now 8 =
-    ap (λ (s : Starts). s.ghosts) c.self.invariant.1 ∙ ap (λ (n : Numbers). start n 8) c.self.view_is
+    let first : c.ghosts_start.result ≡ start c.args.self.now 8 =
+    c.ghosts_start.ensures ∙ ap (λ (n : Numbers). start n 8) c.numbers-numbers.ensures.numbers
     in
     let row : c.args.sender * c.args.self.now.servers + c.args.receiver < c.args.self.now.servers
     * c.args.self.now.servers =
