@@ -3,4 +3,3 @@ pub mod Lowering
 pub mod NameWords
 pub mod Openings
 pub mod Places
-pub mod Polling
