@@ -1,7 +1,8 @@
 //! A yardstick for the speed of steps: what a plain program makes of the same steps that proves nothing.
 //!
 //! It makes the steps of `get` and of `show` over four mutators, an idle server and an idle collector, on words and in
-//! orders as those of the replays that `examples/bench` times, but with one flat enum of stages and nothing of cycles.
+//! orders as those of the replays that `examples/bench` times. It has nothing of cycles, one flat enum of stages, and one
+//! `match` for the act of a stage and for what follows it, and it draws the next place while a step is made.
 //! As there, the speed is that of the 10,500,000 steps that 1,000,000 `get` take more than as many `show`.
 
 use std::time::Instant;
@@ -29,14 +30,6 @@ const WORDS_OF_A_REGION: u32 = 16;
 enum Call {
     Get { to: u8, from: u8, field: u8 },
     Show { root: u8 },
-}
-
-#[derive(Clone, Copy)]
-enum Op {
-    Load,
-    Store(u64),
-    Add(u64),
-    Sub(u64),
 }
 
 #[derive(Clone, Copy)]
@@ -77,6 +70,38 @@ struct Point {
     _reply: u64,
 }
 
+/// The words of the heap, and how many entries a tablet has: there is one tablet here, and in a real geometry any number.
+struct Heap {
+    words: Vec<u64>,
+    entries: u32,
+}
+
+impl Heap {
+    fn load(&self, word: u32) -> u64 {
+        self.words[word as usize]
+    }
+
+    fn store(&mut self, word: u32, new: u64) {
+        self.words[word as usize] = new;
+    }
+
+    /// The word as it was before the number was added.
+    fn add(&mut self, word: u32, number: u64) -> u64 {
+        let word = &mut self.words[word as usize];
+        let before = *word;
+        *word += number;
+        before
+    }
+
+    fn sub(&mut self, word: u32, number: u64) {
+        self.words[word as usize] -= number;
+    }
+
+    fn tablet_of(&self, name: u64) -> u32 {
+        entry_of(name) / self.entries
+    }
+}
+
 fn entry_of(name: u64) -> u32 {
     (name as u32) & 0xf_ffff
 }
@@ -86,30 +111,8 @@ impl Mutator {
         self.calls[self.replies.len()]
     }
 
-    /// The geometry is of one tablet with `entries` entries, as a real one is of any.
-    fn next(&self, entries: u32) -> Option<(u32, Op)> {
-        let roots = ROOTS + self.number * ROOTS_OF_A_MUTATOR;
-        let tablet = entry_of(self.object) / entries;
-        Some(match self.stage {
-            Stage::Arriving => (GATES + self.number, Op::Add(1)),
-            Stage::LoadingRoot => match self.call() {
-                Call::Get { from, .. } => (roots + u32::from(from), Op::Load),
-                Call::Show { root } => (roots + u32::from(root), Op::Load),
-            },
-            Stage::ArrivingAtTablet => (TABLET_GATES + tablet, Op::Add(1)),
-            Stage::LoadingEntry => (ENTRIES + entry_of(self.object), Op::Load),
-            Stage::LoadingHome { .. } => (HOMES + tablet, Op::Load),
-            Stage::LoadingHeader { address } => (address, Op::Load),
-            Stage::LoadingField { address } => (address, Op::Load),
-            Stage::StoringRoot => match self.call() {
-                Call::Get { to, .. } => (roots + u32::from(to), Op::Store(self.value)),
-                Call::Show { .. } => return None,
-            },
-            Stage::LeavingTablet => (TABLET_GATES + tablet, Op::Sub(1)),
-            Stage::Leaving | Stage::TurnedAway => (GATES + self.number, Op::Sub(1)),
-            Stage::Finishing => (FINISHED, Op::Add(1)),
-            Stage::Ended => return None,
-        })
+    fn root(&self, root: u8) -> u32 {
+        ROOTS + self.number * ROOTS_OF_A_MUTATOR + u32::from(root)
     }
 
     fn answer(&mut self, value: u64, journal: &mut Vec<Point>) {
@@ -121,50 +124,77 @@ impl Mutator {
         });
     }
 
-    fn feed(&mut self, found: u64, journal: &mut Vec<Point>) {
+    fn load_root(&mut self, heap: &Heap, journal: &mut Vec<Point>) -> Stage {
+        let call = self.call();
+        let (Call::Get { from: root, .. } | Call::Show { root }) = call;
+        let found = heap.load(self.root(root));
+        if matches!(call, Call::Get { .. }) && found >> 62 == 2 {
+            self.object = found;
+            return Stage::ArrivingAtTablet;
+        }
+        self.answer(found, journal);
+        Stage::Leaving
+    }
+
+    fn load_header(&mut self, address: u32, heap: &Heap, journal: &mut Vec<Point>) -> Stage {
+        match self.call() {
+            Call::Get { field, .. } if u64::from(field) < heap.load(address) => {
+                Stage::LoadingField {
+                    address: address + 1 + u32::from(field),
+                }
+            }
+            _ => {
+                self.answer(0, journal);
+                Stage::LeavingTablet
+            }
+        }
+    }
+
+    fn step(&mut self, heap: &mut Heap, journal: &mut Vec<Point>) {
         self.stage = match self.stage {
-            Stage::Arriving if found >= SHUT => Stage::TurnedAway,
+            Stage::Arriving if heap.add(GATES + self.number, 1) >= SHUT => Stage::TurnedAway,
             Stage::Arriving => Stage::LoadingRoot,
-            Stage::LoadingRoot => match self.call() {
-                Call::Get { .. } if found >> 62 == 2 => {
-                    self.object = found;
-                    Stage::ArrivingAtTablet
+            Stage::LoadingRoot => self.load_root(heap, journal),
+            Stage::ArrivingAtTablet => {
+                if heap.add(TABLET_GATES + heap.tablet_of(self.object), 1) >= SHUT {
+                    Stage::LeavingTablet
+                } else {
+                    Stage::LoadingEntry
                 }
-                _ => {
-                    self.answer(found, journal);
-                    Stage::Leaving
-                }
-            },
-            Stage::ArrivingAtTablet if found >= SHUT => Stage::LeavingTablet,
-            Stage::ArrivingAtTablet => Stage::LoadingEntry,
+            }
             Stage::LoadingEntry => Stage::LoadingHome {
-                address: found as u32,
+                address: heap.load(ENTRIES + entry_of(self.object)) as u32,
             },
             Stage::LoadingHome { address } => {
-                let start = REGIONS + found as u32 * WORDS_OF_A_REGION;
-                if address >= start && address < start + WORDS_OF_A_REGION {
+                let home = heap.load(HOMES + heap.tablet_of(self.object)) as u32;
+                let start = REGIONS + home * WORDS_OF_A_REGION;
+                if (start..start + WORDS_OF_A_REGION).contains(&address) {
                     Stage::LoadingHeader { address }
                 } else {
                     Stage::LeavingTablet
                 }
             }
-            Stage::LoadingHeader { address } => match self.call() {
-                Call::Get { field, .. } if u64::from(field) < found => Stage::LoadingField {
-                    address: address + 1 + u32::from(field),
-                },
-                _ => {
-                    self.answer(0, journal);
-                    Stage::LeavingTablet
-                }
-            },
-            Stage::LoadingField { .. } => {
-                self.answer(found, journal);
+            Stage::LoadingHeader { address } => self.load_header(address, heap, journal),
+            Stage::LoadingField { address } => {
+                self.answer(heap.load(address), journal);
                 Stage::StoringRoot
             }
-            Stage::StoringRoot => Stage::LeavingTablet,
-            Stage::LeavingTablet => Stage::Leaving,
-            Stage::TurnedAway => Stage::Arriving,
+            Stage::StoringRoot => {
+                if let Call::Get { to, .. } = self.call() {
+                    heap.store(self.root(to), self.value);
+                }
+                Stage::LeavingTablet
+            }
+            Stage::LeavingTablet => {
+                heap.sub(TABLET_GATES + heap.tablet_of(self.object), 1);
+                Stage::Leaving
+            }
+            Stage::TurnedAway => {
+                heap.sub(GATES + self.number, 1);
+                Stage::Arriving
+            }
             Stage::Leaving => {
+                heap.sub(GATES + self.number, 1);
                 self.replies.push(self.value);
                 if self.replies.len() < self.calls.len() {
                     Stage::Arriving
@@ -172,27 +202,22 @@ impl Mutator {
                     Stage::Finishing
                 }
             }
-            Stage::Finishing | Stage::Ended => Stage::Ended,
+            Stage::Finishing => {
+                heap.add(FINISHED, 1);
+                Stage::Ended
+            }
+            Stage::Ended => Stage::Ended,
         };
     }
 }
 
 impl Seat {
-    fn next(&self, entries: u32) -> Option<(u32, Op)> {
+    fn step(&mut self, heap: &mut Heap, journal: &mut Vec<Point>) {
         match self {
-            Seat::Mutator(mutator) => mutator.next(entries),
-            Seat::Server { ended } => (!ended).then_some((PHASE, Op::Load)),
-            Seat::Collector { ended: true, .. } => None,
-            Seat::Collector { asks: true, .. } => Some((DEMAND, Op::Load)),
-            Seat::Collector { .. } => Some((FINISHED, Op::Load)),
-        }
-    }
-
-    fn feed(&mut self, found: u64, journal: &mut Vec<Point>) {
-        match self {
-            Seat::Mutator(mutator) => mutator.feed(found, journal),
-            Seat::Server { ended } => *ended = found >> 61 == STOP >> 61,
+            Seat::Mutator(mutator) => mutator.step(heap, journal),
+            Seat::Server { ended } => *ended = heap.load(PHASE) >> 61 == STOP >> 61,
             Seat::Collector { asks, ended } => {
+                let found = heap.load(if *asks { DEMAND } else { FINISHED });
                 *ended = !*asks && found == MUTATORS as u64;
                 *asks = !*asks;
             }
@@ -205,18 +230,6 @@ impl Seat {
             Seat::Server { ended } | Seat::Collector { ended, .. } => *ended,
         }
     }
-}
-
-fn act(words: &mut [u64], word: u32, op: Op) -> u64 {
-    let word = &mut words[word as usize];
-    let before = *word;
-    match op {
-        Op::Load => {}
-        Op::Store(new) => *word = new,
-        Op::Add(number) => *word += number,
-        Op::Sub(number) => *word -= number,
-    }
-    before
 }
 
 /// The words of a generator, as PCG32 gives them.
@@ -252,35 +265,78 @@ fn seats(call: Call) -> Vec<Seat> {
     seats
 }
 
-/// The steps made in an order, and the nanoseconds that they took.
-fn run(call: Call, mut draws: Option<Draws>, entries: u32) -> (u64, u128) {
+/// The places of the next seats among those that have not ended.
+enum Places {
+    Turns {
+        next: usize,
+    },
+    Drawn {
+        draws: Draws,
+        word: u32,
+        next: usize,
+    },
+}
+
+impl Places {
+    fn take(&mut self, count: usize) -> usize {
+        match self {
+            Places::Turns { next } => {
+                let place = *next % count;
+                *next = place + 1;
+                place
+            }
+            Places::Drawn { draws, word, next } => {
+                let place = *next;
+                *word = draws.next();
+                *next = *word as usize % count;
+                place
+            }
+        }
+    }
+
+    /// The seat at this place has ended, and so many are left.
+    fn leave(&mut self, place: usize, count: usize) {
+        match self {
+            Places::Turns { next } => *next = place,
+            Places::Drawn { word, next, .. } => *next = *word as usize % count.max(1),
+        }
+    }
+}
+
+fn heap(entries: u32) -> Heap {
     let mut words = vec![0; WORDS];
     for mutator in 0..MUTATORS as u32 {
         words[(ROOTS + mutator * ROOTS_OF_A_MUTATOR) as usize] = 2 << 62;
     }
     words[ENTRIES as usize] = u64::from(REGIONS);
     words[REGIONS as usize] = 1;
+    Heap { words, entries }
+}
+
+/// The steps made in an order, and the nanoseconds that they took.
+fn run(call: Call, seed: Option<u64>, entries: u32) -> (u64, u128) {
+    let mut heap = heap(entries);
     let mut journal = Vec::with_capacity(MUTATORS * CALLS);
     let mut seats = seats(call);
     let mut live: Vec<usize> = (0..seats.len()).collect();
-    let (mut turn, mut steps) = (0, 0);
+    let mut places = match seed {
+        None => Places::Turns { next: 0 },
+        Some(seed) => Places::Drawn {
+            draws: Draws(seed),
+            word: 0,
+            next: 0,
+        },
+    };
+    let mut steps = 0;
     let start = Instant::now();
     while live.len() > 1 {
-        let place = match &mut draws {
-            Some(draws) => draws.next() as usize % live.len(),
-            None => turn % live.len(),
-        };
-        turn = place + 1;
+        let place = places.take(live.len());
         let seat = &mut seats[live[place]];
-        let Some((word, op)) = seat.next(entries) else {
-            break;
-        };
-        let found = act(&mut words, word, op);
-        seat.feed(found, &mut journal);
+        seat.step(&mut heap, &mut journal);
         steps += 1;
         if seat.has_ended() {
             live.remove(place);
-            turn = place;
+            places.leave(place, live.len());
         }
     }
     (steps, start.elapsed().as_nanos())
@@ -293,8 +349,8 @@ fn speed(seed: Option<u64>, entries: u32) -> u128 {
         from: 0,
         field: 0,
     };
-    let (more, longer) = run(get, seed.map(Draws), entries);
-    let (fewer, shorter) = run(Call::Show { root: 0 }, seed.map(Draws), entries);
+    let (more, longer) = run(get, seed, entries);
+    let (fewer, shorter) = run(Call::Show { root: 0 }, seed, entries);
     u128::from(more - fewer) * 1000 / longer.saturating_sub(shorter).max(1)
 }
 

@@ -1,10 +1,11 @@
 //! The collector, as a machine.
 
-ghost use Rattle.std.specs.Prelude.{◌≡◌, ◌<◌, ◌^◌, true, IfOk, count_by, sum_by};
+ghost use Rattle.std.specs.Prelude.{◌≡◌, ◌↔◌, ◌<◌, ◌^◌, true, IfOk, IsTrue, count_by, sum_by};
 ghost use Rattle.mako_pause.specs.Opening.{is_new, names_of_all, news_of, opening};
 ghost use Rattle.mako_shape.specs.Places.{total};
 ghost use Rattle.mako_step.specs.Acts.{IsWithin};
 ghost use Rattle.mako_step.specs.Machines.{IsAct};
+ghost use Rattle.mako_step.specs.declared.step.Step.TheVariants as steps;
 ghost use Rattle.mako_pause.specs.Collecting as collecting;
 ghost use Rattle.mako_pause.specs.Collecting.{at, StageFits};
 ghost use Rattle.mako_pause.specs.Keeping.{StageIsKnown};
@@ -140,6 +141,17 @@ impl Collector {
             kept,
             stage: CollectStage::Idle(IdleStage::LoadingDemand),
         })
+    }
+
+    /// Whether it has stopped the heap.
+    pub fn is_ended(&self) -> bool
+        ensures { IsTrue result ↔ (collecting.next_of self.now ≡ steps.Ended) }
+    {
+        match self.stage {
+            CollectStage::Ended => true,
+            CollectStage::Polling => matches!(self.kept.poll_next(), Step::Ended),
+            _ => false,
+        }
     }
 
     /// The finished cycles, each with the names that it freed.

@@ -11,7 +11,7 @@ use mako_model::Event;
 use mako_mutator::{Driver, Place};
 use mako_pause::Collector;
 use mako_server::Server;
-use mako_step::{Machine, Step, Stepped, Words, make_step};
+use mako_step::{Stepped, Words, make_step};
 
 /// The machine of a seat.
 #[derive(Drop)]
@@ -36,7 +36,7 @@ impl Seat {
         match self {
             Seat::Mutator(driver) => driver.place(),
             Seat::Server(server) => serving_place(server.is_ended()),
-            Seat::Collector(collector) => serving_place(matches!(collector.next(), Step::Ended)),
+            Seat::Collector(collector) => serving_place(collector.is_ended()),
         }
     }
 

@@ -1,5 +1,5 @@
-//! Tests of the commands that replay scripts, and of words that are no command. They stand here so that the crates below
-//! are proved once, and not once more with their tests.
+//! Tests of the commands that replay scripts. They stand here so that the crates below are proved once, and not once more
+//! with their tests.
 #![tactic(auto)]
 
 #[cfg(test)]
