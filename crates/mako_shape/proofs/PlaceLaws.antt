@@ -30,6 +30,12 @@ pub index_below : (n : Numbers) (p : Place) → Within n p → index n p < total
 unfolding index total
 index_below n p h = cell-below (sizes n) (area_of p) (offset n p) (offset-below n p h)
 
+-- and so has what counts a place from where its area starts
+pub counted_below : (n m : Numbers) (p : Place) (first counted : ℕ) → m ≡ n → first ≡ start m (area_of p) →
+    counted ≡ first + offset m p → Within n p → counted < total n
+unfolding index
+counted_below n m p first counted same from count h = rw (count, from, same) (index_below n p h)
+
 -- places in range that have one index are one place
 pub one_place : (n : Numbers) (p r : Place) → Within n p → Within n r → index n p ≡ index n r → p ≡ r
 unfolding index

@@ -1,8 +1,8 @@
 //! The index of each word of a geometry.
 
-ghost use Rattle.std.specs.Prelude.{◌≡◌, ◌<◌};
+ghost use Rattle.std.specs.Prelude.{◌≡◌, ◌<◌, ◌+◌, ◌*◌};
 ghost use Rattle.mako_shape.specs.Places as places;
-ghost use Rattle.mako_shape.specs.Places.{Within, index, total};
+ghost use Rattle.mako_shape.specs.Places.{Within, index, start, total};
 
 use crate::shape::Shape;
 
@@ -113,7 +113,16 @@ impl Shape {
         ensures index { result ≡ index self.now (places.tablet_gate tablet) }
         ensures below { result < total self.now }
     {
-        self.starts.tablet_gates + tablet
+        self.tablet_word(0, tablet)
+    }
+
+    /// The index of a tablet's word in the area behind so many of those that have a word for each tablet.
+    fn tablet_word(&self, areas: u32, tablet: u32) -> u32
+        requires area { areas < 6 }
+        requires tablet { tablet < self.now.servers * self.now.tablets }
+        ensures { result ≡ start self.now 10 + areas * (self.now.servers * self.now.tablets) + tablet }
+    {
+        self.starts.tablet_gates + areas * self.numbers().all_tablets() + tablet
     }
 
     /// The index of a tablet's turn word.
@@ -122,7 +131,7 @@ impl Shape {
         ensures index { result ≡ index self.now (places.turn tablet) }
         ensures below { result < total self.now }
     {
-        self.starts.tablet_gates + self.numbers().all_tablets() + tablet
+        self.tablet_word(1, tablet)
     }
 
     /// The index of the word that holds a tablet's home region.
@@ -131,7 +140,7 @@ impl Shape {
         ensures index { result ≡ index self.now (places.home tablet) }
         ensures below { result < total self.now }
     {
-        self.starts.tablet_gates + 2 * self.numbers().all_tablets() + tablet
+        self.tablet_word(2, tablet)
     }
 
     /// The index of the word that holds how many words of its home a tablet uses.
@@ -140,7 +149,7 @@ impl Shape {
         ensures index { result ≡ index self.now (places.top tablet) }
         ensures below { result < total self.now }
     {
-        self.starts.tablet_gates + 3 * self.numbers().all_tablets() + tablet
+        self.tablet_word(3, tablet)
     }
 
     /// The index of the word that holds the region that a tablet leaves.
@@ -149,7 +158,7 @@ impl Shape {
         ensures index { result ≡ index self.now (places.leaving tablet) }
         ensures below { result < total self.now }
     {
-        self.starts.tablet_gates + 4 * self.numbers().all_tablets() + tablet
+        self.tablet_word(4, tablet)
     }
 
     /// The index of the word that holds a tablet's count of live words.
@@ -158,7 +167,7 @@ impl Shape {
         ensures index { result ≡ index self.now (places.live tablet) }
         ensures below { result < total self.now }
     {
-        self.starts.tablet_gates + 5 * self.numbers().all_tablets() + tablet
+        self.tablet_word(5, tablet)
     }
 
     /// The index of a table entry.

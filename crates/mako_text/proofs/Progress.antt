@@ -6,7 +6,7 @@ use Rattle.std.proofs.lemmas.List.{append-nil, take-append-le, drop_more, drop_a
 use Rattle.std.specs.Io.KnownBytes.{Appends}
 use Rattle.std.proofs.KnownBytes.{Appends-trans, Appends-nil}
 use Rattle.std.specs.List.{flat_map, enumerate_from, range_with_len}
-use Rattle.std.specs.Prelude.{slice_get, OnOk, IfErr}
+use Rattle.std.specs.Prelude.{slice_get}
 use Rattle.mako_words.specs.declared.name.Name.{Name}
 use Rattle.mako_model.specs.declared.point.Point.{Point}
 use mathlib.Core.List.{IsPrefix}
@@ -19,7 +19,7 @@ use Rattle.mako_io.specs.declared.writing.WriteFault.{WriteFault}
 use Rattle.mako_model.specs.declared.call.Call.{Call}
 use Rattle.mako_model.specs.declared.reply.Reply.{Reply}
 use Rattle.mako_text.specs.declared.writer.OutputWriter.{OutputWriter}
-use Rattle.mako_text.specs.Outputs.{WentOut, point_text, cycle_text, mutator_line, mutator_text}
+use Rattle.mako_text.specs.Outputs.{point_text, cycle_text, mutator_line, mutator_text}
 use Rattle.mako_text.specs.Written.{Writes, raised_by, lines_text, sections_text, FitPrograms}
 
 -- a prefix of the text went out, and this part of it is still to go
@@ -92,20 +92,6 @@ pub first : {K : Type 0} (taken : K → Option (List ℕ)) (a b : List ℕ) (old
     → Writes taken a old new (Err fault) → Writes taken (a ++ b) old new (Err fault)
 first taken a b old new fault w =
     stops taken (a ++ b) (a ++ b) a b old old new fault (starts taken (a ++ b) old) refl w
-
--- what a new writer wrote, the sink took
-pub sink_took : {K : Type 0} (taken : K → Option (List ℕ)) (text : List ℕ) (old new : OutputWriter K) (start end : K)
-    (r : Result (Unit {0}) WriteFault) → old.sink.now ≡ start → end ≡ new.sink.now → Writes taken text old new r
-    → OnOk r (Appends (taken start) (taken end) text)
-sink_took taken text old new start end (Ok x) kept ends w = rw (← kept, ends) w.0
-sink_took taken text old new start end (Err fault) kept ends w = tt
-
-pub sink_stopped : {K : Type 0} (taken : K → Option (List ℕ)) (text : List ℕ) (old new : OutputWriter K)
-    (start end : K) (r : Result (Unit {0}) WriteFault) → old.sink.now ≡ start → old.went ≡ 0 → end ≡ new.sink.now
-    → Writes taken text old new r → IfErr r (λ fault. WentOut text (taken start) (taken end) 0 fault.went)
-sink_stopped taken text old new start end (Ok x) kept none ends w = tt
-sink_stopped taken text old new start end (Err fault) kept none ends w =
-    subst (λ (n : ℕ). WentOut text (taken start) (taken end) n fault.went) none (rw (← kept, ends) w.0)
 
 -- the next line, and the lines behind it
 pub lines_more : (calls : List Call) (replies : List Reply) (i : ℕ) (c : Call) (r : Reply) → i < length calls

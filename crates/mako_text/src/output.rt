@@ -7,7 +7,6 @@ ghost use Rattle.mako_model.specs.Fronts.{FollowsPrograms};
 ghost use Rattle.mako_model.specs.Outcomes.{IsWhole, AreCyclesOfFront, reply_lists};
 ghost use Rattle.mako_text.specs.Outputs.{output_text, WentOut};
 
-use crate::lines::last_bytes;
 use crate::script::Script;
 use crate::writer::OutputWriter;
 use mako_io::{Sink, WriteFault};
@@ -33,8 +32,5 @@ pub fn write_output<K: Sink>(
     ensures fault { OnErr result (Rose (K.faults sink.old) (K.faults sink.new)) }
     ensures counted { K.faults sink.old ≤ K.faults sink.new }
 {
-    let mut writer = OutputWriter::new(sink);
-    writer.sections(&script.programs, &outcome.replies)?;
-    writer.cycles(&outcome.cycles)?;
-    writer.piece(last_bytes(finished))
+    OutputWriter::new(sink).output(&script.programs, outcome, finished)
 }

@@ -16,7 +16,7 @@ pub fn place_of(byte: u8, text: &[u8]) -> Option<usize>
 }
 
 /// The first line with its line feed, and the text behind it. What no line feed ends is a line too.
-fn first_line(text: &[u8]) -> (&[u8], &[u8])
+pub(crate) fn first_line(text: &[u8]) -> (&[u8], &[u8])
     requires { 0 < length text.now }
     ensures parts { result.0.now ++ result.1.now ≡ text.now }
     ensures shorter { length result.1.now < length text.now }
@@ -35,12 +35,5 @@ pub fn write_text<K: Sink>(sink: &mut K, text: &[u8]) -> Result<(), WriteFault>
     ensures fault { OnErr result (Rose (K.faults sink.old) (K.faults sink.new)) }
     ensures counted { K.faults sink.old ≤ K.faults sink.new }
 {
-    let mut writer = OutputWriter::new(sink);
-    let mut rest = text;
-    'lines: while !rest.is_empty() {
-        let (line, after) = first_line(rest);
-        writer.piece(line)?;
-        rest = after;
-    }
-    Ok(())
+    OutputWriter::new(sink).text(text)
 }

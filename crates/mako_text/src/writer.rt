@@ -3,13 +3,16 @@
 ghost use Rattle.std.specs.Prelude.{◌≡◌, ◌≤◌, ◌++◌, length, map, OnErr};
 ghost use Rattle.std.specs.List.{flat_map, enumerate_from};
 ghost use Rattle.mako_io.specs.Causes.{Rose};
-ghost use Rattle.mako_text.specs.Outputs.{cycle_text, freed_text, mutator_line};
+ghost use Rattle.mako_model.specs.Fronts.{FollowsPrograms};
+ghost use Rattle.mako_model.specs.Outcomes.{IsWhole, AreCyclesOfFront, reply_lists};
+ghost use Rattle.mako_text.specs.Outputs.{cycle_text, freed_text, mutator_line, output_text};
 ghost use Rattle.mako_text.specs.Written.{Writes, lines_text, sections_text, FitPrograms};
 
-use crate::lines::{cycle_head, freed_bytes, mutator_bytes, point_line};
+use crate::lines::{cycle_head, freed_bytes, last_bytes, mutator_bytes, point_line};
 use crate::program::Program;
+use crate::text::first_line;
 use mako_io::{Sink, WriteFault, write_all};
-use mako_model::{Call, Cycles, Reply};
+use mako_model::{Call, Cycles, Outcome, Reply};
 use mako_words::Name;
 
 /// Writes the pieces of an output, and counts the bytes that went out, up to the greatest number.
@@ -30,7 +33,7 @@ impl<'s, K: Sink> OutputWriter<'s, K> {
     }
 
     /// Writes a piece. A fault has the count of all the bytes that went out.
-    pub fn piece(&mut self, piece: &[u8]) -> Result<(), WriteFault>
+    fn piece(&mut self, piece: &[u8]) -> Result<(), WriteFault>
         ensures same_sink { self.new.sink.ghost_name ≡ self.old.sink.ghost_name }
         ensures written { Writes K.taken piece.now self.old self.new result }
         ensures fault { OnErr result (Rose (K.faults self.old.sink.now) (K.faults self.new.sink.now)) }
@@ -46,6 +49,22 @@ impl<'s, K: Sink> OutputWriter<'s, K> {
                 Err(WriteFault { went: self.went })
             }
         }
+    }
+
+    /// Writes a text, each line of it as a piece.
+    pub fn text(&mut self, text: &[u8]) -> Result<(), WriteFault>
+        ensures same_sink { self.new.sink.ghost_name ≡ self.old.sink.ghost_name }
+        ensures written { Writes K.taken text.now self.old self.new result }
+        ensures fault { OnErr result (Rose (K.faults self.old.sink.now) (K.faults self.new.sink.now)) }
+        ensures counted { K.faults self.old.sink.now ≤ K.faults self.new.sink.now }
+    {
+        let mut rest = text;
+        'lines: while !rest.is_empty() {
+            let (line, after) = first_line(rest);
+            self.piece(line)?;
+            rest = after;
+        }
+        Ok(())
     }
 
     /// Writes a line for each reply.
@@ -82,7 +101,7 @@ impl<'s, K: Sink> OutputWriter<'s, K> {
     }
 
     /// Writes the sections of all mutators.
-    pub fn sections(&mut self, programs: &[Program], lists: &[Vec<Reply>]) -> Result<(), WriteFault>
+    fn sections(&mut self, programs: &[Program], lists: &[Vec<Reply>]) -> Result<(), WriteFault>
         requires same { length lists.now ≡ length programs.now }
         requires fit { FitPrograms (map (λ p. p.calls) programs.now) (map (λ v. v.items) lists.now) }
         ensures same_sink { self.new.sink.ghost_name ≡ self.old.sink.ghost_name }
@@ -127,7 +146,7 @@ impl<'s, K: Sink> OutputWriter<'s, K> {
     }
 
     /// Writes the lines of all finished cycles.
-    pub fn cycles(&mut self, cycles: &Cycles) -> Result<(), WriteFault>
+    fn cycles(&mut self, cycles: &Cycles) -> Result<(), WriteFault>
         ensures same_sink { self.new.sink.ghost_name ≡ self.old.sink.ghost_name }
         ensures written { Writes K.taken (flat_map cycle_text (enumerate_from 1 cycles.now.lists)) self.old
             self.new result }
@@ -138,5 +157,27 @@ impl<'s, K: Sink> OutputWriter<'s, K> {
             self.cycle(k + 1, cycles.freed(k + 1))?;
         }
         Ok(())
+    }
+
+    /// Writes the output of a run of these programs.
+    pub fn output(
+        &mut self,
+        programs: &[Program],
+        outcome: &Outcome,
+        finished: bool,
+    ) -> Result<(), WriteFault>
+        requires whole { IsWhole outcome.now }
+        requires freed { AreCyclesOfFront outcome.now }
+        requires lists { length (reply_lists outcome.now) ≡ length programs.now }
+        requires follows { FollowsPrograms (map (λ p. p.calls) programs.now) outcome.now.front.history }
+        ensures same_sink { self.new.sink.ghost_name ≡ self.old.sink.ghost_name }
+        ensures written { Writes K.taken (output_text (length programs.now) outcome.now.front finished) self.old
+            self.new result }
+        ensures fault { OnErr result (Rose (K.faults self.old.sink.now) (K.faults self.new.sink.now)) }
+        ensures counted { K.faults self.old.sink.now ≤ K.faults self.new.sink.now }
+    {
+        self.sections(programs, &outcome.replies)?;
+        self.cycles(&outcome.cycles)?;
+        self.piece(last_bytes(finished))
     }
 }
