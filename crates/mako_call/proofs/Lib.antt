@@ -9,4 +9,5 @@ pub mod Decided
 pub mod Evidence
 pub mod Shown
 pub mod Stopping
+pub mod Finding
 pub mod ReadWords

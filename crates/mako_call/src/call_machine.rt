@@ -2,7 +2,8 @@
 
 ghost use Rattle.std.specs.Prelude.{◌≡◌, ◌<◌, ◌≤◌, false, IfSome, Some, None, ◌↔◌, IsTrue};
 ghost use Rattle.mako_shape.specs.Places.{total};
-ghost use Rattle.mako_step.specs.Acts.{IsWithin};
+ghost use Rattle.mako_step.specs.Acts.{finds, words_stepped, IsWithin};
+ghost use Rattle.mako_step.specs.Machines.{CanStep, IsAct};
 ghost use Rattle.mako_step.specs.declared.step.Step.TheVariants as steps;
 ghost use Rattle.mako_call.specs.Agreeing.{AskedFits};
 ghost use Rattle.mako_call.specs.Keeping.{KeepFits};
@@ -13,9 +14,9 @@ use crate::call_stage::CallStage;
 use crate::caller::Caller;
 use crate::fitting::is_gate;
 use crate::putting::PutStage;
-use mako_model::{Attempt, Call, Event, Pause, Point};
+use mako_model::{Attempt, Call, Event, Pause, Point, Reply};
 use mako_shape::Shape;
-use mako_step::{Machine, Step};
+use mako_step::{Machine, Step, Words};
 use std::marker::Model;
 
 /// What a mutator keeps from one attempt to the next.
@@ -25,6 +26,21 @@ pub struct Keep {
     pub asked: Option<u32>,
     /// The slot of the mutator's barrier ring into which the next name goes.
     pub barrier_at: u64,
+}
+
+/// What a step tells that decides a call with this reply.
+fn answered(mutator: u32, call: Call, reply: Option<Reply>) -> Event
+    requires { mutator < 256 }
+    ensures { result ≡ calls.event_by mutator call None reply }
+{
+    match reply {
+        Some(reply) => Event::Answered(Point::Did {
+            mutator: mutator as u8,
+            call,
+            reply,
+        }),
+        None => Event::Nothing,
+    }
 }
 
 /// One attempt of a call. It comes to an answer, whose point is in the history then, to a pause after
@@ -164,6 +180,44 @@ impl CallMachine {
         (self.call, self.last)
     }
 
+    /// Makes its next step on the words. Whether the call is decided with it.
+    #[inline(always)]
+    pub fn step<W: Words>(&mut self, words: &mut W) -> bool
+        requires acts { IsAct (calls.next_of self.old) }
+        requires can { CanStep (calls.next_of self.old) (W.words words.old) (calls.Fits self.old) }
+        ensures words { W.words words.new ≡ words_stepped (calls.next_of self.old) (W.words words.old) }
+        ensures fed { self.new ≡ calls.fed self.old (finds (calls.next_of self.old) (W.words words.old)) }
+        ensures told { result ≡ calls.tells self.old.stage self.new.stage }
+    {
+        let slot = self.slot_after();
+        let tells = self
+            .stage
+            .step(&self.caller, self.call, self.last, self.slot, words);
+        self.slot = slot;
+        tells
+    }
+
+    /// What the step tells that has just decided its call.
+    pub fn event(&self) -> Event
+        ensures { result ≡ calls.event_by self.now.caller.mutator self.now.call None (calls.decided self.now.stage) }
+    {
+        answered(self.caller.mutator, self.call, self.stage.decided())
+    }
+
+    /// Whether it stands where `step` knows each stage when it is compiled. There it has an act to make.
+    pub fn is_short(&self) -> bool
+        ensures { IsTrue result → IsAct (calls.next_of self.now) }
+    {
+        matches!(
+            self.stage,
+            CallStage::Arriving
+                | CallStage::Rooting(_)
+                | CallStage::Entering(_, _)
+                | CallStage::Getting(_, _, _)
+                | CallStage::Leaving(_)
+        )
+    }
+
     /// What is kept after this outcome.
     fn keep(&self, outcome: Attempt) -> Keep
         ensures { result ≡ calls.kept self.now outcome }
@@ -219,19 +273,7 @@ impl Machine for CallMachine {
         ensures next { result ≡ calls.next_of self.now }
         ensures within { IsWithin (total self.now.caller.shape) result }
     {
-        let caller = &self.caller;
-        match self.stage {
-            CallStage::Arriving => Step::add(caller.gate(), 1),
-            CallStage::Rooting(stage) => stage.next(caller),
-            CallStage::Entering(errand, stage) => stage.next(caller, errand),
-            CallStage::Moving(errand, stage) => stage.next(caller, errand),
-            CallStage::Getting(located, get, stage) => stage.next(caller, located, get),
-            CallStage::Putting(located, put, stage) => stage.next(caller, self.slot, located, put),
-            CallStage::Allocating(stage) => stage.next(caller),
-            CallStage::Asking(stage) => stage.next(&caller.shape),
-            CallStage::Leaving(stage) => stage.next(caller),
-            CallStage::Ended(_) => Step::Ended,
-        }
+        self.stage.next(&self.caller, self.slot)
     }
 
     fn waits(&self, _before: u64) -> bool {
@@ -241,20 +283,12 @@ impl Machine for CallMachine {
     #[inline(always)]
     fn feed(&mut self, before: u64) -> Event {
         let slot = self.slot_after();
-        let tells = self
-            .stage
-            .feed(&self.caller, self.call, self.last, self.slot, before);
+        let stage = self.stage;
+        let tells = self.stage.feed(stage, &self.caller, self.call, self.last, self.slot, before);
         self.slot = slot;
         if !tells {
             return Event::Nothing;
         }
-        match self.stage.decided() {
-            Some(reply) => Event::Answered(Point::Did {
-                mutator: self.caller.mutator as u8,
-                call: self.call,
-                reply,
-            }),
-            None => Event::Nothing,
-        }
+        answered(self.caller.mutator, self.call, self.stage.decided())
     }
 }

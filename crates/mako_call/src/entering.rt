@@ -1,12 +1,12 @@
 //! The stages of an attempt that enters the tablet of its object.
 
-ghost use Rattle.std.specs.Prelude.{◌≡◌};
+ghost use Rattle.std.specs.Prelude.{◌≡◌, None};
 ghost use Rattle.mako_shape.specs.Places.{total};
 ghost use Rattle.mako_step.specs.Acts.{IsWithin};
 ghost use Rattle.mako_call.specs.Callers.{IsCaller};
 ghost use Rattle.mako_call.specs.Objects.{ErrandIsKnown};
-ghost use Rattle.mako_call.specs.Entering.{enter_next, enter_fed};
-ghost use Rattle.mako_call.specs.Calls.{StageIsKnown, StageFits, tells};
+ghost use Rattle.mako_call.specs.Entering.{enter_next, enter_fed, EnterFits, EnterIsKnown};
+ghost use Rattle.mako_call.specs.Calls.{decided, newly};
 
 use crate::call_stage::CallStage;
 use crate::caller::Caller;
@@ -29,6 +29,7 @@ pub enum EnterStage {
 }
 
 impl EnterStage {
+    #[inline(always)]
     pub(crate) fn next(self, caller: &Caller, errand: Errand) -> Step
         requires caller { IsCaller caller.now }
         requires errand { ErrandIsKnown caller.now.shape errand }
@@ -49,28 +50,44 @@ impl CallStage {
     ghost use Rattle.mako_call.specs.declared.entering.EnterStage.{EnterStage};
     ghost use Rattle.mako_call.specs.declared.object.Errand.{Errand};
 
-    /// Goes on with this word, where it enters the tablet of its object.
-    pub(crate) fn feed_entering(&mut self, caller: &Caller, before: u64) -> bool
-        requires caller { IsCaller caller.now }
-        requires known { StageIsKnown caller.now self.old }
-        requires fits { StageFits caller.now.shape self.old before }
+    /// It comes to this stage of the same errand, and nothing else is written.
+    #[inline(always)]
+    fn enter(&mut self, next: EnterStage)
         ensures { (errand : Errand) (stage : EnterStage) → self.old ≡ stages.Entering errand stage →
-            (self.new ≡ enter_fed caller.now.shape errand stage before) × (result ≡ tells self.old self.new) }
+            self.new ≡ stages.Entering errand next }
     {
-        let CallStage::Entering(errand, stage) = self else {
-            return false;
-        };
-        match *stage {
+        if let CallStage::Entering(_, stage) = self {
+            *stage = next;
+        }
+    }
+
+    /// Goes where this stage, its own, leads that found this word.
+    #[inline(always)]
+    pub(crate) fn feed_entering(
+        &mut self,
+        caller: &Caller,
+        errand: Errand,
+        stage: EnterStage,
+        before: u64,
+    ) -> bool
+        requires caller { IsCaller caller.now }
+        requires own { self.old ≡ stages.Entering errand stage }
+        requires errand { ErrandIsKnown caller.now.shape errand }
+        requires known { EnterIsKnown caller.now.shape stage }
+        requires fits { EnterFits caller.now.shape stage before }
+        ensures fed { self.new ≡ enter_fed caller.now.shape errand stage before }
+        ensures told { result ≡ newly None (decided self.new) }
+    {
+        match stage {
             EnterStage::Arriving if before >= GateWord::SHUT => {
                 let tablet = caller.tablet_of(errand.object.entry);
                 let word = before;
                 *self = CallStage::Leaving(LeaveStage::TurnedAway { tablet, word });
             }
-            EnterStage::Arriving => *stage = EnterStage::LoadingEntry,
-            EnterStage::LoadingEntry => *stage = EnterStage::LoadingHome(entry_of(before)),
+            EnterStage::Arriving => self.enter(EnterStage::LoadingEntry),
+            EnterStage::LoadingEntry => self.enter(EnterStage::LoadingHome(entry_of(before))),
             EnterStage::LoadingHome(entry) => {
                 let home = before as u32;
-                let errand = *errand;
                 if is_in_region(&caller.shape, home, entry.address) {
                     self.reach(errand, entry.address);
                 } else {

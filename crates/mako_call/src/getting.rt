@@ -5,8 +5,8 @@ ghost use Rattle.mako_shape.specs.Places.{total};
 ghost use Rattle.mako_step.specs.Acts.{IsWithin};
 ghost use Rattle.mako_call.specs.Callers.{IsCaller};
 ghost use Rattle.mako_call.specs.Objects.{LocatedIsKnown};
-ghost use Rattle.mako_call.specs.Getting.{get_next, get_fed, GetIsKnown};
-ghost use Rattle.mako_call.specs.Calls.{StageIsKnown, StageFits, tells};
+ghost use Rattle.mako_call.specs.Getting.{get_next, get_fed, GetFits, GetIsKnown};
+ghost use Rattle.mako_call.specs.Calls.{decided, get_decided, newly};
 
 use crate::call_stage::CallStage;
 use crate::caller::Caller;
@@ -27,6 +27,7 @@ pub enum GetStage {
 }
 
 impl GetStage {
+    #[inline(always)]
     pub(crate) fn next(self, caller: &Caller, located: Located, get: Get) -> Step
         requires caller { IsCaller caller.now }
         requires located { LocatedIsKnown caller.now.shape located }
@@ -43,25 +44,26 @@ impl GetStage {
 }
 
 impl CallStage {
-    ghost use Rattle.mako_call.specs.declared.call_stage.CallStage.TheVariants as stages;
-    ghost use Rattle.mako_call.specs.declared.getting.GetStage.{GetStage};
-    ghost use Rattle.mako_call.specs.declared.object.Get.{Get};
-    ghost use Rattle.mako_call.specs.declared.object.Located.{Located};
-
-    /// Goes on with this word, where it reads a field.
-    pub(crate) fn feed_getting(&mut self, caller: &Caller, before: u64) -> bool
+    /// Goes where this stage leads that found this word.
+    #[inline(always)]
+    pub(crate) fn feed_getting(
+        &mut self,
+        caller: &Caller,
+        located: Located,
+        get: Get,
+        stage: GetStage,
+        before: u64,
+    ) -> bool
         requires caller { IsCaller caller.now }
-        requires known { StageIsKnown caller.now self.old }
-        requires fits { StageFits caller.now.shape self.old before }
-        ensures { (located : Located) (get : Get) (stage : GetStage) → self.old ≡ stages.Getting located get stage →
-            (self.new ≡ get_fed caller.now.shape located get stage before) × (result ≡ tells self.old self.new) }
+        requires located { LocatedIsKnown caller.now.shape located }
+        requires known { GetIsKnown caller.now.shape located get stage }
+        requires fits { GetFits caller.now.shape located stage before }
+        ensures fed { self.new ≡ get_fed caller.now.shape located get stage before }
+        ensures told { result ≡ newly (get_decided stage) (decided self.new) }
     {
-        let CallStage::Getting(located, get, stage) = self else {
-            return false;
-        };
-        match *stage {
+        match stage {
             GetStage::LoadingHeader if u64::from(get.field) < before => {
-                *stage = GetStage::LoadingField;
+                *self = CallStage::Getting(located, get, GetStage::LoadingField);
                 false
             }
             GetStage::LoadingHeader => {
@@ -70,7 +72,8 @@ impl CallStage {
                 true
             }
             GetStage::LoadingField => {
-                *stage = GetStage::StoringRoot(value_of(before));
+                let read = GetStage::StoringRoot(value_of(before));
+                *self = CallStage::Getting(located, get, read);
                 true
             }
             GetStage::StoringRoot(value) => {

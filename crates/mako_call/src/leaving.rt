@@ -5,7 +5,7 @@ ghost use Rattle.mako_shape.specs.Places.{total};
 ghost use Rattle.mako_step.specs.Acts.{IsWithin};
 ghost use Rattle.mako_call.specs.Callers.{IsCaller};
 ghost use Rattle.mako_call.specs.Leaving as leaving;
-ghost use Rattle.mako_call.specs.Calls.{tells};
+ghost use Rattle.mako_call.specs.Calls.{decided, leave_decided, newly};
 ghost use Rattle.mako_call.specs.Leaving.{leave_next, leave_fed, LeaveIsKnown};
 
 use crate::call_stage::CallStage;
@@ -27,6 +27,7 @@ pub enum LeaveStage {
 }
 
 impl LeaveStage {
+    #[inline(always)]
     pub(crate) fn next(self, caller: &Caller) -> Step
         requires caller { IsCaller caller.now }
         requires known { LeaveIsKnown caller.now.shape self }
@@ -43,26 +44,21 @@ impl LeaveStage {
 }
 
 impl CallStage {
-    ghost use Rattle.mako_call.specs.declared.call_stage.CallStage.TheVariants as stages;
-    ghost use Rattle.mako_call.specs.declared.leaving.LeaveStage.{LeaveStage};
-
-    /// Goes on where it leaves the gates, for a last attempt or another.
+    /// Goes where this stage of a last attempt, or of another, leads.
+    #[inline(always)]
     #[tactic(auto, using(crate::proofs::Telling::same_tells_nothing))]
-    pub(crate) fn feed_leaving(&mut self, last: bool) -> bool
-        ensures { (stage : LeaveStage) → self.old ≡ stages.Leaving stage →
-            (self.new ≡ leave_fed last stage) × (result ≡ tells self.old self.new) }
+    pub(crate) fn feed_leaving(&mut self, stage: LeaveStage, last: bool) -> bool
+        ensures fed { self.new ≡ leave_fed last stage }
+        ensures told { result ≡ newly (leave_decided stage) (decided self.new) }
     {
-        let CallStage::Leaving(stage) = self else {
-            return false;
-        };
-        match *stage {
+        match stage {
             LeaveStage::Refused(word) => {
                 *self = CallStage::Ended(Attempt::Pause(Pause::Stopped(word)));
             }
             LeaveStage::TurnedAway { tablet, word } => {
-                *stage = LeaveStage::FromOwn(Attempt::Pause(Pause::Shut { tablet, word }));
+                *self = leaving(Attempt::Pause(Pause::Shut { tablet, word }));
             }
-            LeaveStage::FromTablet { outcome, .. } => *stage = LeaveStage::FromOwn(outcome),
+            LeaveStage::FromTablet { outcome, .. } => *self = leaving(outcome),
             LeaveStage::FromOwn(Attempt::Full) if last => {
                 *self = CallStage::Ended(Attempt::Answer(Reply::Full));
                 return true;

@@ -4,8 +4,8 @@ ghost use Rattle.std.specs.Prelude.{◌≡◌, None};
 ghost use Rattle.mako_shape.specs.Places.{total};
 ghost use Rattle.mako_step.specs.Acts.{IsWithin};
 ghost use Rattle.mako_call.specs.Callers.{IsCaller};
-ghost use Rattle.mako_call.specs.Rooting.{root_next, root_fed, source_fed, target_fed, RootIsKnown};
-ghost use Rattle.mako_call.specs.Calls.{StageFits, decided, newly, tells};
+ghost use Rattle.mako_call.specs.Rooting.{root_next, root_fed, source_fed, target_fed, RootFits, RootIsKnown};
+ghost use Rattle.mako_call.specs.Calls.{decided, newly};
 ghost use Rattle.mako_call.specs.Leaving.{answered};
 
 use crate::call_stage::CallStage;
@@ -66,6 +66,7 @@ pub enum RootStage {
 }
 
 impl RootStage {
+    #[inline(always)]
     pub(crate) fn next(self, caller: &Caller) -> Step
         requires caller { IsCaller caller.now }
         requires known { RootIsKnown caller.now.shape self }
@@ -89,19 +90,14 @@ impl RootStage {
 }
 
 impl CallStage {
-    ghost use Rattle.mako_call.specs.declared.call_stage.CallStage.TheVariants as stages;
-    ghost use Rattle.mako_call.specs.declared.rooting.RootStage.{RootStage};
-
-    /// Goes on with this word, where it works on the mutator's own roots.
-    pub(crate) fn feed_rooting(&mut self, caller: &Caller, before: u64) -> bool
-        requires fits { StageFits caller.now.shape self.old before }
-        ensures { (stage : RootStage) → self.old ≡ stages.Rooting stage →
-            (self.new ≡ root_fed stage before) × (result ≡ tells self.old self.new) }
+    /// Goes where this stage leads that found this word.
+    #[inline(always)]
+    pub(crate) fn feed_rooting(&mut self, caller: &Caller, stage: RootStage, before: u64) -> bool
+        requires fits { RootFits caller.now.shape stage before }
+        ensures fed { self.new ≡ root_fed stage before }
+        ensures told { result ≡ newly None (decided self.new) }
     {
-        let CallStage::Rooting(stage) = self else {
-            return false;
-        };
-        match *stage {
+        match stage {
             RootStage::StoringNumber { number, .. } => self.answer(Reply::Value(Value::Num(
                 number,
             ))),
@@ -110,7 +106,7 @@ impl CallStage {
             RootStage::LoadingShown { .. } => self.answer(Reply::Value(value_of(before))),
             RootStage::LoadingCopied { to, .. } => {
                 let value = value_of(before);
-                *stage = RootStage::StoringCopied { to, value };
+                *self = CallStage::Rooting(RootStage::StoringCopied { to, value });
                 false
             }
             RootStage::LoadingSource { to, field, .. } => self.source(to, field, value_of(before)),
@@ -118,11 +114,12 @@ impl CallStage {
                 self.target(field, from, value_of(before))
             }
             RootStage::LoadingValue { object, field, .. } => {
-                *stage = RootStage::LoadingPhase {
+                let value = value_of(before);
+                *self = CallStage::Rooting(RootStage::LoadingPhase {
                     object,
                     field,
-                    value: value_of(before),
-                };
+                    value,
+                });
                 false
             }
             RootStage::LoadingPhase {

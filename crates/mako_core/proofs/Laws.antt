@@ -9,6 +9,8 @@ use Rattle.mako_step.specs.Stepping.{stepped}
 use Rattle.mako_step.specs.declared.step.Step.{Step}
 use Rattle.mako_step.specs.declared.step.Step.TheVariants.{Do, Ended as NoStep}
 use Rattle.mako_step.specs.declared.stepping.Stepped.{Stepped}
+use Rattle.mako_step.specs.declared.stepping.Stepped.TheVariants.{Ended as StepEnded, Waiting as StepWaiting}
+use Rattle.mako_step.specs.declared.stepping.Stepped.TheVariants.{Moved as StepMoved}
 use Rattle.mako_model.specs.Fronts.{Seen}
 use Rattle.mako_model.specs.declared.event.Event.{Event}
 use Rattle.mako_model.specs.declared.event.Event.TheVariants.{Nothing, Answered, Snapped, Finished}
@@ -31,8 +33,8 @@ use Rattle.mako_state.specs.CoreStates.{CoreState, got_by, front_after, made, st
 use Rattle.mako_state.proofs.Seating.{set_again}
 use Rattle.mako_whole.specs.AllStanding.{SeatsStand}
 use Rattle.mako_whole.proofs.AllStandingGoing.{steps_stand, steps_can_go}
-use Rattle.mako_core.specs.Histories.{history_after}
-use Rattle.mako_core.specs.Turns.{stepped_on, turn_by, turn_at, told_by, told_at}
+use Rattle.mako_mutator.specs.Telling.{history_after, told_by, untold}
+use Rattle.mako_core.specs.Turns.{stepped_on, turn_by, turn_at, told_at}
 use Rattle.mako_core.specs.Cores.{core_view, cycles_in, CoreHolds}
 use Rattle.mako_core.proofs.Finishing.{answers, finished_kept}
 use Rattle.mako_core.proofs.Rooms.{history_fits}
@@ -69,6 +71,12 @@ quiet : (v : Seat) (w : ℕ) → is_waiting v w ≡ true → event_of v w ≡ No
 quiet (Mutator d) w waits = absurd cc
 quiet (Server v) w waits = refl
 quiet (Collector c) w waits = quiet_at c.kept c.stage w waits
+
+-- what a step tells does not change how it is told
+pub turn_untold : (came : Stepped Event) → turn_by (untold came) ≡ turn_by came
+turn_untold StepEnded = refl
+turn_untold (StepWaiting word) = refl
+turn_untold (StepMoved event) = refl
 
 -- ---- a step of one seat
 

@@ -1,4 +1,3 @@
-pub mod Histories
 pub mod Turns
 pub mod Cores
 pub mod Endings

@@ -7,6 +7,7 @@ use Rattle.mako_step.specs.declared.stepping.Stepped.TheVariants.{Ended as StepE
 use Rattle.mako_step.specs.declared.stepping.Stepped.TheVariants.{Moved as StepMoved}
 use Rattle.mako_model.specs.declared.event.Event.{Event}
 use Rattle.mako_model.specs.declared.event.Event.TheVariants.{Nothing}
+use Rattle.mako_mutator.specs.Telling.{told_by}
 use Rattle.mako_seat.specs.Seats.{next_of, event_of, is_waiting}
 use Rattle.mako_seat.specs.declared.seat.Seat.{Seat}
 use Rattle.mako_state.specs.CoreStates.{CoreState}
@@ -17,7 +18,7 @@ use Rattle.mako_core.specs.declared.turn.Turn.TheVariants.{Moved, Waiting, Ended
 abbrev pub stepped_on : Seat → ℕ → Stepped Event
 stepped_on v found = stepped (next_of v) (is_waiting v found) found (event_of v found)
 
-abbrev pub turn_by : Stepped Event → Turn
+abbrev pub turn_by : {E : Type 0} → Stepped E → Turn
 turn_by StepEnded = Ended
 turn_by (StepWaiting word) = Waiting word
 turn_by (StepMoved event) = Moved
@@ -27,11 +28,6 @@ turn_by (StepMoved event) = Moved
 abbrev pub turn_at : CoreState → Option Seat → Turn
 turn_at st (Some v) = turn_by (stepped_on v (finds (next_of v) st.words))
 turn_at st None = Ended
-
-abbrev pub told_by : Stepped Event → Event
-told_by StepEnded = Nothing
-told_by (StepWaiting word) = Nothing
-told_by (StepMoved event) = event
 
 -- what the step tells: the event of a step that moves, and else nothing
 abbrev pub told_at : CoreState → Option Seat → Event

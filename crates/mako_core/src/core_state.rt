@@ -1,13 +1,13 @@
 //! The core of a run.
 
 ghost use Rattle.std.specs.Prelude.{◌≡◌, ◌<◌, ◌≤◌, ◌++◌, ◌∷◌, [], length, slice_get, slice_index, Some, IfOk};
-ghost use Rattle.mako_core.specs.Histories.{history_after};
+ghost use Rattle.mako_mutator.specs.Telling.{history_after};
 
 use crate::opening_seats::{count_points, opening_seats};
 use crate::opening_words::opening_words;
 use crate::replies::{take_collector, with_replies};
-use crate::turn::{Turn, told};
-use mako_model::{Cycles, Event, Front, Journal, Outcome, Point, Reply};
+use crate::turn::Turn;
+use mako_model::{Cycles, Front, Journal, Outcome, Reply};
 use mako_mutator::Place;
 use mako_script::Script;
 use mako_seat::Seat;
@@ -17,19 +17,6 @@ use mako_words::Memory;
 use std::alloc::Global;
 use std::marker::Model;
 use std::snapshot::Snapshot;
-
-/// What a step told goes behind the points before it.
-fn keep_point(journal: &mut Journal, event: Event)
-    requires { length (history_after journal.old.points event) ≤ journal.old.room }
-    ensures points { journal.new.points ≡ history_after journal.old.points event }
-    ensures room { journal.new.room ≡ journal.old.room }
-{
-    match event {
-        Event::Answered(point) => journal.push(point),
-        Event::Snapped(cycle) => journal.push(Point::Snap { cycle }),
-        Event::Nothing | Event::Finished(_) => {}
-    }
-}
 
 /// The words of a heap, the machine of each seat, and the journal. The seats are the mutators, then the servers, then
 /// the collector.
@@ -142,6 +129,7 @@ impl<W: Words> Core<W> {
     }
 
     /// Makes one atomic step of the seat.
+    #[inline(always)]
     pub fn step(&mut self, seat: u32) -> Turn
         requires { seat < length self.old.state.seats }
         ensures script { self.new.script ≡ self.old.script }
@@ -152,8 +140,7 @@ impl<W: Words> Core<W> {
             self.new.state.front.history ≡ history_after self.old.state.front.history told }
         ensures holds { SeatsStand self.new.script.numbers (facts_of self.new.script) self.new.state }
     {
-        let stepped = self.seats[seat as usize].step(&mut self.words);
-        keep_point(&mut self.journal, told(stepped));
+        let stepped = self.seats[seat as usize].step(&mut self.words, &mut self.journal);
         Turn::of(stepped)
     }
 }

@@ -3,7 +3,6 @@
 ghost use Rattle.std.specs.Prelude.{◌≡◌};
 ghost use Rattle.mako_core.specs.Turns as turns;
 
-use mako_model::Event;
 use mako_step::Stepped;
 
 /// What a step of a seat was.
@@ -18,7 +17,7 @@ pub enum Turn {
 
 impl Turn {
     /// What a step was that came to this.
-    pub(crate) fn of(stepped: Stepped<Event>) -> Turn
+    pub(crate) fn of(stepped: Stepped<()>) -> Turn
         ensures { result ≡ turns.turn_by stepped }
     {
         match stepped {
@@ -26,15 +25,5 @@ impl Turn {
             Stepped::Waiting(word) => Turn::Waiting(word),
             Stepped::Ended => Turn::Ended,
         }
-    }
-}
-
-/// What a step tells that came to this.
-pub(crate) fn told(stepped: Stepped<Event>) -> Event
-    ensures { result ≡ turns.told_by stepped }
-{
-    match stepped {
-        Stepped::Moved(event) => event,
-        Stepped::Waiting(_) | Stepped::Ended => Event::Nothing,
     }
 }

@@ -4,6 +4,7 @@ use Rattle.std.specs.Prelude.{is_some, length, slice_get}
 use Rattle.mako_shape.specs.declared.numbers.Numbers.{Numbers}
 use Rattle.mako_shape.specs.Places.{index, finished}
 use Rattle.mako_step.specs.Acts.{does}
+use Rattle.mako_step.specs.Machines.{IsAct}
 use Rattle.mako_step.specs.declared.act.Op.TheVariants.{Add}
 use Rattle.mako_step.specs.declared.step.Step.{Step}
 use Rattle.mako_step.specs.declared.step.Step.TheVariants.{Ended as NoStep}
@@ -183,6 +184,18 @@ place_by done b Ended = PlaceEnded
 
 abbrev pub place_at : Progress → Place
 place_at p = place_by p.done p.within p.task
+
+-- an attempt that has an act to make
+abbrev pub AttemptActs : Task → Type 0
+AttemptActs (Attempting m) = IsAct (calling.next_of m)
+AttemptActs (Awaiting m) = ⊥
+AttemptActs Finishing = ⊥
+AttemptActs Ended = ⊥
+
+-- what a step of an attempt tells that has decided its call, or has not
+abbrev pub told_if : Bool → Calling → Event
+told_if true m = calling.event_by m.caller.mutator m.call None (decided m.stage)
+told_if false m = Nothing
 
 -- the calls are ones that the mutator can make
 abbrev pub AreFitting : Numbers → List Call → Type 0

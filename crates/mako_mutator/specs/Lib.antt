@@ -1,2 +1,3 @@
 pub mod Drivers
 pub mod DriverHolds
+pub mod Telling

@@ -3,15 +3,19 @@
 ghost use Rattle.std.specs.Prelude.{◌≡◌, ◌<◌, ◌≤◌, ◌+◌, ◌++◌, ℕ, false, IfOk, length, slice_get, Some, vec_len};
 ghost use Rattle.std.specs.Prelude.{vec_capacity, ◌↔◌, IsTrue};
 ghost use Rattle.mako_shape.specs.Places.{total};
-ghost use Rattle.mako_step.specs.Acts.{IsWithin};
+ghost use Rattle.mako_step.specs.Acts.{finds, words_stepped, IsWithin};
+ghost use Rattle.mako_step.specs.Machines.{CanStep, machine_stepped};
+ghost use Rattle.mako_step.specs.Stepping.{stepped};
+ghost use Rattle.mako_mutator.specs.Telling.{history_after, told_by, untold};
 ghost use Rattle.mako_mutator.specs.Drivers as drivers;
 
 use crate::place::Place;
 use crate::progress::{Progress, Task};
-use mako_call::Caller;
-use mako_model::{Call, Event, Point, Reply};
+use crate::telling::keep_point;
+use mako_call::{CallMachine, Caller};
+use mako_model::{Call, Event, Journal, Point, Reply};
 use mako_script::Script;
-use mako_step::{Machine, Step};
+use mako_step::{Machine, Step, Stepped, Words};
 use mako_words::Memory;
 use std::alloc::Global;
 use std::marker::Model;
@@ -76,6 +80,57 @@ impl Driver {
             Task::Attempting(machine) | Task::Awaiting(machine) => machine.can_go_on(before),
             Task::Finishing | Task::Ended => true,
         }
+    }
+
+    /// Makes its next step on the words, and what the step tells goes into the journal.
+    #[inline(always)]
+    pub fn step<W: Words>(&mut self, words: &mut W, journal: &mut Journal) -> Stepped<()>
+        requires can { CanStep (drivers.next_of self.old) (W.words words.old) (drivers.Fits self.old) }
+        requires room { let found = finds (drivers.next_of self.old) (W.words words.old) in
+            let step = stepped (drivers.next_of self.old) false found (drivers.event_of self.old found) in
+            length (history_after journal.old.points (told_by step)) ≤ journal.old.room }
+        ensures words { W.words words.new ≡ words_stepped (drivers.next_of self.old) (W.words words.old) }
+        ensures machine { let found = finds (drivers.next_of self.old) (W.words words.old) in
+            self.new ≡ machine_stepped (drivers.next_of self.old) self.old (drivers.fed self.old found) }
+        ensures points { let found = finds (drivers.next_of self.old) (W.words words.old) in
+            let step = stepped (drivers.next_of self.old) false found (drivers.event_of self.old found) in
+            journal.new.points ≡ history_after journal.old.points (told_by step) }
+        ensures room { journal.new.room ≡ journal.old.room }
+        ensures result { let found = finds (drivers.next_of self.old) (W.words words.old) in
+            result ≡ untold (stepped (drivers.next_of self.old) false found (drivers.event_of self.old found)) }
+    {
+        if self.progress.is_short() {
+            self.step_shortly(words, journal);
+            return Stepped::Moved(());
+        }
+        let Step::Do(act) = self.next() else {
+            return Stepped::Ended;
+        };
+        let before = words.act(act);
+        let event = self.feed(before);
+        keep_point(journal, event);
+        Stepped::Moved(())
+    }
+
+    /// Makes the short step of an attempt.
+    #[inline(always)]
+    fn step_shortly<W: Words>(&mut self, words: &mut W, journal: &mut Journal)
+        requires acts { drivers.AttemptActs self.old.progress.task }
+        requires can { CanStep (drivers.next_of self.old) (W.words words.old) (drivers.Fits self.old) }
+        requires room { let found = finds (drivers.next_of self.old) (W.words words.old) in
+            length (history_after journal.old.points (drivers.event_of self.old found)) ≤ journal.old.room }
+        ensures words { W.words words.new ≡ words_stepped (drivers.next_of self.old) (W.words words.old) }
+        ensures fed { self.new ≡ drivers.fed self.old (finds (drivers.next_of self.old) (W.words words.old)) }
+        ensures points { let found = finds (drivers.next_of self.old) (W.words words.old) in
+            journal.new.points ≡ history_after journal.old.points (drivers.event_of self.old found) }
+        ensures room { journal.new.room ≡ journal.old.room }
+    {
+        let Task::Attempting(attempt) = &mut self.progress.task else {
+            unreachable!()
+        };
+        let tells = attempt.step(words);
+        keep_told(&mut self.replies, journal, attempt, tells);
+        self.progress.go_on(&self.caller, self.calls.as_slice());
     }
 
     /// How far it has come.
@@ -153,5 +208,23 @@ fn keep_reply(replies: &mut Vec<Reply>, event: Event)
 {
     if let Event::Answered(Point::Did { reply, .. }) = event {
         replies.push_reserved(reply);
+    }
+}
+
+/// The reply and the point of a call that the attempt's last step decided are kept.
+#[inline(always)]
+fn keep_told(replies: &mut Vec<Reply>, journal: &mut Journal, attempt: &CallMachine, tells: bool)
+    requires replies { vec_len replies.old + length (drivers.told_reply (drivers.told_if tells attempt.now)) ≤
+        vec_capacity replies.old }
+    requires journal { length (history_after journal.old.points (drivers.told_if tells attempt.now)) ≤ journal.old.room }
+    ensures items { replies.new.items ≡ replies.old.items ++ drivers.told_reply (drivers.told_if tells attempt.now) }
+    ensures capacity { vec_capacity replies.new ≡ vec_capacity replies.old }
+    ensures points { journal.new.points ≡ history_after journal.old.points (drivers.told_if tells attempt.now) }
+    ensures room { journal.new.room ≡ journal.old.room }
+{
+    if tells {
+        let event = attempt.event();
+        keep_reply(replies, event);
+        keep_point(journal, event);
     }
 }

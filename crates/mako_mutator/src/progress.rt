@@ -1,6 +1,6 @@
 //! How far a driver has come.
 
-ghost use Rattle.std.specs.Prelude.{◌≡◌, ◌<◌, ◌+◌, ◌^◌, length, slice_get};
+ghost use Rattle.std.specs.Prelude.{◌≡◌, ◌<◌, ◌+◌, ◌^◌, length, slice_get, IsTrue};
 ghost use Rattle.std.specs.Option.{ForSome};
 ghost use Rattle.mako_shape.specs.Places.{total};
 ghost use Rattle.mako_step.specs.Acts.{IsWithin};
@@ -122,11 +122,7 @@ impl Progress {
             }
             Task::Attempting(attempt) => {
                 let event = attempt.feed(before);
-                if attempt.has_ended() {
-                    self.end_attempt(caller, calls);
-                } else {
-                    self.within = true;
-                }
+                self.go_on(caller, calls);
                 event
             }
             Task::Awaiting(_) => {
@@ -137,6 +133,38 @@ impl Progress {
                 self.task = Task::Ended;
                 Event::Nothing
             }
+        }
+    }
+
+    /// After a step of an attempt: it goes on with the attempt, or with what follows it.
+    #[inline(always)]
+    #[tactic(auto, using(crate::proofs::Tasks::one_attempt))]
+    pub(crate) fn go_on(&mut self, caller: &Caller, calls: &[Call])
+        requires caller { IsCaller caller.now }
+        requires calls { AreFitting caller.now.shape calls.now }
+        requires same { drivers.IsOf caller.now self.old.task }
+        requires call { drivers.MakesFitting caller.now.shape self.old.task }
+        requires done { self.old.done + 1 < 2 ^ 32 }
+        ensures { (attempt : Calling) → self.old.task ≡ tasks.Attempting attempt →
+            self.new ≡ drivers.after_attempt caller.now calls.now self.old attempt }
+    {
+        let Task::Attempting(attempt) = &self.task else {
+            return;
+        };
+        if attempt.has_ended() {
+            self.end_attempt(caller, calls);
+        } else {
+            self.within = true;
+        }
+    }
+
+    /// Whether it makes an attempt whose next step is a short one.
+    pub(crate) fn is_short(&self) -> bool
+        ensures { IsTrue result → drivers.AttemptActs self.now.task }
+    {
+        match &self.task {
+            Task::Attempting(attempt) => attempt.is_short(),
+            _ => false,
         }
     }
 

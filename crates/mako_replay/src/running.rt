@@ -65,6 +65,7 @@ impl Running {
     }
 
     /// Makes the next step of the schedule.
+    #[inline(always)]
     pub(crate) fn step(&mut self)
         requires live { self.old.live.items ≡ live self.old.core.state.seats }
         requires one { self.old.live.items ≢ [] }

@@ -1,14 +1,15 @@
 //! The machine of a seat.
 
-ghost use Rattle.std.specs.Prelude.{◌≡◌, if◌then◌else◌};
+ghost use Rattle.std.specs.Prelude.{◌≡◌, ◌≤◌, if◌then◌else◌, length};
 ghost use Rattle.mako_step.specs.Acts.{finds, words_stepped};
 ghost use Rattle.mako_step.specs.Machines.{CanStep, machine_stepped};
 ghost use Rattle.mako_step.specs.Stepping.{stepped};
+ghost use Rattle.mako_mutator.specs.Telling.{history_after, told_by, untold};
 ghost use Rattle.mako_mutator.specs.declared.place.Place.TheVariants as places;
 ghost use Rattle.mako_seat.specs.Seats as seats;
 
-use mako_model::Event;
-use mako_mutator::{Driver, Place};
+use mako_model::Journal;
+use mako_mutator::{Driver, Place, tell};
 use mako_pause::Collector;
 use mako_server::Server;
 use mako_step::{Stepped, Words, make_step};
@@ -40,19 +41,28 @@ impl Seat {
         }
     }
 
-    /// Makes its next step on the words.
-    pub fn step<W: Words>(&mut self, words: &mut W) -> Stepped<Event>
-        requires { CanStep (seats.next_of self.old) (W.words words.old) (seats.Fits self.old) }
+    /// Makes its next step on the words, and what the step tells goes into the journal.
+    #[inline(always)]
+    pub fn step<W: Words>(&mut self, words: &mut W, journal: &mut Journal) -> Stepped<()>
+        requires can { CanStep (seats.next_of self.old) (W.words words.old) (seats.Fits self.old) }
+        requires room { let found = finds (seats.next_of self.old) (W.words words.old) in
+            let step = stepped (seats.next_of self.old) (seats.is_waiting self.old found) found (seats.event_of self.old found) in
+            length (history_after journal.old.points (told_by step)) ≤ journal.old.room }
         ensures words { W.words words.new ≡ words_stepped (seats.next_of self.old) (W.words words.old) }
         ensures machine { let found = finds (seats.next_of self.old) (W.words words.old) in
             self.new ≡ machine_stepped (seats.next_of self.old) self.old (seats.fed self.old found) }
+        ensures points { let found = finds (seats.next_of self.old) (W.words words.old) in
+            let step = stepped (seats.next_of self.old) (seats.is_waiting self.old found) found (seats.event_of self.old found) in
+            journal.new.points ≡ history_after journal.old.points (told_by step) }
+        ensures room { journal.new.room ≡ journal.old.room }
         ensures result { let found = finds (seats.next_of self.old) (W.words words.old) in result ≡
-            stepped (seats.next_of self.old) (seats.is_waiting self.old found) found (seats.event_of self.old found) }
+            untold (stepped (seats.next_of self.old) (seats.is_waiting self.old found) found
+            (seats.event_of self.old found)) }
     {
         match self {
-            Seat::Mutator(driver) => make_step(driver, words),
-            Seat::Server(server) => make_step(server, words),
-            Seat::Collector(collector) => make_step(collector, words),
+            Seat::Mutator(driver) => driver.step(words, journal),
+            Seat::Server(server) => tell(make_step(server, words), journal),
+            Seat::Collector(collector) => tell(make_step(collector, words), journal),
         }
     }
 }

@@ -30,6 +30,8 @@ impl Words for FlatWords {
         Ok(FlatWords { words })
     }
 
+    // where the operation is known, only its own arm is left
+    #[inline(always)]
     fn act(&mut self, act: Act) -> u64 {
         let word = &mut self.words[act.word as usize];
         let before = *word;

@@ -1,11 +1,9 @@
-use Rattle.std.proofs.Common.{◌≡◌, ◌<◌, Option, None, ap, subst, sym, ◌∙◌}
-use Rattle.mako_model.specs.declared.reply.Reply.{Reply}
+use Rattle.std.proofs.Common.{◌<◌, None, ap, subst, sym, ◌∙◌}
 use Rattle.mako_call.specs.declared.call_stage.CallStage.{CallStage}
 use Rattle.mako_call.specs.Calls.{Calling, rank, decided, event_by, event_of, IsKnown}
 use Rattle.mako_call.proofs.CallGoing.{call_goes, call_known, put_together}
 use Rattle.mako_call.proofs.Telling.{tells_first}
 use Rattle.mako_call.proofs.call_machine.CallMachineMachine.feed.Goals as goal
-use Rattle.mako_call.proofs.call_machine.CallMachineMachine.feed.Goals.{in-Some, in-None}
 
 pub invariant_of-self : goal.invariant_of-self
 invariant_of-self c =
@@ -43,13 +41,7 @@ returns-clause-event c =
     let w = c.args.before in
     let new = c.feed-tells.new.self in
     let told = sym c.feed-tells.ensures.told ∙ c.if-not-tells.false in
-    let Tells : Option Reply → Type 0 = λ o. c.match-decided.result ≡ event_by i.caller.mutator i.call None o in
-    let first : Tells (decided new) = elim c.match-decided.branch [
-      | in-Some b ↦ b.result-is
-          ∙ ap (λ o. event_by i.caller.mutator i.call None o) (sym b.in-Some.is ∙ c.decided.ensures)
-      | in-None b ↦ b.result-is
-          ∙ ap (λ o. event_by i.caller.mutator i.call None o) (sym b.in-None.is ∙ c.decided.ensures)
-    ] in
+    let first = c.answered.ensures ∙ ap (λ o. event_by i.caller.mutator i.call None o) c.decided.ensures in
     let first_is = sym (tells_first i.caller.mutator i.call (decided i.stage) (decided new) told) in
     let fed_is = ap (λ (s : CallStage). event_by i.caller.mutator i.call (decided i.stage)
     (decided s)) c.feed-tells.ensures.fed in

@@ -19,12 +19,12 @@ after_step words v = machine_stepped (next_of v) v (fed v (finds (next_of v) wor
 
 pub returns-in-Mutator-clause-machine : goal.returns-in-Mutator-clause-machine
 returns-in-Mutator-clause-machine g c =
-    ap Mutator c.make_step.ensures.machine ∙ seat_stepped Mutator _ _ _
+    ap Mutator c.step.ensures.machine ∙ seat_stepped Mutator _ _ _
     ∙ ap (after_step (g.W.Words.words c.args.words.now)) (sym c.in-Mutator.is)
 
 pub returns-in-Server-clause-machine : goal.returns-in-Server-clause-machine
 returns-in-Server-clause-machine g c =
-    ap Server c.make_step-in-Server.ensures.machine ∙ seat_stepped Server _ _ _
+    ap Server c.make_step.ensures.machine ∙ seat_stepped Server _ _ _
     ∙ ap (after_step (g.W.Words.words c.args.words.now)) (sym c.in-Server.is)
 
 pub returns-in-Collector-clause-machine : goal.returns-in-Collector-clause-machine
