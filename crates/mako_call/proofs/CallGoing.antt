@@ -1,5 +1,5 @@
 -- Each step of an attempt keeps its numbers in range and its stage one of the call, and lowers its rank.
-use Rattle.std.proofs.Common.{◌≡◌, ℕ, Bool, true, false, ◌+◌, ◌<◌, if◌then◌else◌, ap, subst, ◌∙◌, refl, arith}
+use Rattle.std.proofs.Common.{◌≡◌, ℕ, Bool, true, false, ◌+◌, ◌<◌, if◌then◌else◌, ap, ◌∙◌, refl, arith, sym}
 use Rattle.mako_words.specs.Gates.{is_shut}
 use Rattle.mako_step.specs.Machines.{IsAct}
 use Rattle.mako_step.proofs.Cases.{by_eq}
@@ -121,27 +121,25 @@ call_known v w known fits acts = let on = call_goes v w known fits acts in recor
 }
 
 -- what the code puts together is the attempt after the step
-pub put_together : (o v : Calling) (w slot : ℕ) (stage : CallStage) → o ≡ v
-    → slot ≡ slot_after v.caller.shape v.slot v.stage → stage ≡ stage_fed o.caller o.call o.last o.slot o.stage w →
+pub put_together : (o v : Calling) (w slot : ℕ) (at stage : CallStage) → o ≡ v → v.stage ≡ at
+    → slot ≡ slot_after v.caller.shape v.slot at → stage ≡ stage_fed o.caller o.call o.last o.slot at w →
     record { caller = o.caller; call = o.call; last = o.last; slot = slot; stage = stage } ≡ fed v w
-put_together o v w slot stage same slot_is stage_at =
-    let Stands : Calling → Type 0 = λ q. stage ≡ stage_fed q.caller q.call q.last q.slot q.stage w in
-    let stage_is : stage ≡ stage_fed v.caller v.call v.last v.slot v.stage w = subst Stands same stage_at in
-    let of_old : Calling
-    → Calling = λ q. record { caller = q.caller; call = q.call; last = q.last; slot = slot; stage = stage } in
-    let of_slot : ℕ → Calling = λ q. record {
-      caller = v.caller;
-      call = v.call;
-      last = v.last;
-      slot = q;
-      stage = stage;
+put_together o v w slot at stage same own slot_is stage_is =
+    let stands : ℕ → CallStage → Calling = λ n s. record {
+      caller = o.caller;
+      call = o.call;
+      last = o.last;
+      slot = n;
+      stage = s;
     } in
-    let of_stage : CallStage
-    → Calling = λ q. record {
-      caller = v.caller;
-      call = v.call;
-      last = v.last;
-      slot = slot_after v.caller.shape v.slot v.stage;
-      stage = q;
-    } in
-    ap of_old same ∙ (ap of_slot slot_is ∙ ap of_stage stage_is)
+    let own_is : o.stage ≡ at = ap (λ (q : Calling). q.stage) same ∙ own in
+    let by_stage : CallStage
+    → Calling = λ s. stands (slot_after o.caller.shape o.slot s) (stage_fed o.caller o.call o.last o.slot s w) in
+    ap (λ n. stands n stage) (slot_is ∙ ap (λ (q : Calling). slot_after q.caller.shape q.slot at) (sym same))
+    ∙ (ap (stands (slot_after o.caller.shape o.slot at)) stage_is
+    ∙ (ap by_stage (sym own_is) ∙ ap (λ (q : Calling). fed q w) same))
+
+-- what is next at its own stage
+pub next_at : (o v : Calling) (at : CallStage) → o ≡ v → v.stage ≡ at → next_of v ≡ stage_next o.caller o.slot at
+next_at o v at same own =
+    ap next_of (sym same) ∙ ap (stage_next o.caller o.slot) (ap (λ (q : Calling). q.stage) same ∙ own)

@@ -11,3 +11,4 @@ pub mod Shown
 pub mod Stopping
 pub mod Finding
 pub mod ReadWords
+pub mod StandingLaws

@@ -11,5 +11,6 @@ pub mod Allocating
 pub mod Agreeing
 pub mod Calls
 pub mod Keeping
+pub mod Standings
 pub mod Deciding
 pub mod Causes

@@ -6,11 +6,12 @@ ghost use Rattle.mako_step.specs.Acts.{IsWithin};
 ghost use Rattle.mako_call.specs.Callers.{IsCaller};
 ghost use Rattle.mako_call.specs.Allocating.{new_next, new_fed, found_fed, NewIsKnown};
 ghost use Rattle.mako_call.specs.Calls.{StageIsKnown, StageFits, decided, newly, tells};
+ghost use Rattle.mako_call.specs.Standings.{stage_at};
 
 use crate::asking::cycle_of;
-use crate::call_stage::CallStage;
 use crate::caller::Caller;
 use crate::leaving::{answered_at, leaving};
+use crate::standing::Standing;
 use crate::words::phase_of;
 use mako_alloc::{Found, NewMachine};
 use mako_model::{Attempt, Reply};
@@ -48,20 +49,21 @@ impl AllocStage {
     }
 }
 
-impl CallStage {
+impl Standing {
     ghost use Rattle.mako_call.specs.declared.allocating.AllocStage.{AllocStage};
-    ghost use Rattle.mako_call.specs.declared.call_stage.CallStage.TheVariants as stages;
+    ghost use Rattle.mako_call.specs.declared.standing.Standing.TheVariants as standings;
 
     /// Goes on with this word, where it makes an object.
     #[inline(never)]
     pub(crate) fn feed_allocating(&mut self, caller: &Caller, before: u64) -> bool
         requires caller { IsCaller caller.now }
-        requires known { StageIsKnown caller.now self.old }
-        requires fits { StageFits caller.now.shape self.old before }
-        ensures { (stage : AllocStage) → self.old ≡ stages.Allocating stage →
-            (self.new ≡ new_fed caller.now stage before) × (result ≡ tells self.old self.new) }
+        requires known { StageIsKnown caller.now (stage_at self.old) }
+        requires fits { StageFits caller.now.shape (stage_at self.old) before }
+        ensures { (stage : AllocStage) → self.old ≡ standings.Allocating stage →
+            (stage_at self.new ≡ new_fed caller.now stage before)
+            × (result ≡ tells (stage_at self.old) (stage_at self.new)) }
     {
-        let CallStage::Allocating(stage) = self else {
+        let Standing::Allocating(stage) = self else {
             return false;
         };
         match stage {
@@ -92,12 +94,12 @@ impl CallStage {
 
     /// It has gone over the tablets. Whether it made the object.
     fn end_search(&mut self, root: u8, found: Found) -> bool
-        ensures fed { self.new ≡ found_fed root found }
-        ensures told { result ≡ newly None (decided self.new) }
+        ensures fed { stage_at self.new ≡ found_fed root found }
+        ensures told { result ≡ newly None (decided (stage_at self.new)) }
     {
         match found {
             Found::Made { name, tablet } => {
-                *self = CallStage::Allocating(AllocStage::StoringRoot { root, name, tablet });
+                *self = Standing::Allocating(AllocStage::StoringRoot { root, name, tablet });
                 true
             }
             Found::Full => {

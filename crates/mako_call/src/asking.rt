@@ -7,8 +7,9 @@ ghost use Rattle.mako_words.specs.Phases as phases;
 ghost use Rattle.mako_call.specs.Asking as asking;
 ghost use Rattle.mako_call.specs.Asking.{ask_next, ask_fed, ask_waits, AskFits};
 ghost use Rattle.mako_call.specs.Calls.{StageFits, tells};
+ghost use Rattle.mako_call.specs.Standings.{stage_at};
 
-use crate::call_stage::CallStage;
+use crate::standing::Standing;
 use crate::words::phase_of;
 use mako_model::{Attempt, Pause, Reply};
 use mako_shape::Shape;
@@ -48,25 +49,26 @@ impl AskStage {
     }
 }
 
-impl CallStage {
+impl Standing {
     ghost use Rattle.mako_call.specs.declared.asking.AskStage.{AskStage};
-    ghost use Rattle.mako_call.specs.declared.call_stage.CallStage.TheVariants as stages;
+    ghost use Rattle.mako_call.specs.declared.standing.Standing.TheVariants as standings;
 
     /// Goes on with this word, where it asks for a cycle.
-    #[inline(never)]
+    #[inline(always)]
     pub(crate) fn feed_asking(&mut self, shape: &Shape, before: u64) -> bool
-        requires fits { StageFits shape.now self.old before }
-        ensures { (stage : AskStage) → self.old ≡ stages.Asking stage →
-            (self.new ≡ ask_fed shape.now stage before) × (result ≡ tells self.old self.new) }
+        requires fits { StageFits shape.now (stage_at self.old) before }
+        ensures { (stage : AskStage) → self.old ≡ standings.Asking stage →
+            (stage_at self.new ≡ ask_fed shape.now stage before)
+            × (result ≡ tells (stage_at self.old) (stage_at self.new)) }
     {
-        let CallStage::Asking(stage) = self else {
+        let Standing::Asking(stage) = self else {
             return false;
         };
         match *stage {
             AskStage::LoadingPhase => {
                 let cycle = cycle_of(phase_of(before));
                 if cycle == shape.numbers().cycles {
-                    *self = CallStage::Ended(Attempt::Answer(Reply::Spent));
+                    *self = Standing::Ended(Attempt::Answer(Reply::Spent));
                     return true;
                 }
                 *stage = AskStage::RaisingDemand { cycle: cycle + 1 };
@@ -74,11 +76,11 @@ impl CallStage {
             AskStage::RaisingDemand { cycle } => *stage = AskStage::Awaiting { cycle },
             AskStage::Awaiting { cycle } => {
                 if finished_cycles(phase_of(before)) >= cycle {
-                    *self = CallStage::Ended(Attempt::Answer(Reply::Cycle(cycle)));
+                    *self = Standing::Ended(Attempt::Answer(Reply::Cycle(cycle)));
                     return true;
                 }
                 let (wanted, word) = (cycle, before);
-                *self = CallStage::Ended(Attempt::Pause(Pause::Cycle { wanted, word }));
+                *self = Standing::Ended(Attempt::Pause(Pause::Cycle { wanted, word }));
             }
         }
         false

@@ -10,14 +10,31 @@ ghost use Rattle.mako_call.specs.Keeping.{KeepFits};
 ghost use Rattle.mako_call.specs.Callers.{CallFits};
 ghost use Rattle.mako_call.specs.Calls as calls;
 
+use crate::allocating::AllocStage;
+use crate::asking::AskStage;
 use crate::call_stage::CallStage;
 use crate::caller::Caller;
+use crate::entering::EnterStage;
 use crate::fitting::is_gate;
+use crate::getting::GetStage;
+use crate::leaving::LeaveStage;
+use crate::moving::MoveStage;
 use crate::putting::PutStage;
+use crate::rooting::RootStage;
+use crate::standing::{Standing, with_stages};
 use mako_model::{Attempt, Call, Event, Pause, Point, Reply};
 use mako_shape::Shape;
 use mako_step::{Machine, Step, Words};
 use std::marker::Model;
+
+/// Makes the step of an attempt, in an arm of its own for each stage or group of stages.
+macro_rules! step_by_standing {
+    ([$attempt:expr, $words:expr] $([$($standing:tt)+] [$($stage:tt)+])+) => {
+        match $attempt.standing {
+            $(Standing::$($standing)+ => $attempt.step_at($($stage)+, $words),)+
+        }
+    };
+}
 
 /// What a mutator keeps from one attempt to the next.
 #[derive(Clone, Copy, Debug, PartialEq, Eq)]
@@ -51,25 +68,22 @@ pub struct CallMachine {
     call: Call,
     last: bool,
     slot: u32,
-    stage: CallStage,
+    standing: Standing,
 }
 
 impl Model for CallMachine {
     ghost use Rattle.mako_call.specs.Calls.{Calling, IsKnown};
+    ghost use Rattle.mako_call.specs.Standings.{calling_in, inside_of, inside_again};
 
     ghost Value = { Calling };
 
-    ghost view = { λ m. record { caller = m.caller; call = m.call; last = m.last; slot = m.slot; stage = m.stage } };
+    ghost view = { calling_in };
 
-    ghost invariant = { λ m. IsKnown (record {
-      caller = m.caller;
-      call = m.call;
-      last = m.last;
-      slot = m.slot;
-      stage = m.stage;
-    }) };
+    ghost invariant = { λ m. IsKnown (calling_in m) };
 
-    ghost inverse = { λ v. record { caller = v.caller; call = v.call; last = v.last; slot = v.slot; stage = v.stage } };
+    ghost inverse = { inside_of };
+
+    ghost inverse_ok = { λ m known. inside_again m };
 }
 
 impl CallMachine {
@@ -93,7 +107,7 @@ impl CallMachine {
             call,
             last,
             slot: keep.barrier_at as u32,
-            stage: CallStage::first(call, keep.asked),
+            standing: Standing::first(call, keep.asked),
         }
     }
 
@@ -107,7 +121,7 @@ impl CallMachine {
         self.call = call;
         self.last = last;
         self.slot = keep.barrier_at as u32;
-        self.stage = CallStage::first(call, keep.asked);
+        self.standing = Standing::first(call, keep.asked);
     }
 
     /// Whether it can go on with this word. A word that is not read may be any.
@@ -115,7 +129,7 @@ impl CallMachine {
         ensures { IsTrue result ↔ calls.Fits self.now before }
     {
         let shape = &self.caller.shape;
-        match self.stage {
+        match self.standing.stage() {
             CallStage::Arriving => is_gate(before),
             CallStage::Rooting(stage) => stage.can_go_on(shape, before),
             CallStage::Entering(_, stage) => stage.can_go_on(shape, before),
@@ -136,7 +150,7 @@ impl CallMachine {
         ensures asked { AskedFits self.now.caller.shape result.1.asked }
         ensures barrier { result.1.barrier_at < self.now.caller.shape.ring }
     {
-        let CallStage::Ended(outcome) = self.stage else {
+        let Standing::Ended(outcome) = self.standing else {
             unreachable!()
         };
         (outcome, self.keep(outcome))
@@ -148,8 +162,8 @@ impl CallMachine {
         ensures waits { result ≡ calls.stage_waits self.now.stage before }
         ensures again { IsTrue result → calls.ComesAgain self.now before }
     {
-        match self.stage {
-            CallStage::Asking(stage) => stage.waits_on(&self.caller.shape, before),
+        match self.standing {
+            Standing::Asking(stage) => stage.waits_on(&self.caller.shape, before),
             _ => false,
         }
     }
@@ -158,7 +172,7 @@ impl CallMachine {
     pub fn has_ended(&self) -> bool
         ensures ended { result ≡ false → calls.outcome_in self.now.stage ≡ None }
     {
-        matches!(self.stage, CallStage::Ended(_))
+        matches!(self.standing, Standing::Ended(_))
     }
 
     /// What it came to and keeps, where it has ended.
@@ -167,8 +181,8 @@ impl CallMachine {
         ensures some { IfSome result (λ r. (calls.outcome_in self.now.stage ≡ Some r.0)
             × (r.1 ≡ calls.kept self.now r.0) × KeepFits self.now.caller.shape r.1) }
     {
-        match self.stage {
-            CallStage::Ended(outcome) => Some((outcome, self.keep(outcome))),
+        match self.standing {
+            Standing::Ended(outcome) => Some((outcome, self.keep(outcome))),
             _ => None,
         }
     }
@@ -180,7 +194,9 @@ impl CallMachine {
         (self.call, self.last)
     }
 
-    /// Makes its next step on the words. Whether the call is decided with it.
+    /// Makes its next step on the words. Whether the call is decided with it. The stages of the commonest calls are
+    /// known where this is compiled, so that the act of a stage and what follows stand side by side, and one jump finds
+    /// both.
     #[inline(always)]
     pub fn step<W: Words>(&mut self, words: &mut W) -> bool
         requires acts { IsAct (calls.next_of self.old) }
@@ -189,10 +205,44 @@ impl CallMachine {
         ensures fed { self.new ≡ calls.fed self.old (finds (calls.next_of self.old) (W.words words.old)) }
         ensures told { result ≡ calls.tells self.old.stage self.new.stage }
     {
-        let slot = self.slot_after();
-        let tells = self
-            .stage
-            .step(&self.caller, self.call, self.last, self.slot, words);
+        with_stages!(step_by_standing, self, words)
+    }
+
+    /// Makes the step of this stage, its own. Whether the call is decided with it.
+    #[inline(always)]
+    fn step_at<W: Words>(&mut self, stage: CallStage, words: &mut W) -> bool
+        requires own { self.old.stage ≡ stage }
+        requires acts { IsAct (calls.next_of self.old) }
+        requires can { CanStep (calls.next_of self.old) (W.words words.old) (calls.Fits self.old) }
+        ensures words { W.words words.new ≡ words_stepped (calls.next_of self.old) (W.words words.old) }
+        ensures fed { self.new ≡ calls.fed self.old (finds (calls.next_of self.old) (W.words words.old)) }
+        ensures told { result ≡ calls.tells self.old.stage self.new.stage }
+    {
+        let Step::Do(act) = stage.next(&self.caller, self.slot) else {
+            unreachable!()
+        };
+        let before = words.act(act);
+        self.feed_at(stage, before)
+    }
+
+    /// Goes where this stage, its own, leads that found this word. Whether the call is decided with it.
+    #[inline(always)]
+    fn feed_at(&mut self, stage: CallStage, before: u64) -> bool
+        requires own { self.old.stage ≡ stage }
+        requires acts { IsAct (calls.next_of self.old) }
+        requires fits { calls.Fits self.old before }
+        ensures fed { self.new ≡ calls.fed self.old before }
+        ensures told { result ≡ calls.tells self.old.stage self.new.stage }
+    {
+        let slot = self.slot_after(&stage);
+        let tells = self.standing.feed(
+            stage,
+            &self.caller,
+            self.call,
+            self.last,
+            self.slot,
+            before,
+        );
         self.slot = slot;
         tells
     }
@@ -201,20 +251,26 @@ impl CallMachine {
     pub fn event(&self) -> Event
         ensures { result ≡ calls.event_by self.now.caller.mutator self.now.call None (calls.decided self.now.stage) }
     {
-        answered(self.caller.mutator, self.call, self.stage.decided())
+        answered(
+            self.caller.mutator,
+            self.call,
+            self.standing.stage().decided(),
+        )
     }
 
-    /// Whether it stands where `step` knows each stage when it is compiled. There it has an act to make.
+    /// Whether it stands at one of the stages that stand side by side, where `step` is fastest. There it has an act to
+    /// make. A look for the end of a cycle is none of them, since `waits_on` spares its attempt the end.
+    #[inline(always)]
     pub fn is_short(&self) -> bool
         ensures { IsTrue result → IsAct (calls.next_of self.now) }
     {
-        matches!(
-            self.stage,
-            CallStage::Arriving
-                | CallStage::Rooting(_)
-                | CallStage::Entering(_, _)
-                | CallStage::Getting(_, _, _)
-                | CallStage::Leaving(_)
+        !matches!(
+            self.standing,
+            Standing::Moving(..)
+                | Standing::Putting(..)
+                | Standing::Allocating(_)
+                | Standing::Asking(_)
+                | Standing::Ended(_)
         )
     }
 
@@ -232,11 +288,12 @@ impl CallMachine {
         }
     }
 
-    /// The slot for the next name, which rises where a name is stored.
-    fn slot_after(&self) -> u32
-        ensures { result ≡ (calls.slot_after self.now.caller.shape self.now.slot self.now.stage) }
+    /// The slot for the next name after this stage, which rises where a name is stored.
+    #[inline(always)]
+    fn slot_after(&self, stage: &CallStage) -> u32
+        ensures { result ≡ calls.slot_after self.now.caller.shape self.now.slot stage.now }
     {
-        match self.stage {
+        match *stage {
             CallStage::Putting(_, _, PutStage::StoringBarrier(_)) => {
                 let next = self.slot + 1;
                 if next == self.caller.shape.numbers().ring {
@@ -273,7 +330,11 @@ impl Machine for CallMachine {
         ensures next { result ≡ calls.next_of self.now }
         ensures within { IsWithin (total self.now.caller.shape) result }
     {
-        self.stage.next(&self.caller, self.slot)
+        match self.standing {
+            // a look that waits is made again and again
+            Standing::Asking(stage) => stage.next(&self.caller.shape),
+            standing => standing.stage().next(&self.caller, self.slot),
+        }
     }
 
     fn waits(&self, _before: u64) -> bool {
@@ -282,13 +343,10 @@ impl Machine for CallMachine {
 
     #[inline(always)]
     fn feed(&mut self, before: u64) -> Event {
-        let slot = self.slot_after();
-        let stage = self.stage;
-        let tells = self.stage.feed(stage, &self.caller, self.call, self.last, self.slot, before);
-        self.slot = slot;
+        let tells = self.feed_at(self.standing.stage(), before);
         if !tells {
             return Event::Nothing;
         }
-        answered(self.caller.mutator, self.call, self.stage.decided())
+        self.event()
     }
 }

@@ -2,8 +2,7 @@
 
 ghost use Rattle.std.specs.Prelude.{◌≡◌, ◌<◌, None};
 ghost use Rattle.mako_shape.specs.Places.{total};
-ghost use Rattle.mako_step.specs.Acts.{finds, words_stepped, IsWithin};
-ghost use Rattle.mako_step.specs.Machines.{CanStep, IsAct};
+ghost use Rattle.mako_step.specs.Acts.{IsWithin};
 ghost use Rattle.mako_call.specs.Agreeing.{Arrives, StageOf};
 ghost use Rattle.mako_call.specs.Callers.{IsCaller};
 ghost use Rattle.mako_call.specs.Calls as calls;
@@ -20,19 +19,8 @@ use crate::object::{Errand, Get, Located, Put};
 use crate::putting::PutStage;
 use crate::rooting::RootStage;
 use mako_model::{Attempt, Call, Reply};
-use mako_step::{Machine, Step, Words};
+use mako_step::{Machine, Step};
 use mako_words::GateWord;
-
-/// Makes the step of a stage, in an arm of its own for each of these stages: each is written once, for the pattern and for
-/// the stage that the arm knows.
-macro_rules! step_by_stage {
-    ($at:expr, $caller:expr, $call:expr, $last:expr, $slot:expr, $words:expr, $([$($stage:tt)+])+) => {
-        match *$at {
-            $($($stage)+ => $at.step_as($($stage)+, $caller, $call, $last, $slot, $words),)+
-            stage => $at.step_as(stage, $caller, $call, $last, $slot, $words),
-        }
-    };
-}
 
 /// Where an attempt of a call stands.
 #[derive(Clone, Copy)]
@@ -59,18 +47,6 @@ pub enum CallStage {
 }
 
 impl CallStage {
-    /// The first stage: a `collect` goes on where it has asked for a cycle, and every other call arrives
-    /// at the own gate.
-    pub(crate) fn first(call: Call, asked: Option<u32>) -> CallStage
-        ensures { result ≡ calls.first_stage call asked }
-    {
-        match (call, asked) {
-            (Call::Collect, None) => CallStage::Asking(AskStage::LoadingPhase),
-            (Call::Collect, Some(cycle)) => CallStage::Asking(AskStage::Awaiting { cycle }),
-            _ => CallStage::Arriving,
-        }
-    }
-
     /// The reply, once the call is decided.
     pub(crate) fn decided(&self) -> Option<Reply>
         ensures { result ≡ calls.decided self.now }
@@ -112,155 +88,5 @@ impl CallStage {
             CallStage::Leaving(stage) => stage.next(caller),
             CallStage::Ended(_) => Step::Ended,
         }
-    }
-
-    /// Goes where this stage, its own, leads that found this word. Whether the call is decided with it.
-    #[inline(always)]
-    #[tactic(auto, using(crate::proofs::Telling::same_tells_nothing))]
-    pub(crate) fn feed(
-        &mut self,
-        stage: CallStage,
-        caller: &Caller,
-        call: Call,
-        last: bool,
-        slot: u32,
-        before: u64,
-    ) -> bool
-        requires caller { IsCaller caller.now }
-        requires own { stage ≡ self.old }
-        requires known { StageIsKnown caller.now self.old }
-        requires agrees { StageOf caller.now.shape call self.old }
-        requires fits { StageFits caller.now.shape self.old before }
-        ensures fed { self.new ≡ calls.stage_fed caller.now call last slot self.old before }
-        ensures told { result ≡ calls.tells self.old self.new }
-    {
-        match stage {
-            CallStage::Arriving if before >= GateWord::SHUT => {
-                *self = CallStage::Leaving(LeaveStage::Refused(before));
-                false
-            }
-            CallStage::Arriving => self.admit(call),
-            CallStage::Rooting(stage) => self.feed_rooting(caller, stage, before),
-            CallStage::Entering(errand, stage) => self.feed_entering(caller, errand, stage, before),
-            CallStage::Moving(_, _) => self.feed_moving(caller, before),
-            CallStage::Getting(located, get, stage) => {
-                self.feed_getting(caller, located, get, stage, before)
-            }
-            CallStage::Putting(_, _, _) => self.feed_putting(caller, slot, before),
-            CallStage::Allocating(_) => self.feed_allocating(caller, before),
-            CallStage::Asking(_) => self.feed_asking(&caller.shape, before),
-            CallStage::Leaving(stage) => self.feed_leaving(stage, last),
-            CallStage::Ended(_) => false,
-        }
-    }
-
-    /// Makes its step on the words. Whether the call is decided with it. The stages of the commonest calls are known
-    /// when they are compiled, so that the act of a stage and what follows stand side by side, and one jump finds both.
-    #[inline(always)]
-    pub(crate) fn step<W: Words>(
-        &mut self,
-        caller: &Caller,
-        call: Call,
-        last: bool,
-        slot: u32,
-        words: &mut W,
-    ) -> bool
-        requires caller { IsCaller caller.now }
-        requires slot { slot < caller.now.shape.ring }
-        requires known { StageIsKnown caller.now self.old }
-        requires agrees { StageOf caller.now.shape call self.old }
-        requires acts { IsAct (calls.stage_next caller.now slot self.old) }
-        requires can { CanStep (calls.stage_next caller.now slot self.old) (W.words words.old)
-            (StageFits caller.now.shape self.old) }
-        ensures words { W.words words.new ≡ words_stepped (calls.stage_next caller.now slot self.old) (W.words words.old) }
-        ensures fed { let found = finds (calls.stage_next caller.now slot self.old) (W.words words.old) in
-            self.new ≡ calls.stage_fed caller.now call last slot self.old found }
-        ensures told { result ≡ calls.tells self.old self.new }
-    {
-        step_by_stage! {
-            self, caller, call, last, slot, words,
-            [CallStage::Arriving]
-            [CallStage::Rooting(RootStage::StoringNumber { root, number })]
-            [CallStage::Rooting(RootStage::StoringNull { root })]
-            [CallStage::Rooting(RootStage::LoadingCopied { to, from })]
-            [CallStage::Rooting(RootStage::StoringCopied { to, value })]
-            [CallStage::Rooting(RootStage::LoadingShown { root })]
-            [CallStage::Rooting(RootStage::LoadingSource { to, from, field })]
-            [CallStage::Rooting(RootStage::LoadingTarget { to, field, from })]
-            [CallStage::Rooting(RootStage::LoadingValue { object, field, from })]
-            [CallStage::Rooting(RootStage::LoadingPhase { object, field, value })]
-            [CallStage::Entering(errand, EnterStage::Arriving)]
-            [CallStage::Entering(errand, EnterStage::LoadingEntry)]
-            [CallStage::Entering(errand, EnterStage::LoadingHome(entry))]
-            [CallStage::Getting(located, get, GetStage::LoadingHeader)]
-            [CallStage::Getting(located, get, GetStage::LoadingField)]
-            [CallStage::Getting(located, get, GetStage::StoringRoot(value))]
-            [CallStage::Leaving(LeaveStage::Refused(word))]
-            [CallStage::Leaving(LeaveStage::TurnedAway { tablet, word })]
-            [CallStage::Leaving(LeaveStage::FromTablet { tablet, outcome })]
-            [CallStage::Leaving(LeaveStage::FromOwn(outcome))]
-        }
-    }
-
-    /// Makes the step of this stage, its own. Whether the call is decided with it.
-    #[inline(always)]
-    #[tactic(auto, using(crate::proofs::Telling::same_tells_nothing))]
-    fn step_as<W: Words>(
-        &mut self,
-        stage: CallStage,
-        caller: &Caller,
-        call: Call,
-        last: bool,
-        slot: u32,
-        words: &mut W,
-    ) -> bool
-        requires own { stage ≡ self.old }
-        requires caller { IsCaller caller.now }
-        requires slot { slot < caller.now.shape.ring }
-        requires known { StageIsKnown caller.now self.old }
-        requires agrees { StageOf caller.now.shape call self.old }
-        requires acts { IsAct (calls.stage_next caller.now slot self.old) }
-        requires can { CanStep (calls.stage_next caller.now slot self.old) (W.words words.old)
-            (StageFits caller.now.shape self.old) }
-        ensures words { W.words words.new ≡ words_stepped (calls.stage_next caller.now slot self.old) (W.words words.old) }
-        ensures fed { let found = finds (calls.stage_next caller.now slot self.old) (W.words words.old) in
-            self.new ≡ calls.stage_fed caller.now call last slot self.old found }
-        ensures told { result ≡ calls.tells self.old self.new }
-    {
-        let Step::Do(act) = stage.next(caller, slot) else {
-            return false;
-        };
-        let before = words.act(act);
-        self.feed(stage, caller, call, last, slot, before)
-    }
-
-    /// It does what the call does once it is admitted at the own gate.
-    fn admit(&mut self, call: Call) -> bool
-        requires { Arrives call }
-        ensures fed { self.new ≡ calls.admitted call }
-        ensures told { result ≡ calls.newly None (calls.decided self.new) }
-    {
-        match call {
-            Call::New { root, fields } => {
-                *self = CallStage::Allocating(AllocStage::LoadingPhase { root, fields });
-            }
-            Call::Num { root, value } => {
-                let number = value;
-                *self = CallStage::Rooting(RootStage::StoringNumber { root, number });
-            }
-            Call::CopyRoot { to, from } => {
-                *self = CallStage::Rooting(RootStage::LoadingCopied { to, from });
-            }
-            Call::DropRoot { root } => *self = CallStage::Rooting(RootStage::StoringNull { root }),
-            Call::Get { to, from, field } => {
-                *self = CallStage::Rooting(RootStage::LoadingSource { to, from, field });
-            }
-            Call::Put { to, field, from } => {
-                *self = CallStage::Rooting(RootStage::LoadingTarget { to, field, from });
-            }
-            Call::Show { root } => *self = CallStage::Rooting(RootStage::LoadingShown { root }),
-            Call::Collect => unreachable!(),
-        }
-        false
     }
 }

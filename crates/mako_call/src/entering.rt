@@ -7,12 +7,13 @@ ghost use Rattle.mako_call.specs.Callers.{IsCaller};
 ghost use Rattle.mako_call.specs.Objects.{ErrandIsKnown};
 ghost use Rattle.mako_call.specs.Entering.{enter_next, enter_fed, EnterFits, EnterIsKnown};
 ghost use Rattle.mako_call.specs.Calls.{decided, newly};
+ghost use Rattle.mako_call.specs.Standings.{stage_at};
 
-use crate::call_stage::CallStage;
 use crate::caller::Caller;
 use crate::leaving::LeaveStage;
 use crate::moving::MoveStage;
 use crate::object::{Errand, Located};
+use crate::standing::Standing;
 use crate::words::entry_of;
 use mako_record::is_in_region;
 use mako_step::Step;
@@ -45,23 +46,8 @@ impl EnterStage {
     }
 }
 
-impl CallStage {
-    ghost use Rattle.mako_call.specs.declared.call_stage.CallStage.TheVariants as stages;
-    ghost use Rattle.mako_call.specs.declared.entering.EnterStage.{EnterStage};
-    ghost use Rattle.mako_call.specs.declared.object.Errand.{Errand};
-
-    /// It comes to this stage of the same errand, and nothing else is written.
-    #[inline(always)]
-    fn enter(&mut self, next: EnterStage)
-        ensures { (errand : Errand) (stage : EnterStage) → self.old ≡ stages.Entering errand stage →
-            self.new ≡ stages.Entering errand next }
-    {
-        if let CallStage::Entering(_, stage) = self {
-            *stage = next;
-        }
-    }
-
-    /// Goes where this stage, its own, leads that found this word.
+impl Standing {
+    /// Goes where this stage leads that found this word.
     #[inline(always)]
     pub(crate) fn feed_entering(
         &mut self,
@@ -71,27 +57,26 @@ impl CallStage {
         before: u64,
     ) -> bool
         requires caller { IsCaller caller.now }
-        requires own { self.old ≡ stages.Entering errand stage }
         requires errand { ErrandIsKnown caller.now.shape errand }
         requires known { EnterIsKnown caller.now.shape stage }
         requires fits { EnterFits caller.now.shape stage before }
-        ensures fed { self.new ≡ enter_fed caller.now.shape errand stage before }
-        ensures told { result ≡ newly None (decided self.new) }
+        ensures fed { stage_at self.new ≡ enter_fed caller.now.shape errand stage before }
+        ensures told { result ≡ newly None (decided (stage_at self.new)) }
     {
         match stage {
             EnterStage::Arriving if before >= GateWord::SHUT => {
                 let tablet = caller.tablet_of(errand.object.entry);
                 let word = before;
-                *self = CallStage::Leaving(LeaveStage::TurnedAway { tablet, word });
+                *self = Standing::TurnedAway { tablet, word };
             }
-            EnterStage::Arriving => self.enter(EnterStage::LoadingEntry),
-            EnterStage::LoadingEntry => self.enter(EnterStage::LoadingHome(entry_of(before))),
+            EnterStage::Arriving => *self = Standing::LoadingEntry(errand),
+            EnterStage::LoadingEntry => *self = Standing::LoadingHome(errand, entry_of(before)),
             EnterStage::LoadingHome(entry) => {
                 let home = before as u32;
                 if is_in_region(&caller.shape, home, entry.address) {
                     self.reach(errand, entry.address);
                 } else {
-                    *self = CallStage::Moving(errand, MoveStage::TakingTurn { home });
+                    *self = Standing::Moving(errand, MoveStage::TakingTurn { home });
                 }
             }
         }

@@ -7,11 +7,12 @@ ghost use Rattle.mako_call.specs.Callers.{IsCaller};
 ghost use Rattle.mako_call.specs.Objects.{LocatedIsKnown};
 ghost use Rattle.mako_call.specs.Getting.{get_next, get_fed, GetFits, GetIsKnown};
 ghost use Rattle.mako_call.specs.Calls.{decided, get_decided, newly};
+ghost use Rattle.mako_call.specs.Standings.{stage_at};
 
-use crate::call_stage::CallStage;
 use crate::caller::Caller;
 use crate::leaving::answered_at;
 use crate::object::{Get, Located};
+use crate::standing::Standing;
 use crate::words::value_of;
 use mako_model::Reply;
 use mako_step::Step;
@@ -43,7 +44,7 @@ impl GetStage {
     }
 }
 
-impl CallStage {
+impl Standing {
     /// Goes where this stage leads that found this word.
     #[inline(always)]
     pub(crate) fn feed_getting(
@@ -58,12 +59,12 @@ impl CallStage {
         requires located { LocatedIsKnown caller.now.shape located }
         requires known { GetIsKnown caller.now.shape located get stage }
         requires fits { GetFits caller.now.shape located stage before }
-        ensures fed { self.new ≡ get_fed caller.now.shape located get stage before }
-        ensures told { result ≡ newly (get_decided stage) (decided self.new) }
+        ensures fed { stage_at self.new ≡ get_fed caller.now.shape located get stage before }
+        ensures told { result ≡ newly (get_decided stage) (decided (stage_at self.new)) }
     {
         match stage {
             GetStage::LoadingHeader if u64::from(get.field) < before => {
-                *self = CallStage::Getting(located, get, GetStage::LoadingField);
+                *self = Standing::LoadingField(located, get);
                 false
             }
             GetStage::LoadingHeader => {
@@ -72,8 +73,8 @@ impl CallStage {
                 true
             }
             GetStage::LoadingField => {
-                let read = GetStage::StoringRoot(value_of(before));
-                *self = CallStage::Getting(located, get, read);
+                let read = value_of(before);
+                *self = Standing::StoringRoot(located, get, read);
                 true
             }
             GetStage::StoringRoot(value) => {

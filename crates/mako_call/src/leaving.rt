@@ -7,9 +7,10 @@ ghost use Rattle.mako_call.specs.Callers.{IsCaller};
 ghost use Rattle.mako_call.specs.Leaving as leaving;
 ghost use Rattle.mako_call.specs.Calls.{decided, leave_decided, newly};
 ghost use Rattle.mako_call.specs.Leaving.{leave_next, leave_fed, LeaveIsKnown};
+ghost use Rattle.mako_call.specs.Standings.{stage_at};
 
-use crate::call_stage::CallStage;
 use crate::caller::Caller;
+use crate::standing::Standing;
 use mako_model::{Attempt, Pause, Reply};
 use mako_step::Step;
 
@@ -43,56 +44,56 @@ impl LeaveStage {
     }
 }
 
-impl CallStage {
+impl Standing {
     /// Goes where this stage of a last attempt, or of another, leads.
     #[inline(always)]
     #[tactic(auto, using(crate::proofs::Telling::same_tells_nothing))]
     pub(crate) fn feed_leaving(&mut self, stage: LeaveStage, last: bool) -> bool
-        ensures fed { self.new ≡ leave_fed last stage }
-        ensures told { result ≡ newly (leave_decided stage) (decided self.new) }
+        ensures fed { stage_at self.new ≡ leave_fed last stage }
+        ensures told { result ≡ newly (leave_decided stage) (decided (stage_at self.new)) }
     {
         match stage {
             LeaveStage::Refused(word) => {
-                *self = CallStage::Ended(Attempt::Pause(Pause::Stopped(word)));
+                *self = Standing::Ended(Attempt::Pause(Pause::Stopped(word)));
             }
             LeaveStage::TurnedAway { tablet, word } => {
                 *self = leaving(Attempt::Pause(Pause::Shut { tablet, word }));
             }
             LeaveStage::FromTablet { outcome, .. } => *self = leaving(outcome),
             LeaveStage::FromOwn(Attempt::Full) if last => {
-                *self = CallStage::Ended(Attempt::Answer(Reply::Full));
+                *self = Standing::Ended(Attempt::Answer(Reply::Full));
                 return true;
             }
-            LeaveStage::FromOwn(outcome) => *self = CallStage::Ended(outcome),
+            LeaveStage::FromOwn(outcome) => *self = Standing::Ended(outcome),
         }
         false
     }
 }
 
 /// It leaves its own gate, and comes to this.
-pub(crate) fn leaving(outcome: Attempt) -> CallStage
-    ensures { result ≡ leaving.leaving outcome }
+pub(crate) fn leaving(outcome: Attempt) -> Standing
+    ensures { stage_at result ≡ leaving.leaving outcome }
 {
-    CallStage::Leaving(LeaveStage::FromOwn(outcome))
+    Standing::LeavingOwn(outcome)
 }
 
 /// It leaves the tablet and its own gate, and comes to this.
-pub(crate) fn leaving_tablet(tablet: u32, outcome: Attempt) -> CallStage
-    ensures { result ≡ leaving.leaving_tablet tablet outcome }
+pub(crate) fn leaving_tablet(tablet: u32, outcome: Attempt) -> Standing
+    ensures { stage_at result ≡ leaving.leaving_tablet tablet outcome }
 {
-    CallStage::Leaving(LeaveStage::FromTablet { tablet, outcome })
+    Standing::LeavingTablet { tablet, outcome }
 }
 
 /// It was answered at its own gate alone, and leaves.
-pub(crate) fn answered(reply: Reply) -> CallStage
-    ensures { result ≡ leaving.answered reply }
+pub(crate) fn answered(reply: Reply) -> Standing
+    ensures { stage_at result ≡ leaving.answered reply }
 {
     leaving(Attempt::Answer(reply))
 }
 
 /// It was answered in the tablet, and leaves.
-pub(crate) fn answered_at(tablet: u32, reply: Reply) -> CallStage
-    ensures { result ≡ leaving.answered_at tablet reply }
+pub(crate) fn answered_at(tablet: u32, reply: Reply) -> Standing
+    ensures { stage_at result ≡ leaving.answered_at tablet reply }
 {
     leaving_tablet(tablet, Attempt::Answer(reply))
 }

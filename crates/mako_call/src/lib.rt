@@ -15,6 +15,7 @@ mod moving;
 mod object;
 mod putting;
 mod rooting;
+mod standing;
 mod words;
 
 pub use allocating::AllocStage;

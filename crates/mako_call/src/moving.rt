@@ -7,11 +7,12 @@ ghost use Rattle.mako_call.specs.Callers.{IsCaller};
 ghost use Rattle.mako_call.specs.Objects.{ErrandIsKnown};
 ghost use Rattle.mako_call.specs.Moving.{move_next, move_fed, MoveIsKnown};
 ghost use Rattle.mako_call.specs.Calls.{StageIsKnown, StageFits, tells};
+ghost use Rattle.mako_call.specs.Standings.{stage_at};
 
-use crate::call_stage::CallStage;
 use crate::caller::Caller;
 use crate::leaving::leaving_tablet;
 use crate::object::Errand;
+use crate::standing::Standing;
 use crate::words::entry_of;
 use mako_model::{Attempt, Pause};
 use mako_record::{Copier, is_in_region};
@@ -53,8 +54,8 @@ impl MoveStage {
     }
 }
 
-impl CallStage {
-    ghost use Rattle.mako_call.specs.declared.call_stage.CallStage.TheVariants as stages;
+impl Standing {
+    ghost use Rattle.mako_call.specs.declared.standing.Standing.TheVariants as standings;
     ghost use Rattle.mako_call.specs.declared.moving.MoveStage.{MoveStage};
     ghost use Rattle.mako_call.specs.declared.object.Errand.{Errand};
 
@@ -63,12 +64,13 @@ impl CallStage {
     #[inline(never)]
     pub(crate) fn feed_moving(&mut self, caller: &Caller, before: u64) -> bool
         requires caller { IsCaller caller.now }
-        requires known { StageIsKnown caller.now self.old }
-        requires fits { StageFits caller.now.shape self.old before }
-        ensures { (errand : Errand) (stage : MoveStage) → self.old ≡ stages.Moving errand stage →
-            (self.new ≡ move_fed caller.now.shape errand stage before) × (result ≡ tells self.old self.new) }
+        requires known { StageIsKnown caller.now (stage_at self.old) }
+        requires fits { StageFits caller.now.shape (stage_at self.old) before }
+        ensures { (errand : Errand) (stage : MoveStage) → self.old ≡ standings.Moving errand stage →
+            (stage_at self.new ≡ move_fed caller.now.shape errand stage before)
+            × (result ≡ tells (stage_at self.old) (stage_at self.new)) }
     {
-        let CallStage::Moving(errand, stage) = self else {
+        let Standing::Moving(errand, stage) = self else {
             return false;
         };
         let errand = *errand;

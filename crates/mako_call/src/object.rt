@@ -3,11 +3,12 @@
 ghost use Rattle.std.specs.Prelude.{◌≡◌, None};
 ghost use Rattle.mako_call.specs.Calls.{decided, newly};
 ghost use Rattle.mako_call.specs.Objects.{at_object, begun_at};
+ghost use Rattle.mako_call.specs.Standings.{stage_at};
 
-use crate::call_stage::CallStage;
 use crate::entering::EnterStage;
 use crate::getting::GetStage;
 use crate::putting::PutStage;
+use crate::standing::Standing;
 use mako_words::{Name, PhaseWord, Value};
 
 /// A `get`: the field that it reads, and the root into which it puts what it read.
@@ -46,26 +47,26 @@ pub struct Located {
     pub address: u32,
 }
 
-impl CallStage {
+impl Standing {
     /// It goes to the object.
     pub(crate) fn go_to(&mut self, object: Name, access: Access) -> bool
-        ensures fed { self.new ≡ begun_at object access }
-        ensures told { result ≡ newly None (decided self.new) }
+        ensures fed { stage_at self.new ≡ begun_at object access }
+        ensures told { result ≡ newly None (decided (stage_at self.new)) }
     {
-        *self = CallStage::Entering(Errand { object, access }, EnterStage::Arriving);
+        *self = Standing::ArrivingAtTablet(Errand { object, access });
         false
     }
 
     /// It is at the object's record, which has this address.
     pub(crate) fn reach(&mut self, errand: Errand, address: u32)
-        ensures fed { self.new ≡ at_object errand address }
-        ensures open { decided self.new ≡ None }
+        ensures fed { stage_at self.new ≡ at_object errand address }
+        ensures open { decided (stage_at self.new) ≡ None }
     {
         let object = errand.object;
         let located = Located { object, address };
         match errand.access {
-            Access::Get(get) => *self = CallStage::Getting(located, get, GetStage::LoadingHeader),
-            Access::Put(put) => *self = CallStage::Putting(located, put, PutStage::LoadingHeader),
+            Access::Get(get) => *self = Standing::LoadingHeader(located, get),
+            Access::Put(put) => *self = Standing::Putting(located, put, PutStage::LoadingHeader),
         }
     }
 }

@@ -8,11 +8,12 @@ ghost use Rattle.mako_call.specs.Callers.{IsCaller};
 ghost use Rattle.mako_call.specs.Objects.{LocatedIsKnown};
 ghost use Rattle.mako_call.specs.Putting.{put_next, put_fed, PutIsKnown};
 ghost use Rattle.mako_call.specs.Calls.{StageIsKnown, StageFits, tells};
+ghost use Rattle.mako_call.specs.Standings.{stage_at};
 
-use crate::call_stage::CallStage;
 use crate::caller::Caller;
 use crate::leaving::{answered_at, leaving_tablet};
 use crate::object::{Located, Put};
+use crate::standing::Standing;
 use crate::words::value_of;
 use mako_model::{Attempt, Pause, Reply};
 use mako_step::Step;
@@ -58,8 +59,8 @@ impl PutStage {
     }
 }
 
-impl CallStage {
-    ghost use Rattle.mako_call.specs.declared.call_stage.CallStage.TheVariants as stages;
+impl Standing {
+    ghost use Rattle.mako_call.specs.declared.standing.Standing.TheVariants as standings;
     ghost use Rattle.mako_call.specs.declared.object.Located.{Located};
     ghost use Rattle.mako_call.specs.declared.object.Put.{Put};
     ghost use Rattle.mako_call.specs.declared.putting.PutStage.{PutStage};
@@ -67,12 +68,13 @@ impl CallStage {
     /// Goes on with this word, where it stores a field.
     pub(crate) fn feed_putting(&mut self, caller: &Caller, slot: u32, before: u64) -> bool
         requires caller { IsCaller caller.now }
-        requires known { StageIsKnown caller.now self.old }
-        requires fits { StageFits caller.now.shape self.old before }
-        ensures { (located : Located) (put : Put) (stage : PutStage) → self.old ≡ stages.Putting located put stage →
-            (self.new ≡ put_fed caller.now.shape slot located put stage before) × (result ≡ tells self.old self.new) }
+        requires known { StageIsKnown caller.now (stage_at self.old) }
+        requires fits { StageFits caller.now.shape (stage_at self.old) before }
+        ensures { (located : Located) (put : Put) (stage : PutStage) → self.old ≡ standings.Putting located put stage →
+            (stage_at self.new ≡ put_fed caller.now.shape slot located put stage before)
+            × (result ≡ tells (stage_at self.old) (stage_at self.new)) }
     {
-        let CallStage::Putting(located, put, stage) = self else {
+        let Standing::Putting(located, put, stage) = self else {
             return false;
         };
         let entry = located.object.entry;

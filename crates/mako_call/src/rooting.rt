@@ -7,11 +7,12 @@ ghost use Rattle.mako_call.specs.Callers.{IsCaller};
 ghost use Rattle.mako_call.specs.Rooting.{root_next, root_fed, source_fed, target_fed, RootFits, RootIsKnown};
 ghost use Rattle.mako_call.specs.Calls.{decided, newly};
 ghost use Rattle.mako_call.specs.Leaving.{answered};
+ghost use Rattle.mako_call.specs.Standings.{stage_at};
 
-use crate::call_stage::CallStage;
 use crate::caller::Caller;
 use crate::leaving::answered;
 use crate::object::{Access, Get, Put};
+use crate::standing::Standing;
 use crate::words::{phase_of, value_of};
 use mako_model::Reply;
 use mako_step::Step;
@@ -89,13 +90,13 @@ impl RootStage {
     }
 }
 
-impl CallStage {
+impl Standing {
     /// Goes where this stage leads that found this word.
     #[inline(always)]
     pub(crate) fn feed_rooting(&mut self, caller: &Caller, stage: RootStage, before: u64) -> bool
         requires fits { RootFits caller.now.shape stage before }
-        ensures fed { self.new ≡ root_fed stage before }
-        ensures told { result ≡ newly None (decided self.new) }
+        ensures fed { stage_at self.new ≡ root_fed stage before }
+        ensures told { result ≡ newly None (decided (stage_at self.new)) }
     {
         match stage {
             RootStage::StoringNumber { number, .. } => self.answer(Reply::Value(Value::Num(
@@ -106,7 +107,7 @@ impl CallStage {
             RootStage::LoadingShown { .. } => self.answer(Reply::Value(value_of(before))),
             RootStage::LoadingCopied { to, .. } => {
                 let value = value_of(before);
-                *self = CallStage::Rooting(RootStage::StoringCopied { to, value });
+                *self = Standing::StoringCopied { to, value };
                 false
             }
             RootStage::LoadingSource { to, field, .. } => self.source(to, field, value_of(before)),
@@ -115,11 +116,11 @@ impl CallStage {
             }
             RootStage::LoadingValue { object, field, .. } => {
                 let value = value_of(before);
-                *self = CallStage::Rooting(RootStage::LoadingPhase {
+                *self = Standing::LoadingPhase {
                     object,
                     field,
                     value,
-                });
+                };
                 false
             }
             RootStage::LoadingPhase {
@@ -139,8 +140,8 @@ impl CallStage {
 
     /// A `get` goes to its object, if its root names one.
     fn source(&mut self, to: u8, field: u8, held: Value) -> bool
-        ensures fed { self.new ≡ source_fed to field held }
-        ensures told { result ≡ newly None (decided self.new) }
+        ensures fed { stage_at self.new ≡ source_fed to field held }
+        ensures told { result ≡ newly None (decided (stage_at self.new)) }
     {
         match held {
             Value::Ref(object) => self.go_to(object, Access::Get(Get { to, field })),
@@ -150,16 +151,16 @@ impl CallStage {
 
     /// A `put` loads its value, if its root names an object.
     fn target(&mut self, field: u8, from: u8, held: Value) -> bool
-        ensures fed { self.new ≡ target_fed field from held }
-        ensures told { result ≡ newly None (decided self.new) }
+        ensures fed { stage_at self.new ≡ target_fed field from held }
+        ensures told { result ≡ newly None (decided (stage_at self.new)) }
     {
         match held {
             Value::Ref(object) => {
-                *self = CallStage::Rooting(RootStage::LoadingValue {
+                *self = Standing::LoadingValue {
                     object,
                     field,
                     from,
-                });
+                };
                 false
             }
             _ => self.answer(Reply::NoRef),
@@ -168,8 +169,8 @@ impl CallStage {
 
     /// It is answered at its own gate alone, and leaves.
     fn answer(&mut self, reply: Reply) -> bool
-        ensures fed { self.new ≡ answered reply }
-        ensures told { result ≡ newly None (decided self.new) }
+        ensures fed { stage_at self.new ≡ answered reply }
+        ensures told { result ≡ newly None (decided (stage_at self.new)) }
     {
         *self = answered(reply);
         true

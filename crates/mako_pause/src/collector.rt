@@ -68,22 +68,23 @@ impl CollectStage {
         }
     }
 
-    fn fed(self, kept: &mut Kept, before: u64) -> CollectStage
-        requires known { StageIsKnown kept.old self }
-        requires acts { IsAct (collecting.stage_next kept.old self) }
-        requires fits { StageFits kept.old self before }
-        ensures { at kept.new result ≡ collecting.stage_fed kept.old self before }
+    /// Goes on with the word that its act found. Each arm writes the stage itself, since most looks find nothing to do.
+    fn feed(&mut self, kept: &mut Kept, before: u64)
+        requires known { StageIsKnown kept.old self.old }
+        requires acts { IsAct (collecting.stage_next kept.old self.old) }
+        requires fits { StageFits kept.old self.old before }
+        ensures { at kept.new self.new ≡ collecting.stage_fed kept.old self.old before }
     {
-        match self {
-            CollectStage::Idle(stage) => stage.fed(kept, before),
-            CollectStage::Pausing(stage) => stage.fed(kept, before),
-            CollectStage::Forwarding(stage) => stage.fed(kept, before),
-            CollectStage::Barriers(stage) => stage.fed(kept, before),
-            CollectStage::Emptying(server) => kept.empty_fed(server, before),
-            CollectStage::Polling => kept.poll_fed(before),
-            CollectStage::Choosing(stage) => stage.fed(kept, before),
-            CollectStage::Noticing(stage) => stage.fed(kept, before),
-            CollectStage::Ended => CollectStage::Ended,
+        match *self {
+            CollectStage::Idle(stage) => *self = stage.fed(kept, before),
+            CollectStage::Pausing(stage) => *self = stage.fed(kept, before),
+            CollectStage::Forwarding(stage) => *self = stage.fed(kept, before),
+            CollectStage::Barriers(stage) => *self = stage.fed(kept, before),
+            CollectStage::Emptying(server) => *self = kept.empty_fed(server, before),
+            CollectStage::Polling => *self = kept.poll_fed(before),
+            CollectStage::Choosing(stage) => *self = stage.fed(kept, before),
+            CollectStage::Noticing(stage) => *self = stage.fed(kept, before),
+            CollectStage::Ended => {}
         }
     }
 }
@@ -212,7 +213,7 @@ impl Machine for Collector {
     fn feed(&mut self, before: u64) -> Event {
         let event = self.stage.event(&self.kept);
         let _known = self.kept.numbers();
-        self.stage = self.stage.fed(&mut self.kept, before);
+        self.stage.feed(&mut self.kept, before);
         event
     }
 }

@@ -26,6 +26,7 @@ impl IdleStage {
         }
     }
 
+    #[inline(always)]
     pub(crate) fn fed(self, kept: &Kept, before: u64) -> CollectStage
         ensures { at kept.now result ≡ collecting.idle_fed kept.now self before }
     {

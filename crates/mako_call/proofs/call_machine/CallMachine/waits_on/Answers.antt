@@ -13,6 +13,7 @@ use Rattle.mako_call.specs.declared.asking.AskStage.TheVariants.{LoadingPhase, R
 use Rattle.mako_call.specs.Agreeing.{StageOf}
 use Rattle.mako_call.specs.Asking.{ask_waits, finished_cycles}
 use Rattle.mako_call.specs.Calls.{Calling, ComesAgain}
+use Rattle.mako_call.specs.Standings.{calling_in, stage_at}
 use Rattle.mako_call.proofs.call_machine.CallMachine.waits_on.Goals as goal
 
 -- a collect that waits is attempted again from where it waits
@@ -54,13 +55,7 @@ waits v s w of is less =
 
 pub returns-in-Asking-clause-again : goal.returns-in-Asking-clause-again
 returns-in-Asking-clause-again c yes_ =
-    let in_ = c.self.inside in
-    let v : Calling = record {
-      caller = in_.caller;
-      call = in_.call;
-      last = in_.last;
-      slot = in_.slot;
-      stage = in_.stage;
-    } in
+    let v : Calling = calling_in c.self.inside in
     subst (λ (q : Calling). ComesAgain q c.args.before) c.self.view_is
-    (waits v c.in-Asking.stage c.args.before c.self.invariant.agrees c.in-Asking.is (sym c.waits_on.ensures ∙ yes_))
+    (waits v c.in-Asking.stage c.args.before c.self.invariant.agrees (ap stage_at c.in-Asking.is)
+    (sym c.waits_on.ensures ∙ yes_))
