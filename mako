@@ -57,7 +57,7 @@ build() {
         say 'there is no crate mako in crates/'
         exit 126
     fi
-    say "$1: proving and building the program, which takes a quarter of an hour or more on a new clone; the whole log is $log"
+    say "$1: proving and building the program, which takes half an hour or more on a new clone; the whole log is $log"
     mkdir -p "$here/crates/mako/out" || exit 126
     rm -f "$program"
     # `rt run` leaves the program where its proof passed, and runs it once: without words it reads nothing.
