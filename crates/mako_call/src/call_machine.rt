@@ -1,6 +1,7 @@
 //! An attempt of a call, as a machine.
 
-ghost use Rattle.std.specs.Prelude.{◌≡◌, ◌<◌, ◌≤◌, false, IfSome, Some, None, ◌↔◌, IsTrue};
+ghost use Rattle.std.specs.Prelude.{◌≡◌, ◌<◌, ◌≤◌, false, is_some, IfSome, Some, None};
+ghost use Rattle.std.specs.Prelude.{◌↔◌, IsTrue};
 ghost use Rattle.mako_shape.specs.Places.{total};
 ghost use Rattle.mako_step.specs.Acts.{finds, words_stepped, IsWithin};
 ghost use Rattle.mako_step.specs.Machines.{CanStep, IsAct};
@@ -43,6 +44,15 @@ pub struct Keep {
     pub asked: Option<u32>,
     /// The slot of the mutator's barrier ring into which the next name goes.
     pub barrier_at: u64,
+}
+
+/// What a step does to its call and to its attempt.
+#[derive(Clone, Copy, Debug, PartialEq, Eq)]
+pub struct StepTaken {
+    /// Whether it decides the call.
+    pub decides: bool,
+    /// Whether it ends the attempt.
+    pub ends: bool,
 }
 
 /// What a step tells that decides a call with this reply.
@@ -170,7 +180,7 @@ impl CallMachine {
 
     /// Whether it has ended.
     pub fn has_ended(&self) -> bool
-        ensures ended { result ≡ false → calls.outcome_in self.now.stage ≡ None }
+        ensures { result ≡ is_some (calls.outcome_in self.now.stage) }
     {
         matches!(self.standing, Standing::Ended(_))
     }
@@ -194,35 +204,38 @@ impl CallMachine {
         (self.call, self.last)
     }
 
-    /// Makes its next step on the words. Whether the call is decided with it. The stages of the commonest calls are
-    /// known where this is compiled, so that the act of a stage and what follows stand side by side, and one jump finds
-    /// both.
+    /// Makes its next step on the words. The stages of the commonest calls are known where this is compiled, so that
+    /// the act of a stage and what follows stand side by side, and one jump finds both.
     #[inline(always)]
-    pub fn step<W: Words>(&mut self, words: &mut W) -> bool
+    pub fn step<W: Words>(&mut self, words: &mut W) -> StepTaken
         requires acts { IsAct (calls.next_of self.old) }
         requires can { CanStep (calls.next_of self.old) (W.words words.old) (calls.Fits self.old) }
         ensures words { W.words words.new ≡ words_stepped (calls.next_of self.old) (W.words words.old) }
         ensures fed { self.new ≡ calls.fed self.old (finds (calls.next_of self.old) (W.words words.old)) }
-        ensures told { result ≡ calls.tells self.old.stage self.new.stage }
+        ensures decides { result.decides ≡ calls.tells self.old.stage self.new.stage }
+        ensures ends { result.ends ≡ is_some (calls.outcome_in self.new.stage) }
     {
         with_stages!(step_by_standing, self, words)
     }
 
-    /// Makes the step of this stage, its own. Whether the call is decided with it.
+    /// Makes the step of this stage, its own.
     #[inline(always)]
-    fn step_at<W: Words>(&mut self, stage: CallStage, words: &mut W) -> bool
+    fn step_at<W: Words>(&mut self, stage: CallStage, words: &mut W) -> StepTaken
         requires own { self.old.stage ≡ stage }
         requires acts { IsAct (calls.next_of self.old) }
         requires can { CanStep (calls.next_of self.old) (W.words words.old) (calls.Fits self.old) }
         ensures words { W.words words.new ≡ words_stepped (calls.next_of self.old) (W.words words.old) }
         ensures fed { self.new ≡ calls.fed self.old (finds (calls.next_of self.old) (W.words words.old)) }
-        ensures told { result ≡ calls.tells self.old.stage self.new.stage }
+        ensures decides { result.decides ≡ calls.tells self.old.stage self.new.stage }
+        ensures ends { result.ends ≡ is_some (calls.outcome_in self.new.stage) }
     {
         let Step::Do(act) = stage.next(&self.caller, self.slot) else {
             unreachable!()
         };
         let before = words.act(act);
-        self.feed_at(stage, before)
+        let decides = self.feed_at(stage, before);
+        let ends = self.has_ended();
+        StepTaken { decides, ends }
     }
 
     /// Goes where this stage, its own, leads that found this word. Whether the call is decided with it.

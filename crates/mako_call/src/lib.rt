@@ -20,7 +20,7 @@ mod words;
 
 pub use allocating::AllocStage;
 pub use asking::AskStage;
-pub use call_machine::{CallMachine, Keep};
+pub use call_machine::{CallMachine, Keep, StepTaken};
 pub use call_stage::CallStage;
 pub use caller::Caller;
 pub use entering::EnterStage;

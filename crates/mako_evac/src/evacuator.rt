@@ -1,6 +1,6 @@
 //! The evacuation of a server, as a machine.
 
-ghost use Rattle.std.specs.Prelude.{◌≡◌, ◌<◌, ◌≤◌};
+ghost use Rattle.std.specs.Prelude.{◌≡◌, ◌<◌, ◌≤◌, ◌↔◌, IsTrue};
 ghost use Rattle.mako_shape.specs.Places.{total};
 ghost use Rattle.mako_step.specs.Acts.{IsWithin};
 ghost use Rattle.mako_step.specs.declared.step.Step.TheVariants as steps;
@@ -69,6 +69,13 @@ impl Evacuator {
         ensures at_most { result ≤ self.now.owner.shape.cycles }
     {
         self.owner.cycle
+    }
+
+    /// Whether it has told its end.
+    pub fn is_ended(&self) -> bool
+        ensures { IsTrue result ↔ (evacuating.next_of self.now ≡ steps.Ended) }
+    {
+        matches!(self.stage, EvacStage::Ended)
     }
 
     /// The slot of the notice ring for the next notice, in the next cycle.

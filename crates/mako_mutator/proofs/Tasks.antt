@@ -1,14 +1,14 @@
 -- The machine of a task is one, and of a progress what follows looks only at the calls that are through.
-use Rattle.std.proofs.Common.{◌≡◌, ℕ, true, List, Option, Some, None, slice_get, ap}
+use Rattle.std.proofs.Common.{◌≡◌, ℕ, true, false, is_some, List, Option, Some, None, slice_get, refl, ap, ◌∙◌}
 use Rattle.mako_model.specs.declared.call.Call.{Call}
 use Rattle.mako_model.specs.declared.attempt.Attempt.{Attempt}
 use Rattle.mako_model.specs.declared.attempt.Attempt.TheVariants.{Answer, Full, Pause as Paused}
 use Rattle.mako_call.specs.declared.caller.Caller.{Caller}
-use Rattle.mako_call.specs.Calls.{Calling, kept}
+use Rattle.mako_call.specs.Calls.{Calling, kept, outcome_in}
 use Rattle.mako_mutator.specs.declared.progress.Progress.{Progress}
 use Rattle.mako_mutator.specs.declared.progress.Task.{Task}
 use Rattle.mako_mutator.specs.declared.progress.Task.TheVariants.{Attempting, Awaiting, Finishing, Ended}
-use Rattle.mako_mutator.specs.Drivers.{task_for, awaiting, wait_on}
+use Rattle.mako_mutator.specs.Drivers.{task_for, awaiting, within, attempt_on, after_attempt, wait_on}
 
 abbrev machine_of : Calling → Task → Calling
 machine_of other (Attempting m) = m
@@ -35,3 +35,13 @@ wait_by_done k calls p q m (Some Full) same =
     ap (λ (d : ℕ). record { done = d; within = true; task = awaiting k (kept m Full) }) same
 wait_by_done k calls p q m (Some (Paused pause)) same =
     ap (λ (d : ℕ). record { done = d; within = true; task = awaiting k (kept m (Paused pause)) }) same
+
+on_none : (k : Caller) (calls : List Call) (p : Progress) (m : Calling) (o : Option Attempt) → false ≡ is_some o
+    → within p (Attempting m) ≡ attempt_on k calls p m o
+on_none k calls p m None going = refl
+on_none k calls p m (Some outcome) going = absurd (let no : false ≡ true = going in cc)
+
+-- an attempt that has not ended goes on
+pub goes_on : (k : Caller) (calls : List Call) (p : Progress) (m : Calling) → p.task ≡ Attempting m
+    → false ≡ is_some (outcome_in m.stage) → within p p.task ≡ after_attempt k calls p m
+goes_on k calls p m is going = ap (within p) is ∙ on_none k calls p m (outcome_in m.stage) going

@@ -1,7 +1,7 @@
 //! A mutator's whole program, as a machine.
 
 ghost use Rattle.std.specs.Prelude.{◌≡◌, ◌<◌, ◌≤◌, ◌+◌, ◌++◌, ℕ, false, IfOk, length, slice_get, Some, vec_len};
-ghost use Rattle.std.specs.Prelude.{vec_capacity, ◌↔◌, IsTrue};
+ghost use Rattle.std.specs.Prelude.{vec_capacity, ◌↔◌, true, IsTrue};
 ghost use Rattle.mako_shape.specs.Places.{total};
 ghost use Rattle.mako_step.specs.Acts.{finds, words_stepped, IsWithin};
 ghost use Rattle.mako_step.specs.Machines.{CanStep, machine_stepped};
@@ -128,9 +128,10 @@ impl Driver {
         let Task::Attempting(attempt) = &mut self.progress.task else {
             unreachable!()
         };
-        let tells = attempt.step(words);
-        keep_told(&mut self.replies, journal, attempt, tells);
-        self.progress.go_on(&self.caller, self.calls.as_slice());
+        let step = attempt.step(words);
+        keep_told(&mut self.replies, journal, attempt, step.decides);
+        self.progress
+            .go_on(&self.caller, self.calls.as_slice(), step.ends);
     }
 
     /// How far it has come.
@@ -211,20 +212,37 @@ fn keep_reply(replies: &mut Vec<Reply>, event: Event)
     }
 }
 
-/// The reply and the point of a call that the attempt's last step decided are kept.
+/// The reply and the point of a call are kept, where the attempt's last step decided it.
 #[inline(always)]
-fn keep_told(replies: &mut Vec<Reply>, journal: &mut Journal, attempt: &CallMachine, tells: bool)
-    requires replies { vec_len replies.old + length (drivers.told_reply (drivers.told_if tells attempt.now)) ≤
+fn keep_told(replies: &mut Vec<Reply>, journal: &mut Journal, attempt: &CallMachine, decides: bool)
+    requires replies { vec_len replies.old + length (drivers.told_reply (drivers.told_if decides attempt.now)) ≤
         vec_capacity replies.old }
-    requires journal { length (history_after journal.old.points (drivers.told_if tells attempt.now)) ≤ journal.old.room }
-    ensures items { replies.new.items ≡ replies.old.items ++ drivers.told_reply (drivers.told_if tells attempt.now) }
+    requires journal { length (history_after journal.old.points (drivers.told_if decides attempt.now)) ≤
+        journal.old.room }
+    ensures items { replies.new.items ≡ replies.old.items ++ drivers.told_reply (drivers.told_if decides attempt.now) }
     ensures capacity { vec_capacity replies.new ≡ vec_capacity replies.old }
-    ensures points { journal.new.points ≡ history_after journal.old.points (drivers.told_if tells attempt.now) }
+    ensures points { journal.new.points ≡ history_after journal.old.points (drivers.told_if decides attempt.now) }
     ensures room { journal.new.room ≡ journal.old.room }
 {
-    if tells {
-        let event = attempt.event();
-        keep_reply(replies, event);
-        keep_point(journal, event);
+    if decides {
+        keep_decided(replies, journal, attempt);
     }
+}
+
+/// The reply and the point of the call that the attempt's last step decided are kept. Most steps decide none, and are
+/// faster where this stands apart.
+#[inline(never)]
+fn keep_decided(replies: &mut Vec<Reply>, journal: &mut Journal, attempt: &CallMachine)
+    requires replies { vec_len replies.old + length (drivers.told_reply (drivers.told_if true attempt.now)) ≤
+        vec_capacity replies.old }
+    requires journal { length (history_after journal.old.points (drivers.told_if true attempt.now)) ≤
+        journal.old.room }
+    ensures items { replies.new.items ≡ replies.old.items ++ drivers.told_reply (drivers.told_if true attempt.now) }
+    ensures capacity { vec_capacity replies.new ≡ vec_capacity replies.old }
+    ensures points { journal.new.points ≡ history_after journal.old.points (drivers.told_if true attempt.now) }
+    ensures room { journal.new.room ≡ journal.old.room }
+{
+    let event = attempt.event();
+    keep_reply(replies, event);
+    keep_point(journal, event);
 }

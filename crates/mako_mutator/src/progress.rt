@@ -1,6 +1,6 @@
 //! How far a driver has come.
 
-ghost use Rattle.std.specs.Prelude.{◌≡◌, ◌<◌, ◌+◌, ◌^◌, length, slice_get, IsTrue};
+ghost use Rattle.std.specs.Prelude.{◌≡◌, ◌<◌, ◌+◌, ◌^◌, is_some, length, slice_get, IsTrue};
 ghost use Rattle.std.specs.Option.{ForSome};
 ghost use Rattle.mako_shape.specs.Places.{total};
 ghost use Rattle.mako_step.specs.Acts.{IsWithin};
@@ -122,7 +122,8 @@ impl Progress {
             }
             Task::Attempting(attempt) => {
                 let event = attempt.feed(before);
-                self.go_on(caller, calls);
+                let ends = attempt.has_ended();
+                self.go_on(caller, calls, ends);
                 event
             }
             Task::Awaiting(_) => {
@@ -136,22 +137,21 @@ impl Progress {
         }
     }
 
-    /// After a step of an attempt: it goes on with the attempt, or with what follows it.
+    /// After a step of an attempt, which may have ended it: it goes on with the attempt, or with what follows it.
     #[inline(always)]
-    #[tactic(auto, using(crate::proofs::Tasks::one_attempt))]
-    pub(crate) fn go_on(&mut self, caller: &Caller, calls: &[Call])
+    #[tactic(auto, using(crate::proofs::Tasks::goes_on))]
+    pub(crate) fn go_on(&mut self, caller: &Caller, calls: &[Call], ends: bool)
         requires caller { IsCaller caller.now }
         requires calls { AreFitting caller.now.shape calls.now }
         requires same { drivers.IsOf caller.now self.old.task }
         requires call { drivers.MakesFitting caller.now.shape self.old.task }
         requires done { self.old.done + 1 < 2 ^ 32 }
+        requires ends { (attempt : Calling) → self.old.task ≡ tasks.Attempting attempt →
+            ends ≡ is_some (calling.outcome_in attempt.stage) }
         ensures { (attempt : Calling) → self.old.task ≡ tasks.Attempting attempt →
             self.new ≡ drivers.after_attempt caller.now calls.now self.old attempt }
     {
-        let Task::Attempting(attempt) = &self.task else {
-            return;
-        };
-        if attempt.has_ended() {
+        if ends {
             self.end_attempt(caller, calls);
         } else {
             self.within = true;

@@ -3,8 +3,9 @@
 ghost use Rattle.std.specs.Prelude.{◌≡◌, ◌↔◌, ◌<◌, ◌^◌, true, IfOk, IsTrue, count_by, sum_by};
 ghost use Rattle.mako_pause.specs.Opening.{is_new, names_of_all, news_of, opening};
 ghost use Rattle.mako_shape.specs.Places.{total};
-ghost use Rattle.mako_step.specs.Acts.{IsWithin};
-ghost use Rattle.mako_step.specs.Machines.{IsAct};
+ghost use Rattle.mako_step.specs.Acts.{finds, words_stepped, IsWithin};
+ghost use Rattle.mako_step.specs.Machines.{CanStep, IsAct, machine_stepped};
+ghost use Rattle.mako_step.specs.Stepping.{stepped};
 ghost use Rattle.mako_step.specs.declared.step.Step.TheVariants as steps;
 ghost use Rattle.mako_pause.specs.Collecting as collecting;
 ghost use Rattle.mako_pause.specs.Collecting.{at, StageFits};
@@ -15,7 +16,7 @@ use crate::kept::Kept;
 use crate::stage::{CollectStage, ForwardStage, IdleStage, NoticeStage, PauseStage};
 use mako_model::{Call, Cycles, Event};
 use mako_script::{Program, Script};
-use mako_step::{Machine, Step};
+use mako_step::{Machine, Step, Stepped, Words, make_step};
 use mako_words::{GateWord, Memory};
 use std::alloc::Global;
 use std::marker::Model;
@@ -44,9 +45,7 @@ impl CollectStage {
         ensures { result ≡ ranks.stage_waits kept.now self before }
     {
         match self {
-            CollectStage::Idle(IdleStage::LookingFinished) => {
-                before != u64::from(kept.numbers().mutators)
-            }
+            CollectStage::Idle(stage) => stage.waits(kept, before),
             CollectStage::Pausing(PauseStage::Draining(..)) => before % GateWord::SHUT > 0,
             CollectStage::Forwarding(ForwardStage::Looking(_)) | CollectStage::Emptying(_) => {
                 before != 0
@@ -132,6 +131,8 @@ fn count_names(programs: &[Program]) -> usize
 }
 
 impl Collector {
+    ghost use Rattle.mako_pause.specs.declared.stage.CollectStage.TheVariants as stages;
+
     /// The collector of a run of this script, before its first step. It takes all memory that it ever takes.
     pub fn new(alloc: Global, script: &Script) -> Result<Collector, Memory>
         ensures { IfOk result (λ c. c ≡ opening script.now) }
@@ -153,6 +154,53 @@ impl Collector {
             CollectStage::Polling => matches!(self.kept.poll_next(), Step::Ended),
             _ => false,
         }
+    }
+
+    /// Makes its next step on the words. The looks between cycles are known where this is compiled, so that one jump
+    /// finds the act of a look and what follows.
+    #[inline(always)]
+    pub fn step<W: Words>(&mut self, words: &mut W) -> Stepped<Event>
+        requires { CanStep (collecting.next_of self.old) (W.words words.old) (collecting.Fits self.old) }
+        ensures words { W.words words.new ≡ words_stepped (collecting.next_of self.old) (W.words words.old) }
+        ensures machine { let found = finds (collecting.next_of self.old) (W.words words.old) in
+            self.new ≡ machine_stepped (collecting.next_of self.old) self.old (collecting.fed self.old found) }
+        ensures result { let found = finds (collecting.next_of self.old) (W.words words.old) in result ≡ stepped
+            (collecting.next_of self.old) (ranks.is_waiting self.old found) found (collecting.event_of self.old found) }
+    {
+        match self.stage {
+            CollectStage::Idle(IdleStage::LoadingDemand) => {
+                self.step_idle(IdleStage::LoadingDemand, words)
+            }
+            CollectStage::Idle(IdleStage::LookingFinished) => {
+                self.step_idle(IdleStage::LookingFinished, words)
+            }
+            _ => make_step(self, words),
+        }
+    }
+
+    /// Makes the step of this stage between cycles, its own.
+    #[inline(always)]
+    fn step_idle<W: Words>(&mut self, stage: IdleStage, words: &mut W) -> Stepped<Event>
+        requires own { self.old.stage ≡ stages.Idle stage }
+        requires acts { IsAct (collecting.next_of self.old) }
+        requires can { CanStep (collecting.next_of self.old) (W.words words.old) (collecting.Fits self.old) }
+        ensures words { W.words words.new ≡ words_stepped (collecting.next_of self.old) (W.words words.old) }
+        ensures machine { let found = finds (collecting.next_of self.old) (W.words words.old) in
+            self.new ≡ machine_stepped (collecting.next_of self.old) self.old (collecting.fed self.old found) }
+        ensures result { let found = finds (collecting.next_of self.old) (W.words words.old) in result ≡ stepped
+            (collecting.next_of self.old) (ranks.is_waiting self.old found) found (collecting.event_of self.old found) }
+    {
+        let _known = self.kept.numbers();
+        let Step::Do(act) = stage.next(&self.kept) else {
+            unreachable!()
+        };
+        let found = words.act(act);
+        let waits = stage.waits(&self.kept, found);
+        self.stage = stage.fed(&self.kept, found);
+        if waits {
+            return Stepped::Waiting(found);
+        }
+        Stepped::Moved(Event::Nothing)
     }
 
     /// The finished cycles, each with the names that it freed.

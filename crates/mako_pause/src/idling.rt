@@ -5,6 +5,7 @@ ghost use Rattle.mako_shape.specs.Places.{total};
 ghost use Rattle.mako_step.specs.Acts.{IsWithin};
 ghost use Rattle.mako_pause.specs.Collecting as collecting;
 ghost use Rattle.mako_pause.specs.Collecting.{at};
+ghost use Rattle.mako_pause.specs.Ranks as ranks;
 
 use crate::kept::Kept;
 use crate::stage::{CollectStage, IdleStage, Pause, PauseStage};
@@ -23,6 +24,16 @@ impl IdleStage {
             IdleStage::StoringStop => {
                 Step::store(shape.phase(), PhaseWord::Stop(kept.cycle()).pack())
             }
+        }
+    }
+
+    /// Whether it is a look that does not find what it waits for.
+    pub(crate) fn waits(self, kept: &Kept, before: u64) -> bool
+        ensures { result ≡ ranks.idle_waits kept.now self before }
+    {
+        match self {
+            IdleStage::LookingFinished => before != u64::from(kept.numbers().mutators),
+            IdleStage::LoadingDemand | IdleStage::StoringStop => false,
         }
     }
 

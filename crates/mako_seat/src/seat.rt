@@ -62,7 +62,7 @@ impl Seat {
         match self {
             Seat::Mutator(driver) => driver.step(words, journal),
             Seat::Server(server) => tell(make_step(server, words), journal),
-            Seat::Collector(collector) => tell(make_step(collector, words), journal),
+            Seat::Collector(collector) => tell(collector.step(words), journal),
         }
     }
 }

@@ -70,7 +70,7 @@ impl ServerStage {
             ServerStage::Tracing => *self = kept.trace(before),
             ServerStage::Evacuating(evacuator) => {
                 evacuator.feed(before);
-                if let Step::Ended = evacuator.next() {
+                if evacuator.is_ended() {
                     kept.end_cycle(evacuator);
                     *self = ServerStage::Turning;
                 }

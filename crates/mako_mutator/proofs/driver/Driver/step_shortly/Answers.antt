@@ -21,16 +21,16 @@ keep_told-requires-clause-replies g c =
     let fits = finds_fitting (next_of d) words (Fits d) acts can in
     let room = room_for_reply d (finds (next_of d) words) c.self.invariant.known fits acts in
     let told = ap (λ (e : Event). length (told_reply e))
-    (told_at d.caller d.progress.task _ _ words _ c.in-Attempting.is c.step-tells.ensures.fed
-    c.step-tells.ensures.told) in
+    (told_at d.caller d.progress.task _ _ words _ c.in-Attempting.is c.step-step.ensures.fed
+    c.step-step.ensures.decides) in
     omega (arith, room, told, c.self.invariant.room, c.self.inside.replies.ok.0)
 
 pub keep_told-requires-clause-journal : goal.keep_told-requires-clause-journal
 keep_told-requires-clause-journal g c =
     let d = driving_in c.self.inside in
     let words = g.W.Words.words c.args.words.now in
-    let told = told_at d.caller d.progress.task _ _ words _ c.in-Attempting.is c.step-tells.ensures.fed
-    c.step-tells.ensures.told
+    let told = told_at d.caller d.progress.task _ _ words _ c.in-Attempting.is c.step-step.ensures.fed
+    c.step-step.ensures.decides
     ∙ ap (λ (q : Driving). event_of q (finds (next_of q) words)) c.self.view_is in
     subst (λ (e : Event). length (history_after c.args.journal.now.points e) ≤ c.args.journal.now.room) (sym told)
     c.requires.room
@@ -49,10 +49,10 @@ invariant_of-self g c =
     (subst (λ (q : Driving). AttemptActs q.progress.task) (sym c.self.view_is) c.requires.acts) in
     let can = subst (λ (q : Driving). CanStep (next_of q) words (Fits q)) (sym c.self.view_is) c.requires.can in
     let fits = finds_fitting (next_of d) words (Fits d) acts can in
-    let told = told_at d.caller d.progress.task _ _ words _ c.in-Attempting.is c.step-tells.ensures.fed
-    c.step-tells.ensures.told in
+    let told = told_at d.caller d.progress.task _ _ words _ c.in-Attempting.is c.step-step.ensures.fed
+    c.step-step.ensures.decides in
     let replies_are = c.keep_told.ensures.items ∙ ap (λ (e : Event). inside.replies.items ++ told_reply e) told in
-    let p_is = progress_at inside.caller _ inside.progress _ _ _ words c.in-Attempting.is c.step-tells.ensures.fed
+    let p_is = progress_at inside.caller _ inside.progress _ _ _ words c.in-Attempting.is c.step-step.ensures.fed
     (c.go_on.ensures _ refl)
     ∙ ap (λ (calls : List Call). progress_fed inside.caller calls inside.progress w) c.as_slice.ensures.value in
     record {
@@ -66,10 +66,10 @@ returns-clause-fed g c =
     let d = driving_in inside in
     let words = g.W.Words.words c.args.words.now in
     let w = finds (next_of d) words in
-    let told = told_at d.caller d.progress.task _ _ words _ c.in-Attempting.is c.step-tells.ensures.fed
-    c.step-tells.ensures.told in
+    let told = told_at d.caller d.progress.task _ _ words _ c.in-Attempting.is c.step-step.ensures.fed
+    c.step-step.ensures.decides in
     let replies_are = c.keep_told.ensures.items ∙ ap (λ (e : Event). inside.replies.items ++ told_reply e) told in
-    let p_is = progress_at inside.caller _ inside.progress _ _ _ words c.in-Attempting.is c.step-tells.ensures.fed
+    let p_is = progress_at inside.caller _ inside.progress _ _ _ words c.in-Attempting.is c.step-step.ensures.fed
     (c.go_on.ensures _ refl)
     ∙ ap (λ (calls : List Call). progress_fed inside.caller calls inside.progress w) c.as_slice.ensures.value in
     fed_together d w _ _ replies_are p_is
@@ -79,7 +79,7 @@ pub returns-clause-points : goal.returns-clause-points
 returns-clause-points g c =
     let d = driving_in c.self.inside in
     let words = g.W.Words.words c.args.words.now in
-    let told = told_at d.caller d.progress.task _ _ words _ c.in-Attempting.is c.step-tells.ensures.fed
-    c.step-tells.ensures.told
+    let told = told_at d.caller d.progress.task _ _ words _ c.in-Attempting.is c.step-step.ensures.fed
+    c.step-step.ensures.decides
     ∙ ap (λ (q : Driving). event_of q (finds (next_of q) words)) c.self.view_is in
     c.keep_told.ensures.points ∙ ap (history_after c.args.journal.now.points) told

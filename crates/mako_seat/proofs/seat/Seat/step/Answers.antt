@@ -29,5 +29,5 @@ returns-in-Server-clause-machine g c =
 
 pub returns-in-Collector-clause-machine : goal.returns-in-Collector-clause-machine
 returns-in-Collector-clause-machine g c =
-    ap Collector c.make_step-in-Collector.ensures.machine ∙ seat_stepped Collector _ _ _
+    ap Collector c.step-in-Collector.ensures.machine ∙ seat_stepped Collector _ _ _
     ∙ ap (after_step (g.W.Words.words c.args.words.now)) (sym c.in-Collector.is)
