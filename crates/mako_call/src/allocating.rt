@@ -32,19 +32,19 @@ pub enum AllocStage {
 }
 
 impl AllocStage {
-    pub(crate) fn next(self, caller: &Caller) -> Step
+    pub(crate) fn next(&self, caller: &Caller) -> Step
         requires caller { IsCaller caller.now }
-        requires known { NewIsKnown caller.now self }
-        ensures next { result ≡ new_next caller.now self }
+        requires known { NewIsKnown caller.now self.now }
+        ensures next { result ≡ new_next caller.now self.now }
         ensures within { IsWithin (total caller.now.shape) result }
     {
         match self {
             AllocStage::LoadingPhase { .. } => Step::load(caller.shape.phase()),
             AllocStage::Searching { search, .. } => search.next(),
             AllocStage::StoringRoot { root, name, .. } => {
-                Step::store(caller.root(root), Value::Ref(name).pack())
+                Step::store(caller.root(*root), Value::Ref(*name).pack())
             }
-            AllocStage::GivingTurn { tablet, .. } => Step::store(caller.shape.turn(tablet), 0),
+            AllocStage::GivingTurn { tablet, .. } => Step::store(caller.shape.turn(*tablet), 0),
         }
     }
 }

@@ -271,20 +271,13 @@ impl CallMachine {
         )
     }
 
-    /// Whether it stands at one of the stages that stand side by side, where `step` is fastest. There it has an act to
-    /// make. A look for the end of a cycle is none of them, since `waits_on` spares its attempt the end.
+    /// Whether its next step may be made by `step`, with an act to make. A look for the end of a cycle may not, since
+    /// `waits_on` spares its attempt the end.
     #[inline(always)]
-    pub fn is_short(&self) -> bool
+    pub fn steps_at_once(&self) -> bool
         ensures { IsTrue result → IsAct (calls.next_of self.now) }
     {
-        !matches!(
-            self.standing,
-            Standing::Moving(..)
-                | Standing::Putting(..)
-                | Standing::Allocating(_)
-                | Standing::Asking(_)
-                | Standing::Ended(_)
-        )
+        !matches!(self.standing, Standing::Asking(_) | Standing::Ended(_))
     }
 
     /// What is kept after this outcome.

@@ -83,7 +83,7 @@ impl CallStage {
             CallStage::Moving(errand, stage) => stage.next(caller, errand),
             CallStage::Getting(located, get, stage) => stage.next(caller, located, get),
             CallStage::Putting(located, put, stage) => stage.next(caller, slot, located, put),
-            CallStage::Allocating(stage) => stage.next(caller),
+            CallStage::Allocating(ref stage) => stage.next(caller),
             CallStage::Asking(stage) => stage.next(&caller.shape),
             CallStage::Leaving(stage) => stage.next(caller),
             CallStage::Ended(_) => Step::Ended,

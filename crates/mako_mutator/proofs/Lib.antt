@@ -2,4 +2,4 @@ pub mod Tasks
 pub mod ProgramCalls
 pub mod DriverTelling
 pub mod DriverGoing
-pub mod ShortSteps
+pub mod StepsAtOnce

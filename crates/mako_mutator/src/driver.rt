@@ -99,8 +99,8 @@ impl Driver {
         ensures result { let found = finds (drivers.next_of self.old) (W.words words.old) in
             result ≡ untold (stepped (drivers.next_of self.old) false found (drivers.event_of self.old found)) }
     {
-        if self.progress.is_short() {
-            self.step_shortly(words, journal);
+        if self.progress.steps_at_once() {
+            self.step_at_once(words, journal);
             return Stepped::Moved(());
         }
         let Step::Do(act) = self.next() else {
@@ -112,9 +112,9 @@ impl Driver {
         Stepped::Moved(())
     }
 
-    /// Makes the short step of an attempt.
+    /// Makes the step of an attempt at once.
     #[inline(always)]
-    fn step_shortly<W: Words>(&mut self, words: &mut W, journal: &mut Journal)
+    fn step_at_once<W: Words>(&mut self, words: &mut W, journal: &mut Journal)
         requires acts { drivers.AttemptActs self.old.progress.task }
         requires can { CanStep (drivers.next_of self.old) (W.words words.old) (drivers.Fits self.old) }
         requires room { let found = finds (drivers.next_of self.old) (W.words words.old) in

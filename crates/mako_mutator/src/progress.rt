@@ -158,12 +158,12 @@ impl Progress {
         }
     }
 
-    /// Whether it makes an attempt whose next step is a short one.
-    pub(crate) fn is_short(&self) -> bool
+    /// Whether it makes an attempt whose next step may be made at once.
+    pub(crate) fn steps_at_once(&self) -> bool
         ensures { IsTrue result → drivers.AttemptActs self.now.task }
     {
         match &self.task {
-            Task::Attempting(attempt) => attempt.is_short(),
+            Task::Attempting(attempt) => attempt.steps_at_once(),
             _ => false,
         }
     }

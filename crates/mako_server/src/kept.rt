@@ -1,6 +1,6 @@
 //! What a server keeps from turn to turn.
 
-ghost use Rattle.std.specs.Prelude.{◌≡◌, ◌<◌, ◌≤◌, ◌^◌, IfOk};
+ghost use Rattle.std.specs.Prelude.{◌≡◌, ◌<◌, ◌≤◌, ◌^◌, ◌↔◌, IfOk, IsTrue};
 ghost use Rattle.mako_step.specs.Machines.{IsAct};
 ghost use Rattle.mako_step.specs.declared.step.Step.TheVariants as steps;
 ghost use Rattle.mako_ring.specs.Tracing as tracing;
@@ -71,19 +71,15 @@ impl Kept {
         }
     }
 
-    /// Where it stands after a step of its tracing that found this word.
-    pub(crate) fn trace(&mut self, word: u64) -> ServerStage
+    /// Goes on with its tracing by this word. Whether the turn has ended.
+    pub(crate) fn trace(&mut self, word: u64) -> bool
         requires acts { IsAct (tracing.next_of self.old.tracer) }
         requires fits { tracing.Fits self.old.tracer word }
-        ensures { serving_in self.new result ≡
-            serving.stage_fed (serving_in self.old stages.Tracing) stages.Tracing word }
+        ensures kept { self.new ≡ record self.old { tracer = tracing.fed self.old.tracer word } }
+        ensures ended { IsTrue result ↔ (tracing.next_of self.new.tracer ≡ steps.Ended) }
     {
         self.tracer.feed(word);
-        if self.tracer.is_ended() {
-            ServerStage::Turning
-        } else {
-            ServerStage::Tracing
-        }
+        self.tracer.is_ended()
     }
 
     /// The cycle of this evacuation has ended.

@@ -4,6 +4,7 @@ ghost use Rattle.std.specs.Prelude.{◌≡◌, ◌<◌, ◌^◌};
 ghost use Rattle.mako_shape.specs.Places.{total};
 ghost use Rattle.mako_step.specs.Acts.{IsWithin};
 ghost use Rattle.mako_step.specs.Machines.{IsAct};
+ghost use Rattle.mako_words.specs.Phases.{phase_at};
 
 use crate::kept::Kept;
 use mako_evac::Evacuator;
@@ -22,6 +23,9 @@ pub enum ServerStage {
 }
 
 impl ServerStage {
+    ghost use Rattle.mako_ring.specs.Tracing as tracing;
+    ghost use Rattle.mako_step.specs.declared.step.Step.TheVariants as steps;
+    ghost use Rattle.mako_server.specs.declared.stage.ServerStage.TheVariants as stages;
     ghost use Rattle.mako_server.specs.Serving as serving;
     ghost use Rattle.mako_server.specs.Serving.{StageIsKnown, StageFits};
     ghost use Rattle.mako_server.specs.Kept.{serving_in, IsKept};
@@ -51,7 +55,8 @@ impl ServerStage {
         }
     }
 
-    /// Goes on with the word that its act found.
+    /// Goes on with the word that its act found. What ends a stage stands apart: a stage is large, and most steps end
+    /// none.
     pub(crate) fn feed(&mut self, kept: &mut Kept, before: u64)
         requires kept { IsKept kept.old }
         requires ended { kept.old.ended < 2 ^ 20 }
@@ -64,18 +69,41 @@ impl ServerStage {
             ServerStage::Turning => {
                 // most turns find nothing to do
                 if !kept.turns_again(before) {
-                    *self = kept.turn(before);
+                    self.turn(kept, before);
                 }
             }
-            ServerStage::Tracing => *self = kept.trace(before),
+            ServerStage::Tracing => {
+                if kept.trace(before) {
+                    self.turn_anew();
+                }
+            }
             ServerStage::Evacuating(evacuator) => {
                 evacuator.feed(before);
                 if evacuator.is_ended() {
                     kept.end_cycle(evacuator);
-                    *self = ServerStage::Turning;
+                    self.turn_anew();
                 }
             }
             ServerStage::Ended => {}
         }
+    }
+
+    /// Goes where a look at the phase leads that found this word.
+    #[inline(never)]
+    fn turn(&mut self, kept: &mut Kept, word: u64)
+        requires kept { IsKept kept.old }
+        requires rests { tracing.next_of kept.old.tracer ≡ steps.Ended }
+        requires fits { serving.StageFits kept.old.tracer stages.Turning word }
+        ensures { serving_in kept.new self.new ≡ serving.turned (serving_in kept.old stages.Turning) (phase_at word) }
+    {
+        *self = kept.turn(word);
+    }
+
+    /// Next it looks at the phase.
+    #[inline(never)]
+    fn turn_anew(&mut self)
+        ensures { self.new ≡ stages.Turning }
+    {
+        *self = ServerStage::Turning;
     }
 }

@@ -8,8 +8,8 @@ use Rattle.mako_mutator.specs.Drivers.{Driving, AttemptActs, Fits, next_of, even
 use Rattle.mako_mutator.specs.DriverHolds.{driving_in}
 use Rattle.mako_mutator.specs.Telling.{history_after}
 use Rattle.mako_mutator.proofs.DriverGoing.{put_together, room_for_reply}
-use Rattle.mako_mutator.proofs.ShortSteps.{acts_of, told_at, progress_at, attempt_within, fed_together}
-use Rattle.mako_mutator.proofs.driver.Driver.step_shortly.Goals as goal
+use Rattle.mako_mutator.proofs.StepsAtOnce.{acts_of, told_at, progress_at, attempt_within, fed_together}
+use Rattle.mako_mutator.proofs.driver.Driver.step_at_once.Goals as goal
 
 pub keep_told-requires-clause-replies : goal.keep_told-requires-clause-replies
 keep_told-requires-clause-replies g c =

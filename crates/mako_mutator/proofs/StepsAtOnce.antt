@@ -1,4 +1,4 @@
--- What a short step of an attempt makes of a driver.
+-- What a step of an attempt, made at once, makes of a driver.
 use Rattle.std.proofs.Common.{◌≡◌, ℕ, Bool, ◌+◌, ◌<◌, ◌^◌, ◌++◌, List, Option, Some, None, refl, ap, subst, sym, ◌∙◌, arith}
 use Rattle.std.proofs.lemmas.Option.{slice_get_within}
 use Rattle.mako_step.specs.Acts.{finds}
