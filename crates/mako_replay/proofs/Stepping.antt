@@ -2,7 +2,6 @@
 use Rattle.std.proofs.Common.{◌≡◌, ◌≢◌, ℕ, zero, suc, ◌+◌, ◌-◌, ◌<◌, ◌≤◌, ◌⊎◌, inl, inr, ⊎_elim, Bool, if◌then◌else◌}
 use Rattle.std.proofs.Common.{List, [], ◌∷◌, length, remove, get_or, slice_index, slice_get, slice_set, Option, Some}
 use Rattle.std.proofs.Common.{refl, sym, ap, ◌∙◌, subst, arith}
-use Rattle.std.proofs.lemmas.List.{get_or_read_under}
 use Rattle.std.proofs.lemmas.Option.{slice_get_within}
 use Rattle.mako_step.specs.Acts.{found as found_by}
 use Rattle.mako_step.specs.declared.step.Step.{Step}
@@ -13,7 +12,7 @@ use Rattle.mako_seat.specs.declared.seat.Seat.{Seat}
 use Rattle.mako_state.specs.CoreStates.{CoreState, made, step_of, stepped_by}
 use Rattle.mako_replay.specs.Schedules.{chosen, left_after}
 use Rattle.mako_replay.specs.Runs.{Going, advanced, after, at_start, going_on, is_end, live, stepped, times}
-use Rattle.mako_replay.specs.Standing.{HasCome, IsAscending, StandsFor}
+use Rattle.mako_replay.specs.Standing.{HasCome, IsAscending, IsReady, StandsFor, next_place}
 use Rattle.mako_replay.specs.declared.order.Order.{Order}
 use Rattle.mako_replay.specs.declared.running.Running.{Running}
 use Rattle.mako_replay.proofs.Live.{Found, ascends, found, set_live, set_read, set_same}
@@ -33,10 +32,11 @@ changed : (st : CoreState) (i : ℕ) (v : Seat) → slice_get st.seats i ≡ Som
 changed st i v there =
     subst (λ (o : Option Seat). Changed st i (stepped_by st i o)) (sym there) (changed_by st i v (next_of v) there)
 
--- the seat at a place
-pub seat_at : (xs : List ℕ) (count place seat : ℕ) → count ≡ length xs → place < count → seat ≡ get_or xs place seat
-    → seat ≡ slice_index xs place
-seat_at xs count place seat all low is = get_or_read_under xs place count seat 0 is low all
+-- the seat that was looked up ahead is the one at the place that is taken
+pub ahead : (r : Running) (count place : ℕ) → count ≡ length r.live.items → place < count
+    → place ≡ next_place r.schedule count → IsReady r → r.seat ≡ slice_index r.live.items place
+ahead r count place all low at ready =
+    ready.seat (omega (arith, all)) ∙ ap (slice_index r.live.items) (ap (next_place r.schedule) (sym all) ∙ sym at)
 
 module _ (st : CoreState) (xs : List ℕ) (p seat : ℕ) (is : xs ≡ live st.seats) (low : p < length xs)
     (read : seat ≡ slice_index xs p) where

@@ -1,5 +1,6 @@
 -- What the program keeps of a schedule and of its run.
-use Rattle.std.specs.Prelude.{◌≡◌, ℕ, suc, ◌+◌, ◌<◌, ◌≤◌, ◌%◌, nat_le, if◌then◌else◌, List, [], ◌∷◌, length}
+use Rattle.std.specs.Prelude.{◌≡◌, ℕ, suc, ◌+◌, ◌<◌, ◌≤◌, ◌%◌, nat_le, nat_lt, if◌then◌else◌, List, [], ◌∷◌, length}
+use Rattle.std.specs.Prelude.{slice_index}
 use Rattle.rand_pcg.specs.Lcg.{Lcg}
 use Rattle.rand_pcg.specs.Pcg.{pcg32}
 use Rattle.mako_replay.specs.Schedules.{Left}
@@ -41,6 +42,16 @@ StandsFor (schedules.Draws d) (draws g) live = IsAhead d g (length live)
 abbrev pub IsDrawn : Schedule → ℕ → Type 0
 IsDrawn (schedules.Turns place) count = Unit {0}
 IsDrawn (schedules.Draws d) count = 0 < count → d.place < count
+
+-- the place of the next seat, among so many
+abbrev pub next_place : Schedule → ℕ → ℕ
+next_place (schedules.Turns place) count = if nat_lt place count then place else 0
+next_place (schedules.Draws d) count = d.place
+
+-- its place is among those that are not at their end, and the seat there is looked up
+pub record IsReady (r : Running) : Type 0 where
+  pub drawn : IsDrawn r.schedule (length r.live.items)
+  pub seat : 0 < length r.live.items → r.seat ≡ slice_index r.live.items (next_place r.schedule (length r.live.items))
 
 -- the run has come so far
 pub record HasCome (r : Running) (g : Going) : Type 0 where

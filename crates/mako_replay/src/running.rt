@@ -1,9 +1,9 @@
 //! A core that makes the steps of a schedule.
 
-ghost use Rattle.std.specs.Prelude.{◌≡◌, ◌≢◌, ◌+◌, ◌<◌, ◌↔◌, [], length, IfOk, IsTrue};
+ghost use Rattle.std.specs.Prelude.{◌≡◌, ◌≢◌, ◌+◌, ◌<◌, ◌↔◌, [], length, slice_index, IfOk, IsTrue};
 ghost use Rattle.mako_core.specs.Endings.{AllAtEnd};
 ghost use Rattle.mako_replay.specs.Runs.{Going, advanced, at_start, is_end, live};
-ghost use Rattle.mako_replay.specs.Standing.{HasCome, IsDrawn};
+ghost use Rattle.mako_replay.specs.Standing.{HasCome, IsDrawn, IsReady, next_place};
 
 use crate::order::Order;
 use crate::schedule::Schedule;
@@ -35,6 +35,17 @@ fn live_seats(alloc: Global, core: &Core<FlatWords>) -> Result<Vec<u32>, Memory>
     Ok(seats)
 }
 
+/// The seat that steps next, of those that are not at their end, or 0 where none is left.
+fn next_seat(schedule: &Schedule, live: &[u32]) -> u32
+    requires { IsDrawn schedule.now (length live.now) }
+    ensures { 0 < length live.now → result ≡ slice_index live.now (next_place schedule.now (length live.now)) }
+{
+    if live.is_empty() {
+        return 0;
+    }
+    live[schedule.next(live.len())]
+}
+
 /// A core with what is left of its schedule.
 #[derive(Drop)]
 pub(crate) struct Running {
@@ -42,6 +53,8 @@ pub(crate) struct Running {
     /// The seats that are not at their end, in order.
     pub(crate) live: Vec<u32>,
     schedule: Schedule,
+    /// The seat that steps next, where one is left. It is looked up a step ahead, as its place is drawn.
+    seat: u32,
     pub(crate) steps_made: u64,
 }
 
@@ -51,15 +64,17 @@ impl Running {
         ensures script { IfOk result (λ r. r.core.script ≡ script.now) }
         ensures live { IfOk result (λ r. r.live.items ≡ live r.core.state.seats) }
         ensures come { IfOk result (λ r. HasCome r (at_start script.now order)) }
-        ensures drawn { IfOk result (λ r. IsDrawn r.schedule (length r.live.items)) }
+        ensures ready { IfOk result IsReady }
     {
         let core: Core<FlatWords> = Core::start(alloc, script)?;
         let live = live_seats(alloc, &core)?;
         let schedule = Schedule::new(order, live.len());
+        let seat = next_seat(&schedule, live.as_slice());
         Ok(Running {
             core,
             live,
             schedule,
+            seat,
             steps_made: 0,
         })
     }
@@ -70,20 +85,23 @@ impl Running {
         requires live { self.old.live.items ≡ live self.old.core.state.seats }
         requires one { self.old.live.items ≢ [] }
         requires few { self.old.steps_made < 1000000000 }
-        requires drawn { IsDrawn self.old.schedule (length self.old.live.items) }
+        requires ready { IsReady self.old }
         ensures script { self.new.core.script ≡ self.old.core.script }
         ensures live { self.new.live.items ≡ live self.new.core.state.seats }
         ensures made { self.new.steps_made ≡ self.old.steps_made + 1 }
         ensures come { (g : Going) → HasCome self.old g → HasCome self.new (advanced g) }
-        ensures drawn { IsDrawn self.new.schedule (length self.new.live.items) }
+        ensures ready { IsReady self.new }
     {
-        let place = self.schedule.choose(self.live.len());
-        let seat = self.live[place];
+        let seat = self.seat;
+        let count = self.live.len();
+        let place = self.schedule.choose(count);
+        self.seat = self.live[self.schedule.next(count)];
         let _turn = self.core.step(seat);
         self.steps_made += 1;
         if is_end(self.core.place(seat)) {
             let _seat = self.live.remove(place);
             self.schedule.leave(place, self.live.len());
+            self.seat = next_seat(&self.schedule, self.live.as_slice());
         }
     }
 

@@ -2,7 +2,7 @@
 
 ghost use Rattle.std.specs.Prelude.{◌≡◌, ℕ, ◌<◌, ◌∷◌, List, length, slice_index, remove};
 ghost use Rattle.mako_replay.specs.Schedules.{Left, chosen, left_after, left_at_start};
-ghost use Rattle.mako_replay.specs.Standing.{IsAscending, IsDrawn, StandsFor};
+ghost use Rattle.mako_replay.specs.Standing.{IsAscending, IsDrawn, StandsFor, next_place};
 
 use crate::draws::Draws;
 use crate::order::Order;
@@ -28,10 +28,25 @@ impl Schedule {
     }
 
     /// The place of the next seat among those that are not at their end, of which there are so many.
+    pub(crate) fn next(&self, count: usize) -> usize
+        requires some { 0 < count }
+        requires drawn { IsDrawn self.now count }
+        ensures at { result ≡ next_place self.now count }
+        ensures below { result < count }
+    {
+        match self {
+            Schedule::Turns(next) if *next < count => *next,
+            Schedule::Turns(_) => 0,
+            Schedule::Draws(draws) => draws.place,
+        }
+    }
+
+    /// The same place, which is then taken.
     pub(crate) fn choose(&mut self, count: usize) -> usize
         requires some { 0 < count }
         requires drawn { IsDrawn self.old count }
         ensures place { result < count }
+        ensures at { result ≡ next_place self.old count }
         ensures drawn { IsDrawn self.new count }
         ensures chosen { (left : Left) (first : ℕ) (others : List ℕ) → count ≡ length (first ∷ others)
             → StandsFor self.old left (first ∷ others)

@@ -27,11 +27,11 @@ loop-running-preserved c =
       most = omega arith;
       come = subst (λ (k : ℕ). HasCome c.step.new.self (times k (at_start c.args.script.now c.args.order))) (sym more)
           (c.step.ensures.come _ c.loop-running.invariant.come);
-      drawn = c.step.ensures.drawn;
+      ready = c.step.ensures.ready;
     }
 
-pub step-requires-clause-drawn : goal.step-requires-clause-drawn
-step-requires-clause-drawn c = c.loop-running.invariant.drawn
+pub step-requires-clause-ready : goal.step-requires-clause-ready
+step-requires-clause-ready c = c.loop-running.invariant.ready
 
 pub returns : goal.returns
 returns c =

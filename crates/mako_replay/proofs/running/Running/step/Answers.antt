@@ -1,22 +1,20 @@
 use Rattle.std.proofs.Common.{◌≡◌, ◌<◌, length, true, false, refl, sym, ap, ◌∙◌, arith}
 use Rattle.mako_replay.specs.Runs.{is_end}
-use Rattle.mako_replay.proofs.Stepping.{ascend, come_on, live_after, seat_at, seat_within, stands}
+use Rattle.mako_replay.proofs.Stepping.{ahead, ascend, come_on, live_after, seat_within, stands}
 use Rattle.mako_replay.proofs.running.Running.step.Goals as goal
 
 pub step-turn-requires : goal.step-turn-requires
 step-turn-requires c =
     let r = c.args.self.now in
-    let count : c.len.result ≡ length r.live.items = omega (arith, r.live.ok.0) in
-    let read = seat_at r.live.items c.len.result c.choose-place.result _ count c.choose-place.ensures.place
-    c.index-seat.ensures in
+    let count : c.len-count.result ≡ length r.live.items = omega (arith, r.live.ok.0) in
+    let read = ahead r c.len-count.result _ count c.choose-place.ensures.place c.choose-place.ensures.at c.requires.ready in
     seat_within r.core.state r.live.items c.choose-place.result _ c.requires.live (omega arith) read
 
 pub place-requires : goal.place-requires
 place-requires c =
     let r = c.args.self.now in
-    let count : c.len.result ≡ length r.live.items = omega (arith, r.live.ok.0) in
-    let read = seat_at r.live.items c.len.result c.choose-place.result _ count c.choose-place.ensures.place
-    c.index-seat.ensures in
+    let count : c.len-count.result ≡ length r.live.items = omega (arith, r.live.ok.0) in
+    let read = ahead r c.len-count.result _ count c.choose-place.ensures.place c.choose-place.ensures.at c.requires.ready in
     let within = seat_within r.core.state r.live.items c.choose-place.result _ c.requires.live (omega arith) read in
     let same = c.step-turn.ensures.seats in
     omega arith
@@ -24,9 +22,8 @@ place-requires c =
 pub returns-then-is_end-clause-live : goal.returns-then-is_end-clause-live
 returns-then-is_end-clause-live c =
     let r = c.args.self.now in
-    let count : c.len.result ≡ length r.live.items = omega (arith, r.live.ok.0) in
-    let read = seat_at r.live.items c.len.result c.choose-place.result _ count c.choose-place.ensures.place
-    c.index-seat.ensures in
+    let count : c.len-count.result ≡ length r.live.items = omega (arith, r.live.ok.0) in
+    let read = ahead r c.len-count.result _ count c.choose-place.ensures.place c.choose-place.ensures.at c.requires.ready in
     c.remove-seat.ensures.items
     ∙ sym (live_after r.core.state r.live.items c.choose-place.result _ c.requires.live
     (omega arith) read _ true c.step-turn.ensures.state
@@ -35,11 +32,10 @@ returns-then-is_end-clause-live c =
 pub returns-then-is_end-clause-come : goal.returns-then-is_end-clause-come
 returns-then-is_end-clause-come c g come =
     let r = c.args.self.now in
-    let count : c.len.result ≡ length r.live.items = omega (arith, r.live.ok.0) in
+    let count : c.len-count.result ≡ length r.live.items = omega (arith, r.live.ok.0) in
     let low : c.choose-place.result < length r.live.items = omega arith in
-    let read = seat_at r.live.items c.len.result c.choose-place.result _ count c.choose-place.ensures.place
-    c.index-seat.ensures in
-    let left : c.len-then-is_end.result ≡ length c.remove-seat.new.self.items =
+    let read = ahead r c.len-count.result _ count c.choose-place.ensures.place c.choose-place.ensures.at c.requires.ready in
+    let left : c.len.result ≡ length c.remove-seat.new.self.items =
     omega (arith, c.remove-seat.new.self.ok.0) in
     come_on r g come c.requires.live _ c.choose-place.result _ c.requires.one read
     (λ first others all. c.choose-place.ensures.chosen g.left first others (count
@@ -55,9 +51,8 @@ returns-then-is_end-clause-come c g come =
 pub returns-else-is_end-clause-live : goal.returns-else-is_end-clause-live
 returns-else-is_end-clause-live c =
     let r = c.args.self.now in
-    let count : c.len.result ≡ length r.live.items = omega (arith, r.live.ok.0) in
-    let read = seat_at r.live.items c.len.result c.choose-place.result _ count c.choose-place.ensures.place
-    c.index-seat.ensures in
+    let count : c.len-count.result ≡ length r.live.items = omega (arith, r.live.ok.0) in
+    let read = ahead r c.len-count.result _ count c.choose-place.ensures.place c.choose-place.ensures.at c.requires.ready in
     sym (live_after r.core.state r.live.items c.choose-place.result _ c.requires.live
     (omega arith) read _ false c.step-turn.ensures.state
     (λ v there. sym c.if-is_end.false ∙ c.is_end.ensures ∙ ap is_end (c.place.ensures v there)))
@@ -65,10 +60,9 @@ returns-else-is_end-clause-live c =
 pub returns-else-is_end-clause-come : goal.returns-else-is_end-clause-come
 returns-else-is_end-clause-come c g come =
     let r = c.args.self.now in
-    let count : c.len.result ≡ length r.live.items = omega (arith, r.live.ok.0) in
+    let count : c.len-count.result ≡ length r.live.items = omega (arith, r.live.ok.0) in
     let low : c.choose-place.result < length r.live.items = omega arith in
-    let read = seat_at r.live.items c.len.result c.choose-place.result _ count c.choose-place.ensures.place
-    c.index-seat.ensures in
+    let read = ahead r c.len-count.result _ count c.choose-place.ensures.place c.choose-place.ensures.at c.requires.ready in
     come_on r g come c.requires.live _ c.choose-place.result _ c.requires.one read
     (λ first others all. c.choose-place.ensures.chosen g.left first others (count
     ∙ all)) c.step-turn.ensures.state refl _
